@@ -1,0 +1,4 @@
+mod Arithmetic
+mod Ascii
+mod Lines
+mod Told

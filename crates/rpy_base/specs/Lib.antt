@@ -1,0 +1,10 @@
+pub mod formers
+pub mod Causes
+pub mod Memory
+pub mod Number
+pub mod Outcomes
+pub mod Putting
+pub mod Reading
+pub mod Watchers
+pub mod Watching
+pub mod Word

@@ -1,0 +1,22 @@
+// Want of memory, which every call that allocates may answer.
+ghost use Rattle.std.specs.Prelude.{◌≡◌};
+
+use std::alloc::{AllocError, AllocFailed};
+use thiserror::Error;
+
+/// There was no memory for what a call was to make.
+#[derive(Clone, Copy, Debug, PartialEq, Eq, Error)]
+#[error("out of memory")]
+pub struct NoMem;
+
+impl From<AllocError> for NoMem {
+    fn from(_: AllocError) -> Self {
+        NoMem
+    }
+}
+
+impl<T: Drop> From<AllocFailed<T>> for NoMem {
+    fn from(_: AllocFailed<T>) -> Self {
+        NoMem
+    }
+}
