@@ -1,0 +1,6 @@
+use Rattle.std.proofs.Common.{◌≡◌, ◌++◌, take}
+use Rattle.csub_tree.specs.Spelling.{numbered, field_line}
+use Rattle.genc_writer.proofs.parts.put_field_lines.Given as goal
+
+abbrev pub invariant-loop-i : goal.invariant-loop-i
+invariant-loop-i l = l.text ≡ l.initial.text ++ numbered field_line l.first (take l.i l.kinds)
