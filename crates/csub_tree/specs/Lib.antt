@@ -1,0 +1,7 @@
+pub mod Counting
+pub mod Layout
+pub mod Machine
+pub mod Meaning
+pub mod Operation
+pub mod State
+pub mod Statement
