@@ -1,7 +1,7 @@
 -- What a C file means: how its run ends, with what it put, what it paid, and the blocks that it made and freed.
 use Rattle.std.specs.Prelude.{◌≡◌, ℕ, zero, suc, ◌-◌, ◌≤◌, List, [], ◌∷◌, ◌++◌, Option, Some, None}
 use Rattle.rpy_base.specs.declared.outcome.Outcome.{Outcome}
-use Rattle.csub_tree.specs.State.{Core, Event, Made, Freed, After, Onward, Told, Over, Stuck}
+use Rattle.csub_tree.specs.State.{Core, Event, Made, Freed, After, Onward, Puts, Told, Over, Stuck}
 use Rattle.csub_tree.specs.Machine.{step, start, statement_number}
 use Rattle.csub_tree.specs.declared.stuck.StuckReason.{StuckReason}
 use Rattle.csub_tree.specs.declared.tree.CFile.{CFile}
@@ -16,7 +16,8 @@ pub data Ran : Type 0 where
   Unfinished : (core : Core) → (text : List ℕ) → (events : List Event) → Ran
 
 abbrev pub follow : CFile → (Core → List ℕ → List Event → Ran) → Core → List ℕ → List Event → After → Ran
-follow file go before text events (Onward put core) = go core (text ++ put) events
+follow file go before text events (Onward core) = go core text events
+follow file go before text events (Puts byte core) = go core (text ++ byte ∷ []) events
 follow file go before text events (Told event core) = go core text (events ++ event ∷ [])
 follow file go before text events (Over outcome core) = Ended (Came outcome) core text events
 follow file go before text events (Stuck reason) = Ended (StuckAt reason (statement_number file.functions before)) before text events

@@ -1,5 +1,5 @@
 -- What an operation on values gives.
-use Rattle.std.specs.Prelude.{ℕ, zero, ◌^◌, ℤ, pos, negsuc, ◌+ℤ◌, ◌-ℤ◌, ◌*ℤ◌, neg_ℤ, int_lt, int_le, Bool, true, false, cond, not, ◌==◌, nat_lt}
+use Rattle.std.specs.Prelude.{ℕ, zero, ◌^◌, ℤ, pos, negsuc, ◌+ℤ◌, ◌-ℤ◌, ◌*ℤ◌, neg_ℤ, int_lt, int_le, Bool, true, false, cond, not, ◌==◌, nat_lt, Result, Ok, Err}
 use Rattle.std.specs.Int.{w64, int_bit_and, int_bit_or, int_bit_xor, int_bit_not}
 use Rattle.std.specs.Ordering.{int_eq}
 use Rattle.rpy_base.specs.Word.{wrap, floor_quotient, floor_rest, times_power}
@@ -12,9 +12,8 @@ use Rattle.csub_tree.specs.declared.tree.CBinary.{CBinary}
 use Rattle.csub_tree.specs.declared.tree.CBinary.TheVariants.{Add, Sub, Mul, Div, Mod, Shl, Shr, And, Or, Xor, AddOvf, SubOvf, MulOvf, ShlOvf, Eq, Ne, Lt, Le, Gt, Ge, Beq, Peq, Feq}
 
 -- a value, or why there is none
-pub data Answer : Type 0 where
-  Gives : Value → Answer
-  Refuses : StuckReason → Answer
+abbrev pub Answer : Type 0
+Answer = Result Value StuckReason
 
 -- z is a word
 abbrev pub fits : ℤ → Bool
@@ -22,45 +21,45 @@ fits (pos n) = nat_lt n (2 ^ 63)
 fits (negsuc n) = nat_lt n (2 ^ 63)
 
 abbrev pub word : ℤ → Answer
-word z = Gives (Word z)
+word z = Ok (Word z)
 
 abbrev pub flag : Bool → Answer
-flag b = Gives (Flag b)
+flag b = Ok (Flag b)
 
 -- an operand of another kind counts as unset
 abbrev pub on_word : (ℤ → Answer) → Value → Answer
 on_word f (Word a) = f a
-on_word f x = Refuses IsUnset
+on_word f x = Err IsUnset
 
 abbrev pub on_flag : (Bool → Answer) → Value → Answer
 on_flag f (Flag a) = f a
-on_flag f x = Refuses IsUnset
+on_flag f x = Err IsUnset
 
 abbrev pub on_byte : (ℕ → Answer) → Value → Answer
 on_byte f (Byte a) = f a
-on_byte f x = Refuses IsUnset
+on_byte f x = Err IsUnset
 
 abbrev pub on_words : (ℤ → ℤ → Answer) → Value → Value → Answer
 on_words f (Word a) y = on_word (f a) y
-on_words f x y = Refuses IsUnset
+on_words f x y = Err IsUnset
 
 abbrev pub on_flags : (Bool → Bool → Answer) → Value → Value → Answer
 on_flags f (Flag a) y = on_flag (f a) y
-on_flags f x y = Refuses IsUnset
+on_flags f x y = Err IsUnset
 
 abbrev pub nonzero : Answer → ℤ → Answer
-nonzero answer (pos zero) = Refuses BadWord
+nonzero answer (pos zero) = Err BadWord
 nonzero answer b = answer
 
 -- a shift by a count from 0 to 63
 abbrev pub shift_by : (ℕ → Answer) → ℤ → Answer
-shift_by f (pos k) = cond (nat_lt k 64) (f k) (Refuses BadWord)
-shift_by f (negsuc k) = Refuses BadWord
+shift_by f (pos k) = cond (nat_lt k 64) (f k) (Err BadWord)
+shift_by f (negsuc k) = Err BadWord
 
 -- the byte of a word from 0 to 255
 abbrev pub byte_of : ℤ → Answer
-byte_of (pos n) = cond (nat_lt n 256) (Gives (Byte n)) (Refuses BadWord)
-byte_of (negsuc n) = Refuses BadWord
+byte_of (pos n) = cond (nat_lt n 256) (Ok (Byte n)) (Err BadWord)
+byte_of (negsuc n) = Err BadWord
 
 abbrev pub word_of_flag : Bool → ℤ
 word_of_flag true = pos 1
@@ -79,8 +78,8 @@ same (Fun f) (Fun g) = f == g
 same x y = false
 
 abbrev pub compared : Value → Value → Answer
-compared Unset y = Refuses IsUnset
-compared x Unset = Refuses IsUnset
+compared Unset y = Err IsUnset
+compared x Unset = Err IsUnset
 compared x y = flag (same x y)
 
 abbrev pub unary_of : CUnary → Value → Answer

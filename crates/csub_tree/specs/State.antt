@@ -47,10 +47,11 @@ pub data Event : Type 0 where
   Made : (number kind cells : ℕ) → Event
   Freed : (number : ℕ) → Event
 
--- what one statement leads to: the bytes that it puts and the state after it; a block made or gone, and the state; the end of the
--- run; or none of these, and why
+-- what one statement leads to: the state after it, where it also put a byte, or made or freed a block, with that; the end of the run;
+-- or none of these, and why
 pub data After : Type 0 where
-  Onward : (put : List ℕ) → (core : Core) → After
+  Onward : (core : Core) → After
+  Puts : (byte : ℕ) → (core : Core) → After
   Told : (event : Event) → (core : Core) → After
   Over : (outcome : Outcome) → (core : Core) → After
   Stuck : (reason : StuckReason) → After

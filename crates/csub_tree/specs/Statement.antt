@@ -2,13 +2,13 @@
 -- block that is gone, another struct, an index outside, a field or an item that is unset, and last a reason of its own. In a file that
 -- keeps its rules each number is declared and each value has the type that is asked; elsewhere a value of another kind counts as
 -- unset, and what is not declared as outside.
-use Rattle.std.specs.Prelude.{ℕ, zero, suc, ◌+◌, ◌-◌, ℤ, pos, negsuc, List, [], ◌∷◌, ◌++◌, length, take, map, replicate, slice_index_or, slice_get, slice_set, Option, Some, None, option_map, Bool, true, false, cond, ◌==◌, ◌&&◌, nat_lt, nat_le}
+use Rattle.std.specs.Prelude.{ℕ, zero, suc, ◌+◌, ◌-◌, ℤ, pos, negsuc, List, [], ◌∷◌, ◌++◌, length, take, map, replicate, slice_index_or, slice_get, slice_set, Option, Some, None, Result, Ok, Err, option_map, Bool, true, false, cond, ◌==◌, ◌&&◌, nat_lt, nat_le}
 use Rattle.rpy_base.specs.declared.outcome.Outcome.TheVariants.{Returned, Raised as RaisedAs, Failed, Running}
 use Rattle.rpy_base.specs.declared.outcome.FailName.{FailName}
 use Rattle.rpy_base.specs.declared.outcome.FailName.TheVariants.{Index, ZeroDivision, Value as ValueFails, Attribute, NegativeSlice}
-use Rattle.csub_tree.specs.State.{Value, Unset, Word, Byte, Flag, Fun, Null, Ptr, Static, Block, Caller, Core, Made, Freed, After, Onward, Told, Over, Stuck}
+use Rattle.csub_tree.specs.State.{Value, Unset, Word, Byte, Flag, Fun, Null, Ptr, Static, Block, Caller, Core, Made, Freed, After, Onward, Puts, Told, Over, Stuck}
 use Rattle.csub_tree.specs.Layout.{Shape, shape_at, begins_with, place, constant}
-use Rattle.csub_tree.specs.Operation.{Answer, Gives, Refuses, unary_of, binary_of}
+use Rattle.csub_tree.specs.Operation.{Answer, unary_of, binary_of}
 use Rattle.csub_tree.specs.declared.stuck.StuckReason.TheVariants.{Gone, Kind, Outside, Unset as IsUnset, BadFree, Signature, Word as BadWord, Length, Cost, Argument}
 use Rattle.csub_tree.specs.declared.tree.COperand.{COperand}
 use Rattle.csub_tree.specs.declared.tree.COperand.TheVariants.{Var, Const}
@@ -44,18 +44,18 @@ block_at core value = None
 -- ---- going on
 
 abbrev pub onward : Core → After
-onward core = Onward [] (record core { at = core.at + 1 })
+onward core = Onward (record core { at = core.at + 1 })
 
 abbrev pub assigned : Core → ℕ → Value → After
-assigned core a value = Onward [] (record core { at = core.at + 1; vars = slice_set core.vars a value })
+assigned core a value = Onward (record core { at = core.at + 1; vars = slice_set core.vars a value })
 
 abbrev pub set : Core → ℕ → Value → After
 set core a Unset = Stuck IsUnset
 set core a value = assigned core a value
 
 abbrev pub answered : Core → ℕ → Answer → After
-answered core a (Gives value) = assigned core a value
-answered core a (Refuses reason) = Stuck reason
+answered core a (Ok value) = assigned core a value
+answered core a (Err reason) = Stuck reason
 
 abbrev pub unary : Core → ℕ → CUnary → Value → After
 unary core a op x = answered core a (unary_of op x)
@@ -65,34 +65,39 @@ binary core a op x y = answered core a (binary_of op x y)
 
 -- ---- blocks
 
--- the block seen as struct n
-abbrev pub as_struct : List Shape → ℕ → (Block → After) → Option Block → After
-as_struct shapes n go None = Stuck Gone
-as_struct shapes n go (Some block) = cond (begins_with shapes block.kind n) (go block) (Stuck Kind)
+-- the block, where it is struct n or begins with it
+abbrev pub as_struct : List Shape → ℕ → Option Block → Result Block StuckReason
+as_struct shapes n None = Err Gone
+as_struct shapes n (Some block) = cond (begins_with shapes block.kind n) (Ok block) (Err Kind)
 
-abbrev pub reach : Core → List Shape → ℕ → Value → (Block → After) → After
-reach core shapes n Unset go = Stuck IsUnset
-reach core shapes n pointer go = as_struct shapes n go (block_at core pointer)
+-- the block that a pointer names, seen as struct n
+abbrev pub reached : Core → List Shape → ℕ → Value → Result Block StuckReason
+reached core shapes n Unset = Err IsUnset
+reached core shapes n pointer = as_struct shapes n (block_at core pointer)
+
+abbrev pub on_block : (Block → After) → Result Block StuckReason → After
+on_block go (Ok block) = go block
+on_block go (Err reason) = Stuck reason
 
 abbrev pub get_field : Core → List Shape → ℕ → ℕ → Value → ℕ → After
-get_field core shapes a n pointer k = reach core shapes n pointer (λ block. set core a (read block.fields (place (shape_at shapes n) k)))
+get_field core shapes a n pointer k = on_block (λ block. set core a (read block.fields (place (shape_at shapes n) k))) (reached core shapes n pointer)
 
 -- the state with this block in the place of the one that the pointer names
 abbrev pub stored : Core → Value → Block → After
-stored core (Ptr number) block = Onward [] (record core { at = core.at + 1; blocks = slice_set core.blocks number (Some block) })
-stored core (Static g) block = Onward [] (record core { at = core.at + 1; statics = slice_set core.statics g block })
+stored core (Ptr number) block = Onward (record core { at = core.at + 1; blocks = slice_set core.blocks number (Some block) })
+stored core (Static g) block = Onward (record core { at = core.at + 1; statics = slice_set core.statics g block })
 stored core pointer block = Stuck Gone
 
 abbrev pub set_field : Core → List Shape → ℕ → Value → ℕ → Value → After
 set_field core shapes n pointer k Unset = Stuck IsUnset
-set_field core shapes n pointer k x = reach core shapes n pointer (λ block. stored core pointer (record block { fields = slice_set block.fields (place (shape_at shapes n) k) x }))
+set_field core shapes n pointer k x = on_block (λ block. stored core pointer (record block { fields = slice_set block.fields (place (shape_at shapes n) k) x })) (reached core shapes n pointer)
 
 abbrev pub item : Core → ℕ → List Value → ℤ → After
 item core a items (pos i) = cond (nat_lt i (length items)) (set core a (read items i)) (Stuck Outside)
 item core a items (negsuc i) = Stuck Outside
 
 abbrev pub get_item : Core → List Shape → ℕ → ℕ → Value → Value → After
-get_item core shapes a n pointer (Word i) = reach core shapes n pointer (λ block. item core a block.items i)
+get_item core shapes a n pointer (Word i) = on_block (λ block. item core a block.items i) (reached core shapes n pointer)
 get_item core shapes a n pointer other = Stuck IsUnset
 
 abbrev pub put_item : Core → Value → Block → ℤ → Value → After
@@ -101,7 +106,7 @@ put_item core pointer block (negsuc i) x = Stuck Outside
 
 abbrev pub set_item : Core → List Shape → ℕ → Value → Value → Value → After
 set_item core shapes n pointer i Unset = Stuck IsUnset
-set_item core shapes n pointer (Word i) x = reach core shapes n pointer (λ block. put_item core pointer block i x)
+set_item core shapes n pointer (Word i) x = on_block (λ block. put_item core pointer block i x) (reached core shapes n pointer)
 set_item core shapes n pointer other x = Stuck IsUnset
 
 -- a block's number is the count of those made before it
@@ -129,17 +134,17 @@ free core other = Stuck BadFree
 -- ---- steps and exception slots
 
 abbrev pub pay : Core → Value → After
-pay core (Word (pos cost)) = cond (nat_le cost core.steps) (Onward [] (record core { at = core.at + 1; steps = core.steps - cost })) (Over Running core)
+pay core (Word (pos cost)) = cond (nat_le cost core.steps) (Onward (record core { at = core.at + 1; steps = core.steps - cost })) (Over Running core)
 pay core (Word (negsuc cost)) = Stuck Cost
 pay core other = Stuck IsUnset
 
 abbrev pub exc_set : Core → Value → Value → After
 exc_set core Unset value = Stuck IsUnset
 exc_set core type Unset = Stuck IsUnset
-exc_set core type value = Onward [] (record core { at = core.at + 1; exc_type = type; exc_value = value })
+exc_set core type value = Onward (record core { at = core.at + 1; exc_type = type; exc_value = value })
 
 abbrev pub exc_clear : Core → After
-exc_clear core = Onward [] (record core { at = core.at + 1; exc_type = Null; exc_value = Null })
+exc_clear core = Onward (record core { at = core.at + 1; exc_type = Null; exc_value = Null })
 
 -- ---- calls
 
@@ -155,7 +160,7 @@ entered core into f values function = record core {
 
 abbrev pub enter : Core → Option ℕ → ℕ → List Value → Option CFunction → After
 enter core into f values None = Stuck Outside
-enter core into f values (Some function) = Onward [] (entered core into f values function)
+enter core into f values (Some function) = Onward (entered core into f values function)
 
 abbrev pub call : Core → Option ℕ → ℕ → List Value → Option CFunction → After
 call core into f values function = cond (any_unset values) (Stuck IsUnset) (enter core into f values function)
@@ -181,7 +186,7 @@ same_result s t = false
 abbrev pub enter_as : Core → Option ℕ → Option CType → List CType → ℕ → List Value → Option CFunction → After
 enter_as core into result params f values None = Stuck Signature
 enter_as core into result params f values (Some function) =
-    cond (same_result function.result result && same_types function.params params) (Onward [] (entered core into f values function)) (Stuck Signature)
+    cond (same_result function.result result && same_types function.params params) (Onward (entered core into f values function)) (Stuck Signature)
 
 abbrev pub call_value : List CFunction → Core → Option ℕ → Option CType → List CType → Value → List Value → After
 call_value functions core into result params (Fun f) values = enter_as core into result params f values (slice_get functions f)
@@ -203,7 +208,7 @@ taken_by vars (Some a) value = slice_set vars a value
 abbrev pub back_to : Core → Value → Option Caller → After
 back_to core (Word n) None = Over (Returned n) (record core { vars = [] })
 back_to core other None = Stuck IsUnset
-back_to core value (Some caller) = Onward [] (record core {
+back_to core value (Some caller) = Onward (record core {
   function = caller.function;
   block = caller.block;
   at = caller.at;
@@ -220,7 +225,7 @@ give_back core None = back_to core Unset (last_of core.callers)
 give_back core (Some x) = back_with core (operand core.vars x)
 
 abbrev pub goes_to : Core → ℕ → After
-goes_to core block = Onward [] (record core { block = block; at = 0 })
+goes_to core block = Onward (record core { block = block; at = 0 })
 
 abbrev pub branch : Core → Value → ℕ → ℕ → After
 branch core (Flag true) there elsewhere = goes_to core there
@@ -251,7 +256,7 @@ arg core args a (Word i) (Word j) = in_range core a (byte_in (argument args i) j
 arg core args a x y = Stuck IsUnset
 
 abbrev pub put_byte : Core → Value → After
-put_byte core (Word (pos byte)) = cond (nat_lt byte 256) (Onward (byte ∷ []) (record core { at = core.at + 1 })) (Stuck BadWord)
+put_byte core (Word (pos byte)) = cond (nat_lt byte 256) (Puts byte (record core { at = core.at + 1 })) (Stuck BadWord)
 put_byte core (Word (negsuc n)) = Stuck BadWord
 put_byte core other = Stuck IsUnset
 
@@ -283,5 +288,5 @@ type_in None a = None
 type_in (Some function) a = slice_get (function.params ++ function.locals) a
 
 abbrev pub raised : Core → List Shape → Option CType → Value → After
-raised core shapes (Some (CPtr n)) pointer = reach core shapes n pointer (λ block. raised_as core (bytes_of block.items))
+raised core shapes (Some (CPtr n)) pointer = on_block (λ block. raised_as core (bytes_of block.items)) (reached core shapes n pointer)
 raised core shapes other pointer = Stuck Outside
