@@ -1,5 +1,5 @@
 -- What an operation on values gives.
-use Rattle.std.specs.Prelude.{ℕ, zero, ◌^◌, ℤ, pos, negsuc, ◌+ℤ◌, ◌-ℤ◌, ◌*ℤ◌, neg_ℤ, int_lt, int_le, Bool, true, false, cond, not, ◌==◌, nat_lt, Result, Ok, Err}
+use Rattle.std.specs.Prelude.{ℕ, zero, ◌^◌, ℤ, pos, negsuc, ◌+ℤ◌, ◌-ℤ◌, ◌*ℤ◌, neg_ℤ, int_lt, int_le, Bool, true, false, cond, not, ◌||◌, ◌==◌, nat_lt, Option, Some, None, Result, Ok, Err}
 use Rattle.std.specs.Int.{w64, int_bit_and, int_bit_or, int_bit_xor, int_bit_not}
 use Rattle.std.specs.Ordering.{int_eq}
 use Rattle.rpy_base.specs.Word.{wrap, floor_quotient, floor_rest, times_power}
@@ -26,26 +26,33 @@ word z = Ok (Word z)
 abbrev pub flag : Bool → Answer
 flag b = Ok (Flag b)
 
+-- what a value is, seen as a word, a truth value or a byte
+abbrev pub word_of : Value → Option ℤ
+word_of (Word n) = Some n
+word_of other = None
+
+abbrev pub flag_of : Value → Option Bool
+flag_of (Flag b) = Some b
+flag_of other = None
+
+abbrev pub byte_of : Value → Option ℕ
+byte_of (Byte b) = Some b
+byte_of other = None
+
+abbrev pub is_unset : Value → Bool
+is_unset Unset = true
+is_unset other = false
+
 -- an operand of another kind counts as unset
-abbrev pub on_word : (ℤ → Answer) → Value → Answer
-on_word f (Word a) = f a
-on_word f x = Err IsUnset
-
-abbrev pub on_flag : (Bool → Answer) → Value → Answer
-on_flag f (Flag a) = f a
-on_flag f x = Err IsUnset
-
-abbrev pub on_byte : (ℕ → Answer) → Value → Answer
-on_byte f (Byte a) = f a
-on_byte f x = Err IsUnset
+abbrev pub given : {X : Type 0} → (X → Answer) → Option X → Answer
+given f None = Err IsUnset
+given f (Some x) = f x
 
 abbrev pub on_words : (ℤ → ℤ → Answer) → Value → Value → Answer
-on_words f (Word a) y = on_word (f a) y
-on_words f x y = Err IsUnset
+on_words f x y = given (λ a. given (λ b. f a b) (word_of y)) (word_of x)
 
 abbrev pub on_flags : (Bool → Bool → Answer) → Value → Value → Answer
-on_flags f (Flag a) y = on_flag (f a) y
-on_flags f x y = Err IsUnset
+on_flags f x y = given (λ a. given (λ b. f a b) (flag_of y)) (flag_of x)
 
 abbrev pub nonzero : Answer → ℤ → Answer
 nonzero answer (pos zero) = Err BadWord
@@ -57,9 +64,9 @@ shift_by f (pos k) = cond (nat_lt k 64) (f k) (Err BadWord)
 shift_by f (negsuc k) = Err BadWord
 
 -- the byte of a word from 0 to 255
-abbrev pub byte_of : ℤ → Answer
-byte_of (pos n) = cond (nat_lt n 256) (Ok (Byte n)) (Err BadWord)
-byte_of (negsuc n) = Err BadWord
+abbrev pub to_byte : ℤ → Answer
+to_byte (pos n) = cond (nat_lt n 256) (Ok (Byte n)) (Err BadWord)
+to_byte (negsuc n) = Err BadWord
 
 abbrev pub word_of_flag : Bool → ℤ
 word_of_flag true = pos 1
@@ -78,17 +85,15 @@ same (Fun f) (Fun g) = f == g
 same x y = false
 
 abbrev pub compared : Value → Value → Answer
-compared Unset y = Err IsUnset
-compared x Unset = Err IsUnset
-compared x y = flag (same x y)
+compared x y = cond (is_unset x || is_unset y) (Err IsUnset) (flag (same x y))
 
 abbrev pub unary_of : CUnary → Value → Answer
-unary_of Neg = on_word (λ a. word (wrap (neg_ℤ a)))
-unary_of Inv = on_word (λ a. word (int_bit_not w64 a))
-unary_of Not = on_flag (λ a. flag (not a))
-unary_of C2S = on_byte (λ a. word (pos a))
-unary_of S2C = on_word byte_of
-unary_of B2S = on_flag (λ a. word (word_of_flag a))
+unary_of Neg x = given (λ a. word (wrap (neg_ℤ a))) (word_of x)
+unary_of Inv x = given (λ a. word (int_bit_not w64 a)) (word_of x)
+unary_of Not x = given (λ a. flag (not a)) (flag_of x)
+unary_of C2S x = given (λ a. word (pos a)) (byte_of x)
+unary_of S2C x = given to_byte (word_of x)
+unary_of B2S x = given (λ a. word (word_of_flag a)) (flag_of x)
 
 abbrev pub binary_of : CBinary → Value → Value → Answer
 binary_of Add = on_words (λ a b. word (wrap (a +ℤ b)))
