@@ -1,1 +1,8 @@
+pub mod Counting
+pub mod Layout
+pub mod Machine
+pub mod Meaning
+pub mod Operation
 pub mod Spelling
+pub mod State
+pub mod Statement

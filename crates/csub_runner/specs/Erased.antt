@@ -1,0 +1,48 @@
+-- A value as the definition of the machine sees it: a pointer is a block's number.
+use Rattle.std.specs.Prelude.{List, map, slice_index_or, Result, Ok, Err}
+use Rattle.csub_tree.specs.State.{Value, Unset, Word, Byte, Flag, Fun, Null, Ptr, Static, Block, Caller}
+use Rattle.csub_tree.specs.declared.stuck.StuckReason.{StuckReason}
+use Rattle.csub_tree.specs.declared.tree.CConst.{CConst}
+use Rattle.csub_tree.specs.declared.tree.CConst.TheVariants.{Word as CWord, Char as CChar, Bool as CBool, Null as CNull, Static as CStaticOf, Fun as CFun}
+use Rattle.csub_tree.specs.declared.tree.COperand.{COperand}
+use Rattle.csub_tree.specs.declared.tree.COperand.TheVariants.{Var, Const}
+use Rattle.csub_runner.specs.Waiting.{Waiting}
+use Rattle.csub_runner.specs.declared.val.Cells.{Cells}
+use Rattle.csub_runner.specs.declared.val.Val.{Val}
+use Rattle.csub_runner.specs.declared.val.Val.TheVariants.{Unset as RawUnset, Word as RawWord, Byte as RawByte, Flag as RawFlag, Fun as RawFun, Null as RawNull, Ptr as RawPtr, Static as RawStatic}
+
+abbrev pub erase : Val → Value
+erase RawUnset = Unset
+erase (RawWord n) = Word n
+erase (RawByte b) = Byte b
+erase (RawFlag b) = Flag b
+erase (RawFun f) = Fun f
+erase RawNull = Null
+erase (RawPtr p) = Ptr p.number
+erase (RawStatic g) = Static g
+
+abbrev pub erase_all : List Val → List Value
+erase_all vals = map erase vals
+
+abbrev pub erase_cells : Cells → Block
+erase_cells c = record { kind = c.kind; fields = erase_all c.fields.items; items = erase_all c.elements.items }
+
+abbrev pub erase_caller : Waiting → Caller
+erase_caller w = record { function = w.function; block = w.block; at = w.at; vars = erase_all w.vars; into = w.into }
+
+abbrev pub erase_answer : Result Val StuckReason → Result Value StuckReason
+erase_answer (Ok v) = Ok (erase v)
+erase_answer (Err reason) = Err reason
+
+-- what the code reads
+abbrev pub raw_constant : CConst → Val
+raw_constant (CWord n) = RawWord n
+raw_constant (CChar b) = RawByte b
+raw_constant (CBool b) = RawFlag b
+raw_constant CNull = RawNull
+raw_constant (CStaticOf n g) = RawStatic g
+raw_constant (CFun f) = RawFun f
+
+abbrev pub raw_operand : List Val → COperand → Val
+raw_operand vars (Var a) = slice_index_or vars a RawUnset
+raw_operand vars (Const c) = raw_constant c
