@@ -4,6 +4,7 @@
 mod cursor;
 mod fault;
 mod first_path;
+mod lower;
 mod reader;
 
 pub use fault::TranslateFault;
