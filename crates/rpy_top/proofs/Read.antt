@@ -1,5 +1,5 @@
 -- The rules on bytes, as the code goes through them.
-use Rattle.std.proofs.Common.{◌≡◌, ℕ, suc, ◌-◌, ◌<◌, List, [], ◌∷◌, length, Option, None, codes, refl, ap, ◌∙◌, ◌+◌, arith}
+use Rattle.std.proofs.Common.{◌≡◌, ℕ, suc, ◌-◌, ◌<◌, List, [], ◌∷◌, length, Option, None, codes, refl, ap, subst, ◌∙◌, ◌+◌, Result, IfOk, arith}
 use Rattle.rpy_top.specs.Bytes.{Bytes, Reader, Outcome, Fails, stripped, pure, refuse, begins, and_then, ◌>>=◌}
 use Rattle.rpy_top.specs.FirstPath.{Names, atom, term, term_from, sum_from, read_line, body_from, body_after}
 use Rattle.rpy_top.specs.declared.first_path.Line.{Line}
@@ -47,3 +47,7 @@ pub body_more : (n at : ℕ) (lines : List Line) (names : Names) (i : Bytes) →
     → body_from (n - at) lines names i ≡ and_then (read_line names i) (body_after (body_from (n - (at + 1))) lines names)
 unfolding body_from
 body_more n at lines names i lt = let e : n - at ≡ suc (n - (at + 1)) = omega arith in ap (λ n. body_from n lines names i) e
+
+-- a text that is known by another name
+pub known_as : {E : Type 0} (r : Result (List ℕ) E) (a b : List ℕ) → a ≡ b → IfOk r (λ text. text ≡ a) → IfOk r (λ text. text ≡ b)
+known_as r a b e h = let P : List ℕ → Type 0 = λ x. IfOk r (λ text. text ≡ x) in subst P e h

@@ -1,5 +1,6 @@
 -- Bytes to be read, and the steps that every rule on them is made of.
-use Rattle.std.specs.Prelude.{◌≡◌, ℕ, zero, suc, ◌+◌, ◌-◌, ◌*◌, ◌==◌, ◌||◌, ◌&&◌, nat_le, Bool, true, false, cond, if◌then◌else◌, List, [], ◌∷◌, ◌++◌, length, take, drop, Option, Some, None, option_map, Result, Ok, Err}
+use Rattle.std.specs.Prelude.{◌≡◌, ℕ, zero, suc, ◌+◌, ◌-◌, ◌*◌, ◌==◌, ◌||◌, ◌&&◌, nat_le, Bool, true, false, cond, if◌then◌else◌, List, [], ◌∷◌, ◌++◌, length, take, drop, Option, Some, None, option_map, Result, Ok, Err, codes}
+use Rattle.std.specs.Str.{bytes_eq}
 use Rattle.std.specs.Borrow.{Bor}
 use Rattle.rpy_top.specs.declared.fault.TranslateFault.{TranslateFault}
 use Rattle.rpy_top.specs.declared.fault.TranslateFault.TheVariants.{NotYet, NoMem}
@@ -72,6 +73,19 @@ is_name_byte b = is_letter b || is_digit b
 unfoldable pub name_len : Bytes → ℕ
 name_len [] = 0
 name_len (b ∷ bs) = if is_name_byte b then suc (name_len bs) else 0
+
+-- ---- words
+
+abbrev pub among : List Bytes → Bytes → Bool
+among [] name = false
+among (word ∷ words) name = bytes_eq name word || among words name
+
+abbrev pub is_keyword : Bytes → Bool
+is_keyword name =
+    among (codes "and" ∷ codes "as" ∷ codes "assert" ∷ codes "break" ∷ codes "class" ∷ codes "continue" ∷ codes "def" ∷ codes "del" ∷ []) name
+    || among (codes "elif" ∷ codes "else" ∷ codes "except" ∷ codes "exec" ∷ codes "finally" ∷ codes "for" ∷ codes "from" ∷ codes "global" ∷ []) name
+    || among (codes "if" ∷ codes "import" ∷ codes "in" ∷ codes "is" ∷ codes "lambda" ∷ codes "not" ∷ codes "or" ∷ codes "pass" ∷ []) name
+    || among (codes "print" ∷ codes "raise" ∷ codes "return" ∷ codes "try" ∷ codes "while" ∷ codes "with" ∷ codes "yield" ∷ []) name
 
 -- what a function that reads ensures: the rule's outcome, unless memory fails
 abbrev pub Fails : {A : Type 0} → TranslateFault → Outcome A → Type 0

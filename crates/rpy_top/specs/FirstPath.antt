@@ -3,7 +3,7 @@
 use Rattle.std.specs.Prelude.{◌≡◌, ℕ, zero, suc, ◌+◌, ◌-◌, ◌*◌, ◌^◌, ◌==◌, ◌||◌, ◌&&◌, not, nat_le, nat_lt, Bool, true, false, if◌then◌else◌, ℤ, pos, List, [], ◌∷◌, ◌++◌, length, take, drop, Option, Some, None, codes}
 use Rattle.std.specs.Str.{bytes_eq}
 use Rattle.std.specs.Borrow.{Bor}
-use Rattle.rpy_top.specs.Bytes.{Bytes, Outcome, Reader, and_then, ◌>>=◌, ◌>>◌, pure, refuse, expect, begins, is_digit, name_len}
+use Rattle.rpy_top.specs.Bytes.{Bytes, Outcome, Reader, and_then, ◌>>=◌, ◌>>◌, pure, refuse, expect, begins, is_digit, name_len, among, is_keyword}
 use Rattle.rpy_top.specs.declared.first_path.Arith.{Arith}
 use Rattle.rpy_top.specs.declared.first_path.Arith.TheVariants.{Add, Sub, Mul}
 use Rattle.rpy_top.specs.declared.first_path.Sum.{Sum}
@@ -25,18 +25,9 @@ place_from i (other ∷ names) name = if bytes_eq other name then Some i else pl
 abbrev pub place_of : Names → Bytes → Option ℕ
 place_of names name = place_from 0 names name
 
-abbrev pub among : List Bytes → Bytes → Bool
-among [] name = false
-among (word ∷ words) name = bytes_eq name word || among words name
-
 -- the keywords, and the names that a body line may not have
 abbrev pub is_reserved : Bytes → Bool
-is_reserved name =
-    among (codes "and" ∷ codes "as" ∷ codes "assert" ∷ codes "break" ∷ codes "class" ∷ codes "continue" ∷ codes "def" ∷ codes "del" ∷ []) name
-    || among (codes "elif" ∷ codes "else" ∷ codes "except" ∷ codes "exec" ∷ codes "finally" ∷ codes "for" ∷ codes "from" ∷ codes "global" ∷ []) name
-    || among (codes "if" ∷ codes "import" ∷ codes "in" ∷ codes "is" ∷ codes "lambda" ∷ codes "not" ∷ codes "or" ∷ codes "pass" ∷ []) name
-    || among (codes "print" ∷ codes "raise" ∷ codes "return" ∷ codes "try" ∷ codes "while" ∷ codes "with" ∷ codes "yield" ∷ []) name
-    || among (codes "argv" ∷ codes "None" ∷ codes "True" ∷ codes "False" ∷ []) name
+is_reserved name = is_keyword name || among (codes "argv" ∷ codes "None" ∷ codes "True" ∷ codes "False" ∷ []) name
 
 -- ---- a sum
 

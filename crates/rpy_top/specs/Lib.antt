@@ -1,3 +1,5 @@
+pub mod Answer
 pub mod Bytes
+pub mod Command
 pub mod FirstPath
 pub mod Lower

@@ -26,7 +26,7 @@ pub fn is_digit(b: u8) -> bool
     b'0' <= b && b <= b'9'
 }
 
-fn is_letter(b: u8) -> bool
+pub fn is_letter(b: u8) -> bool
     ensures { result ≡ spec.is_letter b }
 {
     (b'a' <= b && b <= b'z') || (b'A' <= b && b <= b'Z') || b == b'_'
@@ -39,7 +39,7 @@ fn is_name_byte(b: u8) -> bool
 }
 
 #[tactic(auto, unfolding(crate::specs::Bytes::name_len))]
-fn name_len(bytes: &[u8]) -> usize
+pub fn name_len(bytes: &[u8]) -> usize
     ensures value { result ≡ spec.name_len bytes.now }
     ensures within { result ≤ length bytes.now }
 {

@@ -6,5 +6,10 @@ mod fault;
 mod first_path;
 mod lower;
 mod reader;
+mod status;
+mod top;
+mod words;
 
 pub use fault::TranslateFault;
+pub use top::{LIMIT, rpyc};
+pub use words::{Command, WordsFault, read_words};

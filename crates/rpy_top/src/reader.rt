@@ -2,6 +2,7 @@
 ghost use Rattle.std.specs.Prelude.{◌≡◌, ◌≤◌, ◌<◌, ◌^◌, ◌++◌, ◌∷◌, [], take, drop, length, Some, None, IfOk, IfErr, IfSome, OnOk, Option, List, ℕ, pos, ◌*◌, ◌+◌, ◌-◌, nat_lt, if◌then◌else◌, codes};
 ghost use Rattle.rpy_top.specs.Bytes.{Reads, Fails, Gives};
 ghost use Rattle.rpy_top.specs.FirstPath as spec;
+ghost use Rattle.rpy_top.specs.Bytes.{among, is_keyword};
 
 use crate::cursor::{Cursor, is_digit};
 use crate::fault::TranslateFault;
@@ -30,7 +31,7 @@ fn place_of(names: &[Text], name: &[u8]) -> Option<u64>
 }
 
 fn is_among_and_to_del(name: &[u8]) -> bool
-    ensures { result ≡ spec.among (codes "and" ∷ codes "as" ∷ codes "assert" ∷ codes "break" ∷ codes "class" ∷ codes "continue" ∷ codes "def" ∷ codes "del" ∷ []) name.now }
+    ensures { result ≡ among (codes "and" ∷ codes "as" ∷ codes "assert" ∷ codes "break" ∷ codes "class" ∷ codes "continue" ∷ codes "def" ∷ codes "del" ∷ []) name.now }
 {
     name == b"and".as_slice()
         || name == b"as".as_slice()
@@ -43,7 +44,7 @@ fn is_among_and_to_del(name: &[u8]) -> bool
 }
 
 fn is_among_elif_to_global(name: &[u8]) -> bool
-    ensures { result ≡ spec.among (codes "elif" ∷ codes "else" ∷ codes "except" ∷ codes "exec" ∷ codes "finally" ∷ codes "for" ∷ codes "from" ∷ codes "global" ∷ []) name.now }
+    ensures { result ≡ among (codes "elif" ∷ codes "else" ∷ codes "except" ∷ codes "exec" ∷ codes "finally" ∷ codes "for" ∷ codes "from" ∷ codes "global" ∷ []) name.now }
 {
     name == b"elif".as_slice()
         || name == b"else".as_slice()
@@ -56,7 +57,7 @@ fn is_among_elif_to_global(name: &[u8]) -> bool
 }
 
 fn is_among_if_to_pass(name: &[u8]) -> bool
-    ensures { result ≡ spec.among (codes "if" ∷ codes "import" ∷ codes "in" ∷ codes "is" ∷ codes "lambda" ∷ codes "not" ∷ codes "or" ∷ codes "pass" ∷ []) name.now }
+    ensures { result ≡ among (codes "if" ∷ codes "import" ∷ codes "in" ∷ codes "is" ∷ codes "lambda" ∷ codes "not" ∷ codes "or" ∷ codes "pass" ∷ []) name.now }
 {
     name == b"if".as_slice()
         || name == b"import".as_slice()
@@ -69,7 +70,7 @@ fn is_among_if_to_pass(name: &[u8]) -> bool
 }
 
 fn is_among_print_to_yield(name: &[u8]) -> bool
-    ensures { result ≡ spec.among (codes "print" ∷ codes "raise" ∷ codes "return" ∷ codes "try" ∷ codes "while" ∷ codes "with" ∷ codes "yield" ∷ []) name.now }
+    ensures { result ≡ among (codes "print" ∷ codes "raise" ∷ codes "return" ∷ codes "try" ∷ codes "while" ∷ codes "with" ∷ codes "yield" ∷ []) name.now }
 {
     name == b"print".as_slice()
         || name == b"raise".as_slice()
@@ -81,7 +82,7 @@ fn is_among_print_to_yield(name: &[u8]) -> bool
 }
 
 fn is_special(name: &[u8]) -> bool
-    ensures { result ≡ spec.among (codes "argv" ∷ codes "None" ∷ codes "True" ∷ codes "False" ∷ []) name.now }
+    ensures { result ≡ among (codes "argv" ∷ codes "None" ∷ codes "True" ∷ codes "False" ∷ []) name.now }
 {
     name == b"argv".as_slice()
         || name == b"None".as_slice()
@@ -89,15 +90,20 @@ fn is_special(name: &[u8]) -> bool
         || name == b"False".as_slice()
 }
 
-// Whether a name is a keyword, or one that a body line may not have.
-fn is_reserved(name: &[u8]) -> bool
-    ensures { result ≡ spec.is_reserved name.now }
+pub fn is_keyword(name: &[u8]) -> bool
+    ensures { result ≡ is_keyword name.now }
 {
     is_among_and_to_del(name)
         || is_among_elif_to_global(name)
         || is_among_if_to_pass(name)
         || is_among_print_to_yield(name)
-        || is_special(name)
+}
+
+// Whether a name is a keyword, or one that a body line may not have.
+fn is_reserved(name: &[u8]) -> bool
+    ensures { result ≡ spec.is_reserved name.now }
+{
+    is_keyword(name) || is_special(name)
 }
 
 #[tactic(auto, unfolding(crate::specs::FirstPath::signs_in))]

@@ -1,0 +1,10 @@
+use Rattle.std.proofs.Common.{ap, ◌∙◌}
+use Rattle.csub_tree.specs.Spelling.{file_text}
+use Rattle.rpy_top.specs.Lower.{lowered}
+use Rattle.rpy_top.proofs.Read.{known_as}
+use Rattle.rpy_top.proofs.top.write_program.Goals as goal
+
+pub returns : goal.returns
+returns c =
+    let e = c.in_ok-file.ensures ∙ ap (λ n. lowered n c.args.body.now) c.in_ok-entry_name.ensures in
+    known_as c.write_c.result _ _ (ap file_text e) c.write_c.ensures

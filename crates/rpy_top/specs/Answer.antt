@@ -1,0 +1,144 @@
+-- When a call answers each status, and what then stands in the sinks.
+use Rattle.std.specs.Prelude.{◌≡◌, ◌⊎◌, ℕ, ◌+◌, ◌<◌, ◌≤◌, List, [], ◌∷◌, ◌++◌, length, take, codes, Option, Some, None, IfSome, option_map, Result, Ok, Err}
+use Rattle.rpy_base.specs.Causes.{Rose}
+use Rattle.rpy_base.specs.Reading.{Disk}
+use Rattle.csub_tree.specs.Spelling.{file_text}
+use Rattle.rpy_top.specs.Command.{module_name}
+use Rattle.rpy_top.specs.FirstPath.{first_path}
+use Rattle.rpy_top.specs.Lower.{lowered}
+use Rattle.rpy_top.specs.declared.words.Command.{Command}
+use Rattle.rpy_top.specs.declared.words.Command.TheVariants.{Build}
+use Rattle.rpy_top.specs.declared.first_path.Body.{Body}
+use Rattle.rpy_top.specs.declared.status.Status.{Status}
+use Rattle.rpy_top.specs.declared.status.Status.TheVariants.{Done, Usage, NoFile, NotRead, WriteFault, NoMem, TooLong, NotYet}
+
+abbrev pub code : Status → ℕ
+code Done = 0
+code Usage = 1
+code NoFile = 8
+code NotRead = 8
+code WriteFault = 9
+code NoMem = 13
+code TooLong = 15
+code NotYet = 16
+
+-- how many bytes a source may have
+abbrev pub limit : ℕ
+limit = 1048576
+
+-- a sink before and after a call: its count of faults, and what it took where it tells that
+pub record Sunk : Type 0 where
+  pub faults_before : ℕ
+  pub faults : ℕ
+  pub taken_before : Option (List ℕ)
+  pub taken : Option (List ℕ)
+
+abbrev pub sunk : {S : Type 0} → (S → ℕ) → (S → Option (List ℕ)) → S → S → Sunk
+sunk faults taken old new = record { faults_before = faults old; faults = faults new; taken_before = taken old; taken = taken new }
+
+-- the files before and after a call: what they hold, where they tell it, and their count of faults
+pub record Filed : Type 0 where
+  pub held : Option Disk
+  pub faults_before : ℕ
+  pub faults : ℕ
+
+abbrev pub filed : {F : Type 0} → (F → Option Disk) → (F → ℕ) → F → F → Filed
+filed held faults old new = record { held = held old; faults_before = faults old; faults = faults new }
+
+-- in the call the sink took this text and did not fail
+abbrev pub Took : Sunk → List ℕ → Type 0
+Took sink text = (sink.faults ≡ sink.faults_before) × (sink.taken ≡ option_map (λ before. before ++ text) sink.taken_before)
+
+-- it took a first part of this text, and failed
+abbrev pub TookPart : Sunk → List ℕ → Type 0
+TookPart sink text = Rose sink.faults_before sink.faults × ((k : ℕ) × (sink.taken ≡ option_map (λ before. before ++ take k text) sink.taken_before))
+
+-- it is as before
+abbrev pub IsQuiet : Sunk → Type 0
+IsQuiet sink = (sink.faults ≡ sink.faults_before) × (sink.taken ≡ sink.taken_before)
+
+-- no read failed
+abbrev pub AllRead : Filed → Type 0
+AllRead files = files.faults ≡ files.faults_before
+
+-- these are the file's bytes, where the files tell what they hold
+abbrev pub AreBytes : Filed → List ℕ → List ℕ → Type 0
+AreBytes files file bytes = (length bytes ≤ limit) × IfSome files.held (λ disk. disk file ≡ Some bytes)
+
+-- there is no file of this name, or it has more bytes than a source may have, where the files tell it
+abbrev pub IsMissing : Filed → List ℕ → Type 0
+IsMissing files file = IfSome files.held (λ disk. disk file ≡ None)
+
+abbrev pub IsTooLong : Filed → List ℕ → Type 0
+IsTooLong files file = IfSome files.held (λ disk. IfSome (disk file) (λ bytes. limit < length bytes))
+
+-- the C text of a program
+abbrev pub text_of : List ℕ → Body → List ℕ
+text_of name body = file_text (lowered (name ++ codes ".entry_point") body)
+
+abbrev pub translated : List ℕ → List ℕ → Option (List ℕ)
+translated name bytes = option_map (text_of name) (first_path bytes)
+
+-- when the work on a file ends with each status
+abbrev pub BuildsTo : Status → List ℕ → Filed → Sunk → Type 0
+BuildsTo Done file files out = (bytes : List ℕ) × AreBytes files file bytes × ((text : List ℕ) × (translated (module_name file) bytes ≡ Some text) × Took out text) × AllRead files
+BuildsTo Usage file files out = ⊥
+BuildsTo NoFile file files out = IsMissing files file × IsQuiet out × AllRead files
+BuildsTo NotRead file files out = Rose files.faults_before files.faults × IsQuiet out
+BuildsTo WriteFault file files out = (bytes : List ℕ) × AreBytes files file bytes × ((text : List ℕ) × (translated (module_name file) bytes ≡ Some text) × TookPart out text) × AllRead files
+BuildsTo NoMem file files out = IsQuiet out × AllRead files
+BuildsTo TooLong file files out = IsTooLong files file × IsQuiet out × AllRead files
+BuildsTo NotYet file files out = (bytes : List ℕ) × AreBytes files file bytes × (translated (module_name file) bytes ≡ None) × IsQuiet out × AllRead files
+
+-- when the work of a call ends with each status
+abbrev pub Works : Status → Option Command → Filed → Sunk → Type 0
+Works status None files out = (status ≡ Usage) × IsQuiet out × AllRead files
+Works status (Some (Build [])) files out = ⊥
+Works status (Some (Build (file ∷ []))) files out = BuildsTo status file files out
+Works status (Some (Build (file ∷ other ∷ more))) files out = ⊥
+
+-- the first file that the words name
+abbrev pub first_file : Option Command → List ℕ
+first_file None = []
+first_file (Some (Build [])) = []
+first_file (Some (Build (file ∷ files))) = file
+
+abbrev pub usage_line : List ℕ
+usage_line = codes "usage: rpy COMMAND [OPTION..] FILE.. [-- ARG..]\n"
+
+-- the line for a status; none where nothing is to be written
+abbrev pub line : Status → Option Command → List ℕ
+line Done what = []
+line Usage what = usage_line
+line NoFile what = first_file what ++ codes ": no such file\n"
+line NotRead what = first_file what ++ codes ": not read\n"
+line WriteFault what = []
+line NoMem what = []
+line TooLong what = first_file what ++ codes ": too long\n"
+line NotYet what = first_file what ++ codes ": not yet\n"
+
+-- a call answers the status of its work once the line for it is written to err; else a fault of err, or want of memory
+abbrev pub Said : Status → Status → Option Command → Sunk → Type 0
+Said worked answered what err =
+    ((answered ≡ worked) × Took err (line worked what))
+    ⊎ ((answered ≡ WriteFault) × TookPart err (line worked what))
+    ⊎ ((answered ≡ NoMem) × IsQuiet err)
+
+-- the whole call
+abbrev pub Answers : Status → Option Command → Filed → Sunk → Sunk → Type 0
+Answers answered what files out err = (worked : Status) × Works worked what files out × Said worked answered what err
+
+-- why a put or a read stopped, and what the sink and the files are then
+abbrev pub PutEnds : Result (Unit {0}) Status → List ℕ → Sunk → Type 0
+PutEnds (Ok done) text sink = Took sink text
+PutEnds (Err WriteFault) text sink = TookPart sink text
+PutEnds (Err NoMem) text sink = IsQuiet sink
+PutEnds (Err status) text sink = ⊥
+
+abbrev pub Loads : Result (List ℕ) Status → List ℕ → Filed → Type 0
+Loads (Ok bytes) file files = AreBytes files file bytes × AllRead files
+Loads (Err NoFile) file files = IsMissing files file × AllRead files
+Loads (Err NotRead) file files = Rose files.faults_before files.faults
+Loads (Err TooLong) file files = IsTooLong files file × AllRead files
+Loads (Err NoMem) file files = AllRead files
+Loads (Err status) file files = ⊥

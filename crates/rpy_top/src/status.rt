@@ -1,0 +1,32 @@
+// The status of a call.
+ghost use Rattle.std.specs.Prelude.{◌≡◌};
+ghost use Rattle.rpy_top.specs.Answer.{code};
+
+#[derive(Clone, Copy, Debug, PartialEq, Eq)]
+pub enum Status {
+    Done,
+    Usage,
+    NoFile,
+    NotRead,
+    WriteFault,
+    NoMem,
+    TooLong,
+    NotYet,
+}
+
+impl Status {
+    /// The number that the process ends with.
+    pub fn code(self) -> u8
+        ensures { result ≡ code self }
+    {
+        match self {
+            Status::Done => 0,
+            Status::Usage => 1,
+            Status::NoFile | Status::NotRead => 8,
+            Status::WriteFault => 9,
+            Status::NoMem => 13,
+            Status::TooLong => 15,
+            Status::NotYet => 16,
+        }
+    }
+}
