@@ -35,7 +35,7 @@ sum_none names n left i none = ap (λ n. sum_from names n left i) none
 
 pub sum_some : (names : Names) (n : ℕ) (left : Sum) (i : Bytes) → 0 < n
     → sum_from names n left i ≡ begins (codes " + ") (term names >>= (λ right. sum_from names (n - 1) (Binary Add left right)))
-        (begins (codes " - ") (term names >>= (λ right. sum_from names (n - 1) (Binary Sub left right))) (pure left)) i
+    (begins (codes " - ") (term names >>= (λ right. sum_from names (n - 1) (Binary Sub left right))) (pure left)) i
 unfolding sum_from
 sum_some names n left i some = more (λ n. sum_from names n left i) n some
 

@@ -79,6 +79,10 @@ text_of name body = file_text (lowered (name ++ codes ".entry_point") body)
 abbrev pub translated : List ℕ → List ℕ → Option (List ℕ)
 translated name bytes = option_map (text_of name) (first_path bytes)
 
+abbrev pub all_translated : List (List ℕ) → List (List ℕ) → Option (List ℕ)
+all_translated (name ∷ []) (bytes ∷ []) = translated name bytes
+all_translated names sources = None
+
 -- when the work on a file ends with each status
 abbrev pub BuildsTo : Status → List ℕ → Filed → Sunk → Type 0
 BuildsTo Done file files out = (bytes : List ℕ) × AreBytes files file bytes × ((text : List ℕ) × (translated (module_name file) bytes ≡ Some text) × Took out text) × AllRead files

@@ -11,5 +11,8 @@ mod top;
 mod words;
 
 pub use fault::TranslateFault;
-pub use top::{LIMIT, rpyc};
+pub use top::{LIMIT, rpyc, translate};
 pub use words::{Command, WordsFault, read_words};
+
+#[cfg(test)]
+mod tests;

@@ -51,7 +51,12 @@ fn lower_sum(sum: &Sum, free: u64, into: &mut Seq<CStmt>) -> Result<Place, NoMem
     }
 }
 
-fn lower_binary(op: Arith, left: COperand, right: Place, into: &mut Seq<CStmt>) -> Result<Place, NoMem>
+fn lower_binary(
+    op: Arith,
+    left: COperand,
+    right: Place,
+    into: &mut Seq<CStmt>,
+) -> Result<Place, NoMem>
     ensures statements { OnOk result (into.new ≡ into.old ++ CStmt.Binary right.free (spec.operation op) left right.value ∷ []) }
     ensures place { IfOk result (λ place. place ≡ record { value = COperand.Var right.free; free = right.free + 1 }) }
 {
@@ -205,7 +210,13 @@ fn printer(alloc: Global, name: &[u8], blocks: Seq<Seq<CStmt>>) -> Result<CFunct
 fn last_digit(alloc: Global, rest: CStmt, digit: CStmt) -> Result<Seq<CStmt>, NoMem>
     ensures { IfOk result (λ block. block ≡ rest ∷ digit ∷ CStmt.Put (COperand.Var 2) ∷ CStmt.Return None ∷ []) }
 {
-    four(alloc, rest, digit, CStmt::Put(COperand::Var(2)), CStmt::Return(None))
+    four(
+        alloc,
+        rest,
+        digit,
+        CStmt::Put(COperand::Var(2)),
+        CStmt::Return(None),
+    )
 }
 
 fn print_digits(alloc: Global) -> Result<CFunction, NoMem>
@@ -214,8 +225,17 @@ fn print_digits(alloc: Global) -> Result<CFunction, NoMem>
     let mut blocks = Seq::new(alloc);
     blocks.push(two(alloc, binary(1, CBinary::Lt, 0, 10), CStmt::If(1, 2, 1))?)?;
     let before = call(alloc, 0, COperand::Var(2))?;
-    blocks.push(three(alloc, binary(2, CBinary::Div, 0, 10), before, CStmt::Goto(2))?)?;
-    blocks.push(last_digit(alloc, binary(2, CBinary::Mod, 0, 10), binary(2, CBinary::Add, 2, 48))?)?;
+    blocks.push(three(
+        alloc,
+        binary(2, CBinary::Div, 0, 10),
+        before,
+        CStmt::Goto(2),
+    )?)?;
+    blocks.push(last_digit(
+        alloc,
+        binary(2, CBinary::Mod, 0, 10),
+        binary(2, CBinary::Add, 2, 48),
+    )?)?;
     printer(alloc, b"print_digits", blocks)
 }
 

@@ -358,7 +358,11 @@ fn body(alloc: Global, bytes: &mut Cursor<'_>) -> Result<Body, TranslateFault>
         match line(alloc, bytes, names.as_slice())? {
             Read::Return(result) => {
                 let locals = names.len() as u64;
-                return Ok(Body { lines, result, locals });
+                return Ok(Body {
+                    lines,
+                    result,
+                    locals,
+                });
             }
             Read::Print(value) => push(&mut lines, Line::Print(value))?,
             Read::Assign(name, value) => {

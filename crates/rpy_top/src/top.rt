@@ -4,7 +4,7 @@ ghost use Rattle.rpy_base.specs.Watching.{Seen, IsFresh};
 ghost use Rattle.rpy_top.specs.Bytes.{Gives};
 ghost use Rattle.rpy_top.specs.Command.{command, module_name};
 ghost use Rattle.rpy_top.specs.declared.status.Status.{Status};
-ghost use Rattle.rpy_top.specs.Answer.{code, limit, sunk, filed, Answers, Works, BuildsTo, Said, PutEnds, Loads, translated, text_of, first_file, line};
+ghost use Rattle.rpy_top.specs.Answer.{code, limit, sunk, filed, Answers, Works, BuildsTo, Said, PutEnds, Loads, translated, all_translated, text_of, first_file, line};
 
 use crate::fault::TranslateFault;
 use crate::first_path::Body;
@@ -174,4 +174,19 @@ pub fn rpyc<F: Files, K: Sink, E: Sink>(
     let _watchers = watch.len();
     let worked = work(alloc, words, files, out);
     say(alloc, worked, words, err).code()
+}
+
+/// The C text of sources, each with its module's name; `NotYet` exactly where they are not one
+/// text of the first path.
+pub fn translate(
+    alloc: Global,
+    sources: &Seq<Text>,
+    names: &Seq<Text>,
+) -> Result<Text, TranslateFault>
+    ensures { Gives (all_translated names.now sources.now) result }
+{
+    match (names.as_slice(), sources.as_slice()) {
+        ([name], [source]) => translate_one(alloc, name.bytes(), source.bytes()),
+        _ => Err(TranslateFault::NotYet),
+    }
 }

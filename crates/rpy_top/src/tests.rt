@@ -1,0 +1,193 @@
+// Whole calls over files and sinks in memory.
+use crate::{TranslateFault, rpyc, translate};
+use rpy_base::{HeapWatch, Leaks, MemFiles, MemSink, NoMem, Seq, Tally, Text, pair_of};
+use std::alloc::Global;
+use std::test::Fail;
+
+const RETURNS: &str = "def entry_point(argv):\n    return 0\n";
+
+const WRAPS: &str = "def entry_point(argv):\n    print 9223372036854775807 + 1\n    return 0\n";
+
+const SUMS: &str =
+    "def entry_point(argv):\n    x = 2 * 3 - 10\n    y = x * x\n    print y\n    x = y - x\n    return x\n";
+
+fn words_of(alloc: Global, line: &str) -> Result<Vec<Text>, NoMem> {
+    let mut words = Vec::new(alloc);
+    for word in line.split_whitespace() {
+        words.push(Text::from_bytes(alloc, word.as_bytes())?)?;
+    }
+    Ok(words)
+}
+
+fn files_of(alloc: Global, name: &str, source: &[u8]) -> Result<MemFiles, NoMem> {
+    let mut files = MemFiles::new(alloc);
+    files.add(
+        Text::from_bytes(alloc, name.as_bytes())?,
+        Text::from_bytes(alloc, source)?,
+    )?;
+    Ok(files)
+}
+
+fn starts_as_text(out: &[u8]) -> bool {
+    match out.strip_prefix(b"/* C-sub 1 */\n".as_slice()) {
+        Some(_) => true,
+        None => false,
+    }
+}
+
+#[test]
+fn words_and_sources_have_statuses(rt: HostRuntime) -> Result<(), Fail> {
+    let alloc = rt.alloc();
+    let usage = "usage: rpy COMMAND [OPTION..] FILE.. [-- ARG..]\n";
+    for (line, source, status, said) in [
+        ("build a.py", RETURNS, 0, ""),
+        ("build a.py", WRAPS, 0, ""),
+        ("build a.py", SUMS, 0, ""),
+        ("", RETURNS, 1, usage),
+        ("build", RETURNS, 1, usage),
+        ("build -a.py", RETURNS, 1, usage),
+        ("build os.py", RETURNS, 1, usage),
+        ("build while.py", RETURNS, 1, usage),
+        ("build a.py a.py", RETURNS, 1, usage),
+        ("make a.py", RETURNS, 1, usage),
+        ("build b.py", RETURNS, 8, "b.py: no such file\n"),
+        (
+            "build a.py",
+            "def entry_point(argv)\n    return 0\n",
+            16,
+            "a.py: not yet\n",
+        ),
+        (
+            "build a.py",
+            "def entry_point(argv):\n    return x\n",
+            16,
+            "a.py: not yet\n",
+        ),
+        (
+            "build a.py",
+            "def entry_point(argv):\n    print 1\n",
+            16,
+            "a.py: not yet\n",
+        ),
+        (
+            "build a.py",
+            "def entry_point(argv):\n    return 007\n",
+            16,
+            "a.py: not yet\n",
+        ),
+        ("build a.py", "", 16, "a.py: not yet\n"),
+    ] {
+        let words = words_of(alloc, line)?;
+        let mut files = files_of(alloc, "a.py", source.as_bytes())?;
+        let mut out = MemSink::new(alloc);
+        let mut err = MemSink::new(alloc);
+        let tally = Box::new(alloc, Tally::new())?;
+        let leaks = Box::new(alloc, Leaks::new(alloc))?;
+        let mut watch = pair_of(alloc, tally, leaks)?;
+        let answered = rpyc(alloc, &words, &mut files, &mut out, &mut err, &mut watch);
+        assert_eq!(rt; answered, status, "the status of {line:?} on {source:?}");
+        assert_eq!(rt;
+            err.taken(),
+            said.as_bytes(),
+            "what {line:?} said of {source:?}"
+        );
+        assert_eq!(rt;
+            starts_as_text(out.taken()),
+            status == 0,
+            "what {line:?} wrote of {source:?}"
+        );
+        assert_eq!(rt;
+            out.taken().is_empty(),
+            status != 0,
+            "what {line:?} wrote of {source:?}"
+        );
+    }
+    Ok(())
+}
+
+// Row by row: which read fails, which put of out and of err fails after how many bytes.
+#[test]
+fn faults_have_statuses(rt: HostRuntime) -> Result<(), Fail> {
+    let alloc = rt.alloc();
+    for (line, read, out_put, err_put, status, said) in [
+        ("build a.py", true, false, false, 8, "a.py: not read\n"),
+        ("build a.py", false, true, false, 9, ""),
+        ("build b.py", false, false, true, 9, "b.py: n"),
+        ("build a.py", true, false, true, 9, "a.py: n"),
+        ("build a.py", false, false, true, 0, ""),
+    ] {
+        let words = words_of(alloc, line)?;
+        let mut files = files_of(alloc, "a.py", RETURNS.as_bytes())?;
+        let mut out = MemSink::new(alloc);
+        let mut err = MemSink::new(alloc);
+        if read {
+            files.fail_at(0)?;
+        }
+        if out_put {
+            out.fail_at(0, 14);
+        }
+        if err_put {
+            err.fail_at(0, 7);
+        }
+        let mut watch: Vec<Box<dyn HeapWatch>> = Vec::new(alloc);
+        let answered = rpyc(alloc, &words, &mut files, &mut out, &mut err, &mut watch);
+        assert_eq!(rt; answered, status, "{line:?} {read} {out_put} {err_put}");
+        assert_eq!(rt;
+            err.taken(),
+            said.as_bytes(),
+            "{line:?} {read} {out_put} {err_put}"
+        );
+        if out_put {
+            assert_eq!(rt; out.taken(), b"/* C-sub 1 */\n".as_slice());
+        }
+    }
+    Ok(())
+}
+
+#[test]
+fn a_source_past_its_limit_is_too_long(rt: HostRuntime) -> Result<(), Fail> {
+    let alloc = rt.alloc();
+    for (length, status, said) in [
+        (1048576, 16, "dir/a.py: not yet\n"),
+        (1048577, 15, "dir/a.py: too long\n"),
+    ] {
+        let words = words_of(alloc, "build dir/a.py")?;
+        let mut source = Vec::new(alloc);
+        for _ in 0..length {
+            source.push(b'#')?;
+        }
+        let mut files = files_of(alloc, "dir/a.py", source.as_slice())?;
+        let mut out = MemSink::new(alloc);
+        let mut err = MemSink::new(alloc);
+        let mut watch: Vec<Box<dyn HeapWatch>> = Vec::new(alloc);
+        let answered = rpyc(alloc, &words, &mut files, &mut out, &mut err, &mut watch);
+        assert_eq!(rt; answered, status, "{length} bytes");
+        assert_eq!(rt; err.taken(), said.as_bytes(), "{length} bytes");
+    }
+    Ok(())
+}
+
+#[test]
+fn translate_answers_the_text_of_build(rt: HostRuntime) -> Result<(), Fail> {
+    let alloc = rt.alloc();
+    let words = words_of(alloc, "build a.py")?;
+    let mut files = files_of(alloc, "a.py", SUMS.as_bytes())?;
+    let mut out = MemSink::new(alloc);
+    let mut err = MemSink::new(alloc);
+    let mut watch: Vec<Box<dyn HeapWatch>> = Vec::new(alloc);
+    rpyc(alloc, &words, &mut files, &mut out, &mut err, &mut watch);
+    let mut names = Seq::new(alloc);
+    names.push(Text::from_bytes(alloc, b"a")?)?;
+    let mut sources = Seq::new(alloc);
+    sources.push(Text::from_bytes(alloc, SUMS.as_bytes())?)?;
+    let text = translate(alloc, &sources, &names)?;
+    assert_eq!(rt; text.bytes(), out.taken());
+    sources.push(Text::from_bytes(alloc, b"")?)?;
+    names.push(Text::from_bytes(alloc, b"b")?)?;
+    let refused = match translate(alloc, &sources, &names) {
+        Err(TranslateFault::NotYet) => true,
+        _ => false,
+    };
+    assert!(rt; refused);
+    Ok(())
+}
