@@ -3,4 +3,5 @@
 
 mod heap;
 mod operation;
+mod shape;
 mod val;
