@@ -70,3 +70,9 @@ with_item at value block = record block { items = slice_set block.items at value
 abbrev pub IsLive : Bool → Heap → Ptr → Type 0
 IsLive true heap ptr = (e : Entry) × StandsAt heap ptr.key ptr.number e
 IsLive false heap ptr = (e : Entry) → StandsAt heap ptr.key ptr.number e → ⊥
+
+-- f was done to the static of this number, where there is one
+abbrev pub at_static : (Block → Block) → ℕ → List Block → List Block
+at_static f number [] = []
+at_static f zero (block ∷ blocks) = f block ∷ blocks
+at_static f (suc number) (block ∷ blocks) = block ∷ at_static f number blocks

@@ -1,7 +1,11 @@
 //! Runs C files of the subset C-sub 1.
 #![tactic(auto)]
 
+mod calls;
+mod code;
 mod heap;
 mod operation;
+mod outside;
 mod shape;
+mod statics;
 mod val;
