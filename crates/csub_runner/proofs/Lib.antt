@@ -3,5 +3,6 @@ mod Bytes
 mod Erasing
 mod Shapes
 mod Stands
+mod Steps
 mod Types
 mod Written

@@ -4,6 +4,7 @@
 mod calls;
 mod code;
 mod heap;
+mod machine;
 mod operation;
 mod outside;
 mod shape;

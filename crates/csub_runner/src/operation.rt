@@ -1,15 +1,16 @@
 // The operations on values.
-ghost use Rattle.std.specs.Prelude.{◌≡◌, ◌+ℤ◌, ◌-ℤ◌, ◌*ℤ◌, not};
+ghost use Rattle.std.specs.Prelude.{◌≡◌, ◌+ℤ◌, ◌-ℤ◌, ◌*ℤ◌, not, IfOk};
 ghost use Rattle.csub_tree.specs.Operation.{same as same_values, compared, unary_of, binary_of, to_byte as byte_answer, fits};
 ghost use Rattle.csub_tree.specs.State.{Value};
-ghost use Rattle.csub_runner.specs.Erased.{erase, erase_answer};
+ghost use Rattle.csub_runner.specs.Erased.{erase, erase_answer, IsPlain};
 
 use crate::val::{Val, byte_in, flag_in, is_unset, word_in};
 use csub_tree::{CBinary, CUnary, StuckReason};
 use rpy_base::word;
 
 fn to_byte(a: i64) -> Result<Val, StuckReason>
-    ensures { erase_answer result ≡ byte_answer a }
+    ensures is { erase_answer result ≡ byte_answer a }
+    ensures plain { IfOk result IsPlain }
 {
     if a < 0 || 255 < a {
         return Err(StuckReason::Word);
@@ -18,7 +19,8 @@ fn to_byte(a: i64) -> Result<Val, StuckReason>
 }
 
 pub fn unary(op: CUnary, x: Val) -> Result<Val, StuckReason>
-    ensures { erase_answer result ≡ unary_of op (erase x) }
+    ensures is { erase_answer result ≡ unary_of op (erase x) }
+    ensures plain { IfOk result IsPlain }
 {
     match op {
         CUnary::Neg => match word_in(x) {
@@ -62,7 +64,8 @@ fn same(x: Val, y: Val) -> bool
 }
 
 fn compare(x: Val, y: Val) -> Result<Val, StuckReason>
-    ensures { erase_answer result ≡ compared (erase x) (erase y) }
+    ensures is { erase_answer result ≡ compared (erase x) (erase y) }
+    ensures plain { IfOk result IsPlain }
 {
     if is_unset(x) || is_unset(y) {
         return Err(StuckReason::Unset);
@@ -71,7 +74,8 @@ fn compare(x: Val, y: Val) -> Result<Val, StuckReason>
 }
 
 fn compare_flags(x: Val, y: Val) -> Result<Val, StuckReason>
-    ensures { erase_answer result ≡ binary_of CBinary.Beq (erase x) (erase y) }
+    ensures is { erase_answer result ≡ binary_of CBinary.Beq (erase x) (erase y) }
+    ensures plain { IfOk result IsPlain }
 {
     match flag_in(x) {
         Some(a) => match flag_in(y) {
@@ -84,7 +88,8 @@ fn compare_flags(x: Val, y: Val) -> Result<Val, StuckReason>
 
 // The floor of the quotient.
 fn divide(a: i64, b: i64) -> Result<Val, StuckReason>
-    ensures { erase_answer result ≡ binary_of CBinary.Div (Value.Word a) (Value.Word b) }
+    ensures is { erase_answer result ≡ binary_of CBinary.Div (Value.Word a) (Value.Word b) }
+    ensures plain { IfOk result IsPlain }
 {
     if b == 0 {
         return Err(StuckReason::Word);
@@ -94,7 +99,8 @@ fn divide(a: i64, b: i64) -> Result<Val, StuckReason>
 
 // What is left after the floor.
 fn rest(a: i64, b: i64) -> Result<Val, StuckReason>
-    ensures { erase_answer result ≡ binary_of CBinary.Mod (Value.Word a) (Value.Word b) }
+    ensures is { erase_answer result ≡ binary_of CBinary.Mod (Value.Word a) (Value.Word b) }
+    ensures plain { IfOk result IsPlain }
 {
     if b == 0 {
         return Err(StuckReason::Word);
@@ -103,7 +109,8 @@ fn rest(a: i64, b: i64) -> Result<Val, StuckReason>
 }
 
 fn shift_left(a: i64, k: i64) -> Result<Val, StuckReason>
-    ensures { erase_answer result ≡ binary_of CBinary.Shl (Value.Word a) (Value.Word k) }
+    ensures is { erase_answer result ≡ binary_of CBinary.Shl (Value.Word a) (Value.Word k) }
+    ensures plain { IfOk result IsPlain }
 {
     if k < 0 || 63 < k {
         return Err(StuckReason::Word);
@@ -112,7 +119,8 @@ fn shift_left(a: i64, k: i64) -> Result<Val, StuckReason>
 }
 
 fn shift_right(a: i64, k: i64) -> Result<Val, StuckReason>
-    ensures { erase_answer result ≡ binary_of CBinary.Shr (Value.Word a) (Value.Word k) }
+    ensures is { erase_answer result ≡ binary_of CBinary.Shr (Value.Word a) (Value.Word k) }
+    ensures plain { IfOk result IsPlain }
 {
     if k < 0 || 63 < k {
         return Err(StuckReason::Word);
@@ -121,7 +129,8 @@ fn shift_right(a: i64, k: i64) -> Result<Val, StuckReason>
 }
 
 fn shift_overflows(a: i64, k: i64) -> Result<Val, StuckReason>
-    ensures { erase_answer result ≡ binary_of CBinary.ShlOvf (Value.Word a) (Value.Word k) }
+    ensures is { erase_answer result ≡ binary_of CBinary.ShlOvf (Value.Word a) (Value.Word k) }
+    ensures plain { IfOk result IsPlain }
 {
     if k < 0 || 63 < k {
         return Err(StuckReason::Word);
@@ -148,7 +157,8 @@ fn mul_overflows(a: i64, b: i64) -> bool
 }
 
 fn on_two_words(op: CBinary, a: i64, b: i64) -> Result<Val, StuckReason>
-    ensures { erase_answer result ≡ binary_of op (Value.Word a) (Value.Word b) }
+    ensures is { erase_answer result ≡ binary_of op (Value.Word a) (Value.Word b) }
+    ensures plain { IfOk result IsPlain }
 {
     match op {
         CBinary::Add => Ok(Val::Word(word::wrap_add(a, b))),
@@ -178,7 +188,8 @@ fn on_two_words(op: CBinary, a: i64, b: i64) -> Result<Val, StuckReason>
 }
 
 pub fn binary(op: CBinary, x: Val, y: Val) -> Result<Val, StuckReason>
-    ensures { erase_answer result ≡ binary_of op (erase x) (erase y) }
+    ensures is { erase_answer result ≡ binary_of op (erase x) (erase y) }
+    ensures plain { IfOk result IsPlain }
 {
     match op {
         CBinary::Beq => compare_flags(x, y),
