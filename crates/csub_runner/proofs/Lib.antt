@@ -1,6 +1,7 @@
 mod Blocks
 mod Bytes
 mod Erasing
+mod Reached
 mod Shapes
 mod Stands
 mod Steps
