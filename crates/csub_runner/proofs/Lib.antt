@@ -6,4 +6,5 @@ mod Shapes
 mod Stands
 mod Steps
 mod Types
+mod Waits
 mod Written

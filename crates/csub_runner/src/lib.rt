@@ -6,6 +6,7 @@ mod calls;
 mod code;
 mod device;
 mod heap;
+mod jump;
 mod machine;
 mod memory;
 mod operation;
