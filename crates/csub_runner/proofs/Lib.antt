@@ -1,2 +1,10 @@
 mod Blocks
+mod Bytes
+mod Erasing
+mod Reached
+mod Shapes
 mod Stands
+mod Steps
+mod Types
+mod Waits
+mod Written

@@ -46,3 +46,8 @@ raw_constant (CFun f) = RawFun f
 abbrev pub raw_operand : List Val → COperand → Val
 raw_operand vars (Var a) = slice_index_or vars a RawUnset
 raw_operand vars (Const c) = raw_constant c
+
+-- it is no pointer to a block
+abbrev pub IsPlain : Val → Type 0
+IsPlain (RawPtr p) = ⊥
+IsPlain other = Unit {0}

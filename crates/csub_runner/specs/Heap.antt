@@ -1,5 +1,5 @@
 -- The blocks by number, whatever their keys in the slab are.
-use Rattle.std.specs.Prelude.{◌≡◌, ◌==◌, ℕ, zero, suc, ◌+◌, ◌<◌, List, [], ◌∷◌, Option, Some, None, cond, Bool, true, false, IsSome, slice_set}
+use Rattle.std.specs.Prelude.{◌≡◌, ◌==◌, ℕ, zero, suc, ◌+◌, ◌<◌, List, [], ◌∷◌, Option, Some, None, cond, Bool, true, false, IsSome, slice_set, ℤ, pos, negsuc, nat_lt}
 use Rattle.std.specs.List.{All}
 use Rattle.slab.specs.Slab.{get}
 use Rattle.csub_tree.specs.State.{Value, Block}
@@ -70,3 +70,14 @@ with_item at value block = record block { items = slice_set block.items at value
 abbrev pub IsLive : Bool → Heap → Ptr → Type 0
 IsLive true heap ptr = (e : Entry) × StandsAt heap ptr.key ptr.number e
 IsLive false heap ptr = (e : Entry) → StandsAt heap ptr.key ptr.number e → ⊥
+
+-- f was done to the static of this number, where there is one
+abbrev pub at_static : (Block → Block) → ℕ → List Block → List Block
+at_static f number [] = []
+at_static f zero (block ∷ blocks) = f block ∷ blocks
+at_static f (suc number) (block ∷ blocks) = block ∷ at_static f number blocks
+
+-- an index from 0 on and below a length
+abbrev pub index_at : ℤ → ℕ → Option ℕ
+index_at (pos i) len = cond (nat_lt i len) (Some i) None
+index_at (negsuc i) len = None

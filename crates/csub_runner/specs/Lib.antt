@@ -1,3 +1,4 @@
+pub mod Core
 pub mod Erased
 pub mod Heap
 pub mod Waiting

@@ -1,5 +1,5 @@
 -- A call that waits, with the code's values.
-use Rattle.std.specs.Prelude.{ℕ, List, Option}
+use Rattle.std.specs.Prelude.{ℕ, ◌-◌, List, Option, Some, None, length, slice_get, slice_set}
 use Rattle.csub_runner.specs.declared.val.Val.{Val}
 
 pub record Waiting : Type 0 where
@@ -8,3 +8,11 @@ pub record Waiting : Type 0 where
   pub at : ℕ
   pub vars : List Val
   pub into : Option ℕ
+
+-- the innermost one
+abbrev pub raw_last : List Waiting → Option Waiting
+raw_last callers = slice_get callers (length callers - 1)
+
+abbrev pub raw_taken : List Val → Option ℕ → Val → List Val
+raw_taken vars None value = vars
+raw_taken vars (Some a) value = slice_set vars a value

@@ -1,6 +1,16 @@
 //! Runs C files of the subset C-sub 1.
 #![tactic(auto)]
 
+mod access;
+mod calls;
+mod code;
+mod device;
 mod heap;
+mod jump;
+mod machine;
+mod memory;
 mod operation;
+mod outside;
+mod shape;
+mod statics;
 mod val;

@@ -210,9 +210,13 @@ abbrev pub taken_by : List Value → Option ℕ → Value → List Value
 taken_by vars None value = vars
 taken_by vars (Some a) value = slice_set vars a value
 
--- back to who waits, or out of the first call, which ends the run
+-- out of the first call, which ends the run
+abbrev pub ended : Core → Value → After
+ended core value = on (λ n. Over (Returned n) (record core { vars = [] })) (word_of value)
+
+-- back to who waits
 abbrev pub back_to : Core → Value → Option Caller → After
-back_to core value None = on (λ n. Over (Returned n) (record core { vars = [] })) (word_of value)
+back_to core value None = ended core value
 back_to core value (Some caller) = Onward (record core {
   function = caller.function;
   block = caller.block;

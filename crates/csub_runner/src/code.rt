@@ -1,0 +1,69 @@
+// Reading the file that runs.
+ghost use Rattle.std.specs.Prelude.{◌≡◌, ◌++◌, slice_get};
+ghost use Rattle.std.specs.Option.{option_copied};
+ghost use Rattle.csub_tree.specs.Machine.{stmt_in, block_in};
+ghost use Rattle.csub_tree.specs.Statement.{same_type as same_kind, same_types as same_kinds, same_result as same_given};
+
+use csub_tree::{CFile, CFunction, CStmt, CType};
+
+pub fn function_at(file: &CFile, number: u64) -> Option<&CFunction>
+    ensures { option_copied result ≡ slice_get file.now.functions number }
+{
+    file.functions.get(number as usize)
+}
+
+/// The statement at a place.
+pub fn statement(file: &CFile, function: u64, block: u64, at: u64) -> Option<&CStmt>
+    ensures { option_copied result ≡ stmt_in (block_in (slice_get file.now.functions function) block) at }
+{
+    file.functions
+        .get(function as usize)?
+        .blocks
+        .get(block as usize)?
+        .get(at as usize)
+}
+
+/// The type of a variable.
+pub fn type_of(function: &CFunction, a: u64) -> Option<CType>
+    ensures { result ≡ slice_get (function.now.params ++ function.now.locals) a }
+{
+    let params = function.params.len() as u64;
+    if a < params {
+        return function.params.get(a as usize).copied();
+    }
+    function.locals.get((a - params) as usize).copied()
+}
+
+fn same_type(s: CType, t: CType) -> bool
+    ensures { result ≡ same_kind s t }
+{
+    match (s, t) {
+        (CType::Signed, CType::Signed) => true,
+        (CType::Char, CType::Char) => true,
+        (CType::Bool, CType::Bool) => true,
+        (CType::Fn, CType::Fn) => true,
+        (CType::Ptr(m), CType::Ptr(n)) => m == n,
+        _ => false,
+    }
+}
+
+pub fn same_types(ss: &[CType], ts: &[CType]) -> bool
+    ensures { result ≡ same_kinds ss.now ts.now }
+{
+    for i in 0..ss.len() {
+        if i >= ts.len() || !same_type(ss[i], ts[i]) {
+            return false;
+        }
+    }
+    ss.len() == ts.len()
+}
+
+pub fn same_result(s: Option<CType>, t: Option<CType>) -> bool
+    ensures { result ≡ same_given s t }
+{
+    match (s, t) {
+        (None, None) => true,
+        (Some(s), Some(t)) => same_type(s, t),
+        _ => false,
+    }
+}
