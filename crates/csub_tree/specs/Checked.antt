@@ -43,15 +43,14 @@ abbrev pub items_of : Option CStruct → Option CType
 items_of None = None
 items_of (Some s) = s.items
 
--- struct n is m or begins with m; a base has a smaller number, so as many looks as n suffice
-unfoldable mutual
-  pub begins_within : List CStruct → ℕ → ℕ → ℕ → Bool
-  begins_within structs zero n m = n == m
-  begins_within structs (suc k) n m = (n == m) || base_begins structs k (base_of (slice_get structs n)) m
+abbrev pub if_any : (ℕ → Bool) → Option ℕ → Bool
+if_any test None = false
+if_any test (Some n) = test n
 
-  pub base_begins : List CStruct → ℕ → Option ℕ → ℕ → Bool
-  base_begins structs k None m = false
-  base_begins structs k (Some n) m = begins_within structs k n m
+-- struct n is m or begins with m; a base has a smaller number, so as many looks as n suffice
+unfoldable pub begins_within : List CStruct → ℕ → ℕ → ℕ → Bool
+begins_within structs zero n m = n == m
+begins_within structs (suc k) n m = (n == m) || if_any (λ b. begins_within structs k b m) (base_of (slice_get structs n))
 
 abbrev pub begins : List CStruct → ℕ → ℕ → Bool
 begins structs n m = nat_lt n (length structs) && begins_within structs n n m
@@ -317,20 +316,22 @@ fields_ok file n (t ∷ ts) items end = false
 fields_ok file n (t ∷ ts) items (then_cell c cells) = is_plain file n t c && fields_ok file n ts items cells
 
 -- the cells of an inline base come first, in braces
-unfoldable mutual
-  pub cells_within : CFile → ℕ → ℕ → Option CStruct → Cells → Bool
-  cells_within file n zero s cells = false
-  cells_within file n (suc k) None cells = false
-  cells_within file n (suc k) (Some s) cells = based_ok file n k s s.base cells
+abbrev pub based_ok : CFile → ℕ → (ℕ → Cells → Bool) → CStruct → Option ℕ → Cells → Bool
+based_ok file n base_ok s None cells = fields_ok file n s.fields s.items cells
+based_ok file n base_ok s (Some m) (then_cell (Braced base) cells) = base_ok m base && fields_ok file n s.fields s.items cells
+based_ok file n base_ok s (Some m) other = false
 
-  pub based_ok : CFile → ℕ → ℕ → CStruct → Option ℕ → Cells → Bool
-  based_ok file n k s None cells = fields_ok file n s.fields s.items cells
-  based_ok file n k s (Some m) (then_cell (Braced base) cells) = cells_within file n k (slice_get file.structs m) base && fields_ok file n s.fields s.items cells
-  based_ok file n k s (Some m) other = false
+abbrev pub shaped_ok : CFile → ℕ → (ℕ → Cells → Bool) → Option CStruct → Cells → Bool
+shaped_ok file n base_ok None cells = false
+shaped_ok file n base_ok (Some s) cells = based_ok file n base_ok s s.base cells
+
+unfoldable pub cells_within : CFile → ℕ → ℕ → ℕ → Cells → Bool
+cells_within file n zero kind cells = false
+cells_within file n (suc k) kind cells = shaped_ok file n (cells_within file n k) (slice_get file.structs kind) cells
 
 -- a static names earlier statics alone
 abbrev pub static_ok : CFile → ℕ → CStatic → Bool
-static_ok file n g = cells_within file n (suc g.kind) (slice_get file.structs g.kind) (cells_of (map plain_cell g.cells))
+static_ok file n g = cells_within file n (suc g.kind) g.kind (cells_of (map plain_cell g.cells))
 
 -- ---- the file
 
