@@ -4,6 +4,7 @@ use Rattle.std.specs.Prelude.{◌≡◌, ℕ, zero, suc, ◌+◌, ◌-◌, ◌*�
 use Rattle.std.specs.Str.{bytes_eq}
 use Rattle.std.specs.Borrow.{Bor}
 use Rattle.rpy_top.specs.Bytes.{Bytes, Outcome, Reader, and_then, ◌>>=◌, ◌>>◌, pure, refuse, expect, begins, is_digit, name_len, among, is_keyword}
+use Rattle.rpy_top.specs.Program.{is_bound}
 use Rattle.rpy_top.specs.declared.first_path.Arith.{Arith}
 use Rattle.rpy_top.specs.declared.first_path.Arith.TheVariants.{Add, Sub, Mul}
 use Rattle.rpy_top.specs.declared.first_path.Sum.{Sum}
@@ -149,6 +150,11 @@ all_of None = None
 all_of (Some (whole, [])) = Some whole
 all_of (Some (whole, b ∷ bs)) = None
 
+-- a body whose locals are bound where they are read
+abbrev pub if_bound : Option Body → Option Body
+if_bound None = None
+if_bound (Some whole) = if is_bound whole then Some whole else None
+
 -- the program that a text spells, where it is a text of the first path
 abbrev pub first_path : Bytes → Option Body
-first_path i = all_of ((expect (codes "def entry_point(argv):\n") >> body) i)
+first_path i = if_bound (all_of ((expect (codes "def entry_point(argv):\n") >> body) i))

@@ -3,3 +3,4 @@ pub mod Bytes
 pub mod Command
 pub mod FirstPath
 pub mod Lower
+pub mod Program

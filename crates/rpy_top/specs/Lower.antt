@@ -1,9 +1,10 @@
 -- The C file of a program of the first path: functions 0 and 1 print a word, and the last is the program.
-use Rattle.std.specs.Prelude.{ℕ, ◌+◌, ℤ, pos, negsuc, List, [], ◌∷◌, ◌++◌, Option, Some, None, codes, replicate}
-use Rattle.rpy_top.specs.declared.first_path.Arith.{Arith}
-use Rattle.rpy_top.specs.declared.first_path.Arith.TheVariants as arith
-use Rattle.rpy_top.specs.declared.first_path.Sum.{Sum, fold-Sum}
-use Rattle.rpy_top.specs.declared.first_path.Sum.TheOpen.{Sum-F}
+use Rattle.std.specs.Prelude.{ℕ, ◌+◌, ◌-◌, ℤ, pos, negsuc, List, [], ◌∷◌, ◌++◌, Option, Some, None, codes, replicate}
+use Rattle.rpy_tree.specs.Pure.{Expr, Int, Local, Binary}
+use Rattle.rpy_tree.specs.declared.syntax.BinOp.{BinOp}
+use Rattle.rpy_tree.specs.declared.syntax.BinOp.TheVariants as binop
+use Rattle.rpy_top.specs.Program.{expr_of}
+use Rattle.rpy_top.specs.declared.first_path.Sum.{Sum}
 use Rattle.rpy_top.specs.declared.first_path.Line.{Line}
 use Rattle.rpy_top.specs.declared.first_path.Line.TheVariants as line
 use Rattle.rpy_top.specs.declared.first_path.Body.{Body}
@@ -21,10 +22,18 @@ use Rattle.csub_tree.specs.declared.tree.CBinary.TheVariants as op
 use Rattle.csub_tree.specs.declared.tree.CStmt.{CStmt}
 use Rattle.csub_tree.specs.declared.tree.CStmt.TheVariants as stmt
 
-abbrev pub operation : Arith → CBinary
-operation arith.Add = op.Add
-operation arith.Sub = op.Sub
-operation arith.Mul = op.Mul
+abbrev pub operation : BinOp → CBinary
+operation binop.Add = op.Add
+operation binop.Sub = op.Sub
+operation binop.Mul = op.Mul
+operation binop.Div = op.Div
+operation binop.FloorDiv = op.Div
+operation binop.Mod = op.Mod
+operation binop.Shl = op.Shl
+operation binop.Shr = op.Shr
+operation binop.BitAnd = op.And
+operation binop.BitOr = op.Or
+operation binop.BitXor = op.Xor
 
 abbrev pub number : ℤ → COperand
 number z = Const (Word z)
@@ -39,21 +48,18 @@ pub record Code : Type 0 where
 abbrev pub place_in : Code → Place
 place_in c = record { value = c.value; free = c.free }
 
-abbrev pub both : Arith → Code → Code → Code
+abbrev pub both : BinOp → Code → Code → Code
 both f a b = record {
   statements = a.statements ++ b.statements ++ stmt.Binary b.free (operation f) a.value b.value ∷ [];
   value = Var b.free;
   free = b.free + 1;
 }
 
-abbrev pub sum_step : Sum-F (ℕ → Code) → ℕ → Code
-sum_step (Sum-F.Word z) free = record { statements = []; value = number z; free = free }
-sum_step (Sum-F.Local i) free = record { statements = []; value = Var i; free = free }
-sum_step (Sum-F.Binary f a b) free = both f (a free) (b (a free).free)
-
--- a sum, with its variables from this one on
-abbrev pub sum_code : Sum → ℕ → Code
-sum_code = fold-Sum (ℕ → Code) sum_step
+-- an expression, with its variables from this one on; the parameter is never read, so local i + 1 is variable i
+abbrev pub expr_code : Expr → ℕ → Code
+expr_code (Int z) free = record { statements = []; value = number z; free = free }
+expr_code (Local i) free = record { statements = []; value = Var (i - 1); free = free }
+expr_code (Binary f a b) free = both f (expr_code a free) (expr_code b (expr_code a free).free)
 
 -- what is done with a line's value
 abbrev pub use_of : Line → COperand → List CStmt
@@ -72,8 +78,8 @@ after_code before c = record { statements = before ++ c.statements; value = c.va
 
 -- the lines, and then the sum that is returned
 abbrev pub lines_code : List Line → Sum → ℕ → Code
-lines_code [] result free = sum_code result free
-lines_code (l ∷ ls) result free = after_code (line_statements l (sum_code (sum_of l) free)) (lines_code ls result (sum_code (sum_of l) free).free)
+lines_code [] result free = expr_code (expr_of result) free
+lines_code (l ∷ ls) result free = after_code (line_statements l (expr_code (expr_of (sum_of l)) free)) (lines_code ls result (expr_code (expr_of (sum_of l)) free).free)
 
 abbrev pub entry_block : Code → List CStmt
 entry_block c = stmt.Step (number (pos 1)) ∷ c.statements ++ stmt.Return (Some c.value) ∷ []

@@ -1,6 +1,7 @@
 //! The top call: words to a status, with files read and sinks written.
 #![tactic(auto)]
 
+mod bound;
 mod cursor;
 mod fault;
 mod first_path;

@@ -1,6 +1,7 @@
 // A program of the first path to a C file.
 ghost use Rattle.std.specs.Prelude.{◌≡◌, ◌++◌, ◌∷◌, [], ◌+◌, Some, None, OnOk, IfOk, pos, negsuc, drop, codes, replicate};
 ghost use Rattle.rpy_top.specs.Lower as spec;
+ghost use Rattle.rpy_top.specs.Program.{expr_of, operator};
 
 use crate::first_path::{Arith, Body, Line, Sum};
 use csub_tree::{CBinary, CConst, CFile, CFunction, COperand, CPrototype, CStmt, CType};
@@ -8,7 +9,7 @@ use rpy_base::{NoMem, Seq, Text};
 use std::alloc::Global;
 
 fn operation(op: Arith) -> CBinary
-    ensures { result ≡ spec.operation op }
+    ensures { result ≡ spec.operation (operator op) }
 {
     match op {
         Arith::Add => CBinary::Add,
@@ -31,8 +32,8 @@ struct Place {
 }
 
 fn lower_sum(sum: &Sum, free: u64, into: &mut Seq<CStmt>) -> Result<Place, NoMem>
-    ensures statements { OnOk result (into.new ≡ into.old ++ (spec.sum_code sum.now free).statements) }
-    ensures place { IfOk result (λ place. place ≡ spec.place_in (spec.sum_code sum.now free)) }
+    ensures statements { OnOk result (into.new ≡ into.old ++ (spec.expr_code (expr_of sum.now) free).statements) }
+    ensures place { IfOk result (λ place. place ≡ spec.place_in (spec.expr_code (expr_of sum.now) free)) }
 {
     match sum {
         Sum::Word(z) => Ok(Place {
@@ -57,7 +58,7 @@ fn lower_binary(
     right: Place,
     into: &mut Seq<CStmt>,
 ) -> Result<Place, NoMem>
-    ensures statements { OnOk result (into.new ≡ into.old ++ CStmt.Binary right.free (spec.operation op) left right.value ∷ []) }
+    ensures statements { OnOk result (into.new ≡ into.old ++ CStmt.Binary right.free (spec.operation (operator op)) left right.value ∷ []) }
     ensures place { IfOk result (λ place. place ≡ record { value = COperand.Var right.free; free = right.free + 1 }) }
 {
     let Some(free) = right.free.checked_add(1) else {
@@ -105,8 +106,8 @@ fn sum_of(line: &Line) -> &Sum
 }
 
 fn lower_line(alloc: Global, line: &Line, free: u64, into: &mut Seq<CStmt>) -> Result<u64, NoMem>
-    ensures statements { OnOk result (into.new ≡ into.old ++ spec.line_statements line.now (spec.sum_code (spec.sum_of line.now) free)) }
-    ensures free { IfOk result (λ after. after ≡ (spec.sum_code (spec.sum_of line.now) free).free) }
+    ensures statements { OnOk result (into.new ≡ into.old ++ spec.line_statements line.now (spec.expr_code (expr_of (spec.sum_of line.now)) free)) }
+    ensures free { IfOk result (λ after. after ≡ (spec.expr_code (expr_of (spec.sum_of line.now)) free).free) }
 {
     let place = lower_sum(sum_of(line), free, into)?;
     push_use(alloc, line, place.value, into)?;

@@ -4,6 +4,7 @@ ghost use Rattle.rpy_top.specs.Bytes.{Reads, Fails, Gives};
 ghost use Rattle.rpy_top.specs.FirstPath as spec;
 ghost use Rattle.rpy_top.specs.Bytes.{among, is_keyword};
 
+use crate::bound::is_bound;
 use crate::cursor::{Cursor, is_digit};
 use crate::fault::TranslateFault;
 use crate::first_path::{Arith, Body, Line, Sum};
@@ -374,12 +375,18 @@ fn body(alloc: Global, bytes: &mut Cursor<'_>) -> Result<Body, TranslateFault>
     Err(TranslateFault::NotYet)
 }
 
-// A body after which nothing is left.
+// A body after which nothing is left, and whose locals are bound where they are read.
 fn ended(bytes: &Cursor<'_>, whole: Body) -> Result<Body, TranslateFault>
-    ensures { Gives (spec.all_of (Some (whole, bytes.now))) result }
+    ensures { Gives (spec.if_bound (spec.all_of (Some (whole, bytes.now)))) result }
 {
     match bytes.rest() {
-        [] => Ok(whole),
+        [] => {
+            if is_bound(&whole) {
+                Ok(whole)
+            } else {
+                Err(TranslateFault::NotYet)
+            }
+        }
         [_, ..] => Err(TranslateFault::NotYet),
     }
 }
