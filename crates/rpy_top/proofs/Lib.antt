@@ -1,1 +1,5 @@
+mod Digits
+mod Goes
 mod Read
+mod Printing
+mod Quotients
