@@ -1,5 +1,8 @@
+mod Abstract
 mod Digits
 mod Goes
-mod Read
+mod MachineSide
+mod MeanSide
 mod Printing
 mod Quotients
+mod Read

@@ -46,7 +46,7 @@ pub rest_is : (cs : List Caller) (k : Caller) → take (length (cs ++ k ∷ []) 
 rest_is cs k = ap (λ n. take n (cs ++ k ∷ [])) (before_last cs k) ∙ take-append_seam cs (k ∷ [])
 
 module _ (args : List (List ℕ)) (name : List ℕ) (code : Code) where
-  abbrev file : CFile
+  abbrev pub file : CFile
   file = file_of name code
 
   module _ (c : Core) where
