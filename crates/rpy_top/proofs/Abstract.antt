@@ -125,47 +125,47 @@ bind_again i z env e = ap (λ b. cond b (env ++ z ∷ []) (set env i z)) e
 
 pub length_bind : (i : ℕ) (z : ℤ) (env : List ℤ) → length (bind_at i z env) ≡ cond (i == length env) (length env + 1) (length env)
 length_bind i z env = elim (eq_cases i (length env)) [
-    inl e ↦ ap length (bind_next i z env e) ∙ length-append env (z ∷ []) ∙ sym (ap (λ b. cond b (length env + 1) (length env)) e)
+  | inl e ↦ ap length (bind_next i z env e) ∙ length-append env (z ∷ []) ∙ sym (ap (λ b. cond b (length env + 1) (length env)) e)
   | inr e ↦ ap length (bind_again i z env e) ∙ length-set env i z ∙ sym (ap (λ b. cond b (length env + 1) (length env)) e)
-  ]
+]
 
 -- the word that was bound, and the others
 bound_here : (i : ℕ) (z : ℤ) (env : List ℤ) → i ≤ length env → get_or (bind_at i z env) i (pos 0) ≡ z
 bound_here i z env h = elim (eq_cases i (length env)) [
-    inl e ↦ ap (λ l. get_or l i (pos 0)) (bind_next i z env e) ∙ ap (λ n. get_or (env ++ z ∷ []) n (pos 0)) (eq_of i (length env) e) ∙ get_or-append_seam env z [] (pos 0)
+  | inl e ↦ ap (λ l. get_or l i (pos 0)) (bind_next i z env e) ∙ ap (λ n. get_or (env ++ z ∷ []) n (pos 0)) (eq_of i (length env) e) ∙ get_or-append_seam env z [] (pos 0)
   | inr e ↦ ap (λ l. get_or l i (pos 0)) (bind_again i z env e) ∙ get_or-set_at env i i z (pos 0) refl (grind (arith, nat_tests))
-  ]
+]
 
 bound_other : (i j : ℕ) (z : ℤ) (env : List ℤ) → j ≢ i → j < length env → get_or (bind_at i z env) j (pos 0) ≡ get_or env j (pos 0)
 bound_other i j z env other h = elim (eq_cases i (length env)) [
-    inl e ↦ ap (λ l. get_or l j (pos 0)) (bind_next i z env e) ∙ get_or_append_left env (z ∷ []) (pos 0) j h
+  | inl e ↦ ap (λ l. get_or l j (pos 0)) (bind_next i z env e) ∙ get_or_append_left env (z ∷ []) (pos 0) j h
   | inr e ↦ ap (λ l. get_or l j (pos 0)) (bind_again i z env e) ∙ get_or-set_other env i j z (pos 0) other
-  ]
+]
 
 within : (i j : ℕ) (z : ℤ) (env : List ℤ) → i ≤ length env → j ≢ i → j < length (bind_at i z env) → j < length env
 within i j z env h other lt = elim (eq_cases i (length env)) [
-    inl e ↦ omega (arith, ap length (bind_next i z env e), length-append env (z ∷ []), eq_of i (length env) e)
+  | inl e ↦ omega (arith, ap length (bind_next i z env e), length-append env (z ∷ []), eq_of i (length env) e)
   | inr e ↦ omega (arith, ap length (bind_again i z env e), length-set env i z)
-  ]
+]
 
 same_or_not : (j i : ℕ) → (j ≡ i) ⊎ (j ≢ i)
 same_or_not j i = elim (eq_cases j i) [
-    inl e ↦ inl (eq_of j i e)
+  | inl e ↦ inl (eq_of j i e)
   | inr e ↦ inr (λ q. absurd (grind (arith, nat_tests)))
-  ]
+]
 
 pub shows_bind : {A : Type 0} (f : ℤ → A) (d : A) (env : List ℤ) (xs : List A) (i : ℕ) (z : ℤ)
     → Shows f d env xs → i ≤ length env → i < length xs → Shows f d (bind_at i z env) (set xs i (f z))
 shows_bind f d env xs i z shows h room j lt = elim (same_or_not j i) [
-    inl e ↦ get_or-set_at xs i j (f z) d e room ∙ ap f (sym (ap (λ n. get_or (bind_at i z env) n (pos 0)) e ∙ bound_here i z env h))
+  | inl e ↦ get_or-set_at xs i j (f z) d e room ∙ ap f (sym (ap (λ n. get_or (bind_at i z env) n (pos 0)) e ∙ bound_here i z env h))
   | inr other ↦ get_or-set_other xs i j (f z) d other ∙ shows j (within i j z env h other lt) ∙ ap f (sym (bound_other i j z env other (within i j z env h other lt)))
-  ]
+]
 
 pub words_bind : (env : List ℤ) (i : ℕ) (z : ℤ) → AreWords env → IsWord z → i ≤ length env → AreWords (bind_at i z env)
 words_bind env i z words word h j lt = elim (same_or_not j i) [
-    inl e ↦ (let P : ℤ → Type 0 = IsWord in subst P (sym (ap (λ n. get_or (bind_at i z env) n (pos 0)) e ∙ bound_here i z env h)) word)
+  | inl e ↦ (let P : ℤ → Type 0 = IsWord in subst P (sym (ap (λ n. get_or (bind_at i z env) n (pos 0)) e ∙ bound_here i z env h)) word)
   | inr other ↦ (let P : ℤ → Type 0 = IsWord in subst P (sym (bound_other i j z env other (within i j z env h other lt))) (words j (within i j z env h other lt)))
-  ]
+]
 
 -- ---- lines
 
@@ -173,9 +173,9 @@ words_bind env i z words word h j lt = elim (same_or_not j i) [
 pub at_most : (ls : List Line) (result : Sum) (k locals : ℕ) → lines_ok k ls result locals ≡ true → k ≤ locals
 at_most [] result k locals h = omega (arith, eq_of k locals (and_left _ _ h))
 at_most (Assign i s ∷ ls) result k locals h = elim (eq_cases i k) [
-    inl e ↦ omega (arith, at_most ls result (cond (i == k) (k + 1) k) locals (and_right _ _ h), ap (λ b. cond b (k + 1) k) e)
+  | inl e ↦ omega (arith, at_most ls result (cond (i == k) (k + 1) k) locals (and_right _ _ h), ap (λ b. cond b (k + 1) k) e)
   | inr e ↦ omega (arith, at_most ls result (cond (i == k) (k + 1) k) locals (and_right _ _ h), ap (λ b. cond b (k + 1) k) e)
-  ]
+]
 at_most (Print s ∷ ls) result k locals h = at_most ls result k locals (and_right _ _ h)
 
 pub first_ok : (l : Line) (ls : List Line) (result : Sum) (k locals : ℕ) → lines_ok k (l ∷ ls) result locals ≡ true → line_ok k l ≡ true

@@ -16,8 +16,8 @@ onto : (m n : ℕ) (acc : List ℕ) → digits_onto m 10 false n acc ≡ digits_
 onto zero n acc = refl
 onto (suc m) n acc = onto_cond (n / 10 == 0) _ _ _ _ acc refl
     (onto m (n / 10) (digit_glyph false (n % 10) ∷ acc)
-     ∙ sym (append_assoc (digits_of m (n / 10)) (digit_glyph false (n % 10) ∷ []) acc)
-     ∙ ap (λ l. l ++ acc) (sym (onto m (n / 10) (digit_glyph false (n % 10) ∷ []))))
+    ∙ sym (append_assoc (digits_of m (n / 10)) (digit_glyph false (n % 10) ∷ []) acc)
+    ∙ ap (λ l. l ++ acc) (sym (onto m (n / 10) (digit_glyph false (n % 10) ∷ []))))
 
 along : (b c : Bool) (x y : List ℕ) → b ≡ c → cond b x y ≡ cond c x y
 along b c x y e = ap (λ t. cond t x y) e

@@ -37,9 +37,12 @@ module _ (file : CFile) (args : List (List ℕ)) where
   stays a s = (0, λ j. let e : 0 + j ≡ j = omega arith in ap (λ n. run file args n a s []) e)
 
   pub then_goes : (a b c : Core) (s t u : List ℕ) → Goes a s b t → Goes b t c u → Goes a s c u
-  then_goes a b c s t u p q = (p.0 + q.0, λ j.
-      let e : p.0 + q.0 + j ≡ p.0 + (q.0 + j) = omega arith in
-      ap (λ n. run file args n a s []) e ∙ p.1 (q.0 + j) ∙ q.1 j)
+  then_goes a b c s t u p q = (
+    p.0 + q.0,
+    λ j.
+        let e : p.0 + q.0 + j ≡ p.0 + (q.0 + j) = omega arith in
+        ap (λ n. run file args n a s []) e ∙ p.1 (q.0 + j) ∙ q.1 j,
+  )
 
   by_one : (a : Core) (s : List ℕ) (after : After) → step file args a ≡ after → (j : ℕ) → run file args (1 + j) a s [] ≡ follow file (run file args j) a s [] after
   unfolding run

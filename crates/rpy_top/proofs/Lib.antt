@@ -6,3 +6,6 @@ mod MeanSide
 mod Printing
 mod Quotients
 mod Read
+mod Rules
+mod Translation
+mod Whole

@@ -124,57 +124,61 @@ module _ (args : List (List ℕ)) (name : List ℕ) (code : Code) (c : Core) whe
     kept = λ k lt. refl;
   }
   computes (Binary f a b) env free i vars text rest h shows small room e =
-    let ca : Code = expr_code a free in
-    let cb : Code = expr_code b ca.free in
-    let arithmetic : is_arithmetic f ≡ true = and_left _ _ h in
-    let ha : reads_bound (length env) a ≡ true = and_left _ _ (and_right (is_arithmetic f) _ h) in
-    let hb : reads_bound (length env) b ≡ true = and_right (reads_bound (length env) a) _ (and_right (is_arithmetic f) _ h) in
-    let last : CStmt = stmt.Binary cb.free (operation f) ca.value cb.value in
-    let split : drop i statements ≡ ca.statements ++ (cb.statements ++ (last ∷ rest)) =
-          e ∙ append_assoc (ca.statements ++ cb.statements) (last ∷ []) rest ∙ append_assoc ca.statements cb.statements (last ∷ rest) in
-    let up_a : free ≤ ca.free = grows a free in
-    let up_b : ca.free ≤ cb.free = grows b ca.free in
-    let ra : Computed a env free i vars text (cb.statements ++ (last ∷ rest)) =
-          computes a env free i vars text (cb.statements ++ (last ∷ rest)) ha shows small (omega arith) split in
-    let rb : Computed b env ca.free ra.place ra.now text (last ∷ rest) =
-          computes b env ca.free ra.place ra.now text (last ∷ rest) hb (still_shows env free vars ra.now shows ra.kept small) (omega arith) (omega (arith, ra.same_length)) ra.left in
-    let x : operand rb.now ca.value ≡ Word (eval env a) = kept_operand ca.free ra.now rb.now ca.value rb.kept (value_below a (length env) free ha small) ∙ ra.value in
-    let z : ℤ = apply f (eval env a) (eval env b) in
-    let done : does (file args name code) args (at rb.place rb.now) last ≡ Onward (at (rb.place + 1) (slice_set rb.now cb.free (Word z))) =
-          ap (λ v. answered (at rb.place rb.now) cb.free (binary_of (operation f) v (operand rb.now cb.value))) x
-          ∙ ap (λ v. answered (at rb.place rb.now) cb.free (binary_of (operation f) (Word (eval env a)) v)) rb.value
-          ∙ ap (answered (at rb.place rb.now) cb.free) (operate f (eval env a) (eval env b) arithmetic) in
-    let inside : cb.free < length rb.now = omega (arith, ra.same_length, rb.same_length) in
-    record {
-      place = rb.place + 1;
-      now = slice_set rb.now cb.free (Word z);
-      goes = then_goes (file args name code) args _ _ _ _ _ _ ra.goes (then_goes (file args name code) args _ _ _ _ _ _ rb.goes
-          (goes_on (file args name code) args _ _ text (looks rb.place last rest rb.now rb.left ∙ done)));
-      left = drop_next statements rb.place last rest rb.left;
-      value = get_or-set_at rb.now cb.free cb.free (Word z) Unset refl inside;
-      same_length = length-set rb.now cb.free (Word z) ∙ rb.same_length ∙ ra.same_length;
-      kept = λ k lt. get_or-set_other rb.now cb.free k (Word z) Unset (omega arith) ∙ rb.kept k (omega arith) ∙ ra.kept k lt;
-    }
+      let ca : Code = expr_code a free in
+      let cb : Code = expr_code b ca.free in
+      let arithmetic : is_arithmetic f ≡ true = and_left _ _ h in
+      let ha : reads_bound (length env) a ≡ true = and_left _ _ (and_right (is_arithmetic f) _ h) in
+      let hb : reads_bound (length env) b ≡ true = and_right (reads_bound (length env) a) _ (and_right (is_arithmetic f) _ h) in
+      let last : CStmt = stmt.Binary cb.free (operation f) ca.value cb.value in
+      let split : drop i statements ≡ ca.statements ++ (cb.statements ++ (last ∷ rest)) =
+      e ∙ append_assoc (ca.statements ++ cb.statements) (last ∷ []) rest ∙ append_assoc ca.statements cb.statements (last ∷ rest) in
+      let up_a : free ≤ ca.free = grows a free in
+      let up_b : ca.free ≤ cb.free = grows b ca.free in
+      let ra : Computed a env free i vars text (cb.statements ++ (last ∷ rest)) =
+      computes a env free i vars text (cb.statements ++ (last ∷ rest)) ha shows small (omega arith) split in
+      let rb : Computed b env ca.free ra.place ra.now text (last ∷ rest) =
+      computes b env ca.free ra.place ra.now text (last ∷ rest) hb (still_shows env free vars ra.now shows ra.kept small) (omega arith) (omega (arith, ra.same_length)) ra.left in
+      let x : operand rb.now ca.value ≡ Word (eval env a) = kept_operand ca.free ra.now rb.now ca.value rb.kept (value_below a (length env) free ha small) ∙ ra.value in
+      let z : ℤ = apply f (eval env a) (eval env b) in
+      let done : does (file args name code) args (at rb.place rb.now) last ≡ Onward (at (rb.place + 1) (slice_set rb.now cb.free (Word z))) =
+      ap (λ v. answered (at rb.place rb.now) cb.free (binary_of (operation f) v (operand rb.now cb.value))) x
+      ∙ ap (λ v. answered (at rb.place rb.now) cb.free (binary_of (operation f) (Word (eval env a)) v)) rb.value
+      ∙ ap (answered (at rb.place rb.now) cb.free) (operate f (eval env a) (eval env b) arithmetic) in
+      let inside : cb.free < length rb.now = omega (arith, ra.same_length, rb.same_length) in
+      record {
+        place = rb.place + 1;
+        now = slice_set rb.now cb.free (Word z);
+        goes = then_goes (file args name code) args _ _ _ _ _ _ ra.goes (then_goes (file args name code) args _ _ _ _ _ _ rb.goes
+            (goes_on (file args name code) args _ _ text (looks rb.place last rest rb.now rb.left ∙ done)));
+        left = drop_next statements rb.place last rest rb.left;
+        value = get_or-set_at rb.now cb.free cb.free (Word z) Unset refl inside;
+        same_length = length-set rb.now cb.free (Word z) ∙ rb.same_length ∙ ra.same_length;
+        kept = λ k lt. get_or-set_other rb.now cb.free k (Word z) Unset (omega arith) ∙ rb.kept k (omega arith) ∙ ra.kept k lt;
+      }
 
   -- the value of a line is used: it is stored, or printed with a newline
   used : (l : Line) (z : ℤ) (i : ℕ) (vars : List Value) (text : List ℕ) (x : COperand) (rest : List CStmt) → IsWord z
       → operand vars x ≡ Word z → drop i statements ≡ use_of l x ++ rest
       → (place : ℕ) × Goes (file args name code) args (at i vars) text (at place (with_line l z vars)) (text ++ out_by l z) × (drop place statements ≡ rest)
-  used (Assign k s) z i vars text x rest word e left =
-      (i + 1, to_text (file args name code) args _ _ _ _ _ (sym (append-nil text))
-          (goes_on (file args name code) args _ _ text (looks i (stmt.Set k x) rest vars left ∙ ap (set_var (at i vars) k) e)),
-        drop_next statements i (stmt.Set k x) rest left)
+  used (Assign k s) z i vars text x rest word e left = (
+    i + 1,
+    to_text (file args name code) args _ _ _ _ _ (sym (append-nil text))
+        (goes_on (file args name code) args _ _ text (looks i (stmt.Set k x) rest vars left ∙ ap (set_var (at i vars) k) e)),
+    drop_next statements i (stmt.Set k x) rest left,
+  )
   used (Print s) z i vars text x rest word e left =
       let print : CStmt = stmt.Call None 1 (x ∷ []) in
       let newline : CStmt = stmt.Put (number (pos 10)) in
-      let after : drop (i + 1) statements ≡ newline ∷ rest = drop_next statements i print (newline ∷ rest) left in
-      (i + 1 + 1, to_text (file args name code) args _ _ _ _ _ (append_assoc text (signed_decimal z) (10 ∷ []))
-          (then_goes (file args name code) args _ _ _ _ _ _
+      let after : drop (i + 1) statements ≡ newline ∷ rest = drop_next statements i print (newline ∷ rest) left in (
+        i + 1 + 1,
+        to_text (file args name code) args _ _ _ _ _ (append_assoc text (signed_decimal z) (10 ∷ []))
+            (then_goes (file args name code) args _ _ _ _ _ _
             (goes_on (file args name code) args (at i vars) (frame c 1 0 0 (Word z ∷ Unset ∷ Unset ∷ []) ([] ++ waiting 2 0 (i + 1) vars ∷ [])) text
-              (looks i print (newline ∷ rest) vars left ∙ ap (λ v. call (at i vars) None 1 (v ∷ []) (Some print_word)) e))
+            (looks i print (newline ∷ rest) vars left ∙ ap (λ v. call (at i vars) None 1 (v ∷ []) (Some print_word)) e))
             (then_goes (file args name code) args _ _ _ _ _ _ (word_goes args name code c 2 0 (i + 1) vars [] z text word)
-              (puts (file args name code) args (at (i + 1) vars) (at (i + 1 + 1) vars) (text ++ signed_decimal z) 10 (looks (i + 1) newline rest vars after)))),
-        drop_next statements (i + 1) newline rest after)
+            (puts (file args name code) args (at (i + 1) vars) (at (i + 1 + 1) vars) (text ++ signed_decimal z) 10 (looks (i + 1) newline rest vars after)))),
+        drop_next statements (i + 1) newline rest after,
+      )
 
   -- lines, and the sum that is returned
   pub record Went (ls : List Line) (result : Sum) (env : List ℤ) (free i : ℕ) (vars : List Value) (text : List ℕ) (rest : List CStmt) : Type 0 where
@@ -197,67 +201,67 @@ module _ (args : List (List ℕ)) (name : List ℕ) (code : Code) (c : Core) whe
       → lines_ok (length env) ls result locals ≡ true → locals ≤ free → AreWords env → Shows Word Unset env vars → (lines_code ls result free).free ≤ length vars
       → drop i statements ≡ (lines_code ls result free).statements ++ rest → Went ls result env free i vars text rest
   lines_go [] result env locals free i vars text rest ok few words shows room e =
-    let p : Computed (expr_of result) env free i vars text rest =
-          computes (expr_of result) env free i vars text rest (and_right _ _ ok) shows (omega (arith, at_most [] result (length env) locals ok)) room e in
-    record {
-      place = p.place;
-      now = p.now;
-      goes = to_text (file args name code) args _ _ _ _ _ (sym (append-nil text)) p.goes;
-      left = p.left;
-      value = p.value;
-    }
+      let p : Computed (expr_of result) env free i vars text rest =
+      computes (expr_of result) env free i vars text rest (and_right _ _ ok) shows (omega (arith, at_most [] result (length env) locals ok)) room e in
+      record {
+        place = p.place;
+        now = p.now;
+        goes = to_text (file args name code) args _ _ _ _ _ (sym (append-nil text)) p.goes;
+        left = p.left;
+        value = p.value;
+      }
   lines_go (Assign k s ∷ ls) result env locals free i vars text rest ok few words shows room e =
-    let z : ℤ = eval env (expr_of s) in
-    let c1 : Code = expr_code (expr_of s) free in
-    let more : Code = lines_code ls result c1.free in
-    let here : line_ok (length env) (Assign k s) ≡ true = first_ok (Assign k s) ls result (length env) locals ok in
-    let small : k ≤ length env = le_of k (length env) (and_left (nat_le k (length env)) (reads_bound (length env) (expr_of s)) here) in
-    let reads : reads_bound (length env) (expr_of s) ≡ true = and_right (nat_le k (length env)) (reads_bound (length env) (expr_of s)) here in
-    let ok1 : lines_ok (length (bind_at k z env)) ls result locals ≡ true = ap (λ n. lines_ok n ls result locals) (length_bind k z env) ∙ rest_ok (Assign k s) ls result (length env) locals ok in
-    let most : length (bind_at k z env) ≤ locals = at_most ls result (length (bind_at k z env)) locals ok1 in
-    let least : length env ≤ free = omega (arith, at_most (Assign k s ∷ ls) result (length env) locals ok) in
-    let up : free ≤ c1.free = grows (expr_of s) free in
-    let up_more : c1.free ≤ more.free = lines_grow ls result c1.free in
-    let split : drop i statements ≡ c1.statements ++ (use_of (Assign k s) c1.value ++ (more.statements ++ rest)) =
-          e ∙ append_assoc (c1.statements ++ use_of (Assign k s) c1.value) more.statements rest ∙ append_assoc c1.statements (use_of (Assign k s) c1.value) (more.statements ++ rest) in
-    let p : Computed (expr_of s) env free i vars text (use_of (Assign k s) c1.value ++ (more.statements ++ rest)) =
-          computes (expr_of s) env free i vars text (use_of (Assign k s) c1.value ++ (more.statements ++ rest)) reads shows least (omega arith) split in
-    let u = line_went (Assign k s) ls result env free i vars text (more.statements ++ rest) (eval_is_word (expr_of s) env words reads) p in
-    let inside : k < length p.now = bound_place k z env locals (length p.now) small most (omega (arith, p.same_length)) in
-    let w : Went ls result (bind_at k z env) c1.free u.0 (slice_set p.now k (Word z)) (text ++ []) rest =
-          lines_go ls result (bind_at k z env) locals c1.free u.0 (slice_set p.now k (Word z)) (text ++ []) rest ok1 (omega arith)
-            (words_bind env k z words (eval_is_word (expr_of s) env words reads) small)
-            (shows_bind Word Unset env p.now k z (still_shows env free vars p.now shows p.kept least) small inside)
-            (omega (arith, length-set p.now k (Word z), p.same_length)) u.2 in
-    record {
-      place = w.place;
-      now = w.now;
-      goes = to_text (file args name code) args _ _ _ _ _ (append_assoc text [] (lines_out (bind_at k z env) ls)) (then_goes (file args name code) args _ _ _ _ _ _ u.1 w.goes);
-      left = w.left;
-      value = w.value;
-    }
+      let z : ℤ = eval env (expr_of s) in
+      let c1 : Code = expr_code (expr_of s) free in
+      let more : Code = lines_code ls result c1.free in
+      let here : line_ok (length env) (Assign k s) ≡ true = first_ok (Assign k s) ls result (length env) locals ok in
+      let small : k ≤ length env = le_of k (length env) (and_left (nat_le k (length env)) (reads_bound (length env) (expr_of s)) here) in
+      let reads : reads_bound (length env) (expr_of s) ≡ true = and_right (nat_le k (length env)) (reads_bound (length env) (expr_of s)) here in
+      let ok1 : lines_ok (length (bind_at k z env)) ls result locals ≡ true = ap (λ n. lines_ok n ls result locals) (length_bind k z env) ∙ rest_ok (Assign k s) ls result (length env) locals ok in
+      let most : length (bind_at k z env) ≤ locals = at_most ls result (length (bind_at k z env)) locals ok1 in
+      let least : length env ≤ free = omega (arith, at_most (Assign k s ∷ ls) result (length env) locals ok) in
+      let up : free ≤ c1.free = grows (expr_of s) free in
+      let up_more : c1.free ≤ more.free = lines_grow ls result c1.free in
+      let split : drop i statements ≡ c1.statements ++ (use_of (Assign k s) c1.value ++ (more.statements ++ rest)) =
+      e ∙ append_assoc (c1.statements ++ use_of (Assign k s) c1.value) more.statements rest ∙ append_assoc c1.statements (use_of (Assign k s) c1.value) (more.statements ++ rest) in
+      let p : Computed (expr_of s) env free i vars text (use_of (Assign k s) c1.value ++ (more.statements ++ rest)) =
+      computes (expr_of s) env free i vars text (use_of (Assign k s) c1.value ++ (more.statements ++ rest)) reads shows least (omega arith) split in
+      let u = line_went (Assign k s) ls result env free i vars text (more.statements ++ rest) (eval_is_word (expr_of s) env words reads) p in
+      let inside : k < length p.now = bound_place k z env locals (length p.now) small most (omega (arith, p.same_length)) in
+      let w : Went ls result (bind_at k z env) c1.free u.0 (slice_set p.now k (Word z)) (text ++ []) rest =
+      lines_go ls result (bind_at k z env) locals c1.free u.0 (slice_set p.now k (Word z)) (text ++ []) rest ok1 (omega arith)
+      (words_bind env k z words (eval_is_word (expr_of s) env words reads) small)
+      (shows_bind Word Unset env p.now k z (still_shows env free vars p.now shows p.kept least) small inside)
+      (omega (arith, length-set p.now k (Word z), p.same_length)) u.2 in
+      record {
+        place = w.place;
+        now = w.now;
+        goes = to_text (file args name code) args _ _ _ _ _ (append_assoc text [] (lines_out (bind_at k z env) ls)) (then_goes (file args name code) args _ _ _ _ _ _ u.1 w.goes);
+        left = w.left;
+        value = w.value;
+      }
   lines_go (Print s ∷ ls) result env locals free i vars text rest ok few words shows room e =
-    let z : ℤ = eval env (expr_of s) in
-    let c1 : Code = expr_code (expr_of s) free in
-    let more : Code = lines_code ls result c1.free in
-    let out : List ℕ = signed_decimal z ++ 10 ∷ [] in
-    let reads : reads_bound (length env) (expr_of s) ≡ true = first_ok (Print s) ls result (length env) locals ok in
-    let ok1 : lines_ok (length env) ls result locals ≡ true = rest_ok (Print s) ls result (length env) locals ok in
-    let least : length env ≤ free = omega (arith, at_most ls result (length env) locals ok1) in
-    let up : free ≤ c1.free = grows (expr_of s) free in
-    let up_more : c1.free ≤ more.free = lines_grow ls result c1.free in
-    let split : drop i statements ≡ c1.statements ++ (use_of (Print s) c1.value ++ (more.statements ++ rest)) =
-          e ∙ append_assoc (c1.statements ++ use_of (Print s) c1.value) more.statements rest ∙ append_assoc c1.statements (use_of (Print s) c1.value) (more.statements ++ rest) in
-    let p : Computed (expr_of s) env free i vars text (use_of (Print s) c1.value ++ (more.statements ++ rest)) =
-          computes (expr_of s) env free i vars text (use_of (Print s) c1.value ++ (more.statements ++ rest)) reads shows least (omega arith) split in
-    let u = line_went (Print s) ls result env free i vars text (more.statements ++ rest) (eval_is_word (expr_of s) env words reads) p in
-    let w : Went ls result env c1.free u.0 p.now (text ++ out) rest =
-          lines_go ls result env locals c1.free u.0 p.now (text ++ out) rest ok1 (omega arith) words
-            (still_shows env free vars p.now shows p.kept least) (omega (arith, p.same_length)) u.2 in
-    record {
-      place = w.place;
-      now = w.now;
-      goes = to_text (file args name code) args _ _ _ _ _ (append_assoc text out (lines_out env ls)) (then_goes (file args name code) args _ _ _ _ _ _ u.1 w.goes);
-      left = w.left;
-      value = w.value;
-    }
+      let z : ℤ = eval env (expr_of s) in
+      let c1 : Code = expr_code (expr_of s) free in
+      let more : Code = lines_code ls result c1.free in
+      let out : List ℕ = signed_decimal z ++ 10 ∷ [] in
+      let reads : reads_bound (length env) (expr_of s) ≡ true = first_ok (Print s) ls result (length env) locals ok in
+      let ok1 : lines_ok (length env) ls result locals ≡ true = rest_ok (Print s) ls result (length env) locals ok in
+      let least : length env ≤ free = omega (arith, at_most ls result (length env) locals ok1) in
+      let up : free ≤ c1.free = grows (expr_of s) free in
+      let up_more : c1.free ≤ more.free = lines_grow ls result c1.free in
+      let split : drop i statements ≡ c1.statements ++ (use_of (Print s) c1.value ++ (more.statements ++ rest)) =
+      e ∙ append_assoc (c1.statements ++ use_of (Print s) c1.value) more.statements rest ∙ append_assoc c1.statements (use_of (Print s) c1.value) (more.statements ++ rest) in
+      let p : Computed (expr_of s) env free i vars text (use_of (Print s) c1.value ++ (more.statements ++ rest)) =
+      computes (expr_of s) env free i vars text (use_of (Print s) c1.value ++ (more.statements ++ rest)) reads shows least (omega arith) split in
+      let u = line_went (Print s) ls result env free i vars text (more.statements ++ rest) (eval_is_word (expr_of s) env words reads) p in
+      let w : Went ls result env c1.free u.0 p.now (text ++ out) rest =
+      lines_go ls result env locals c1.free u.0 p.now (text ++ out) rest ok1 (omega arith) words
+      (still_shows env free vars p.now shows p.kept least) (omega (arith, p.same_length)) u.2 in
+      record {
+        place = w.place;
+        now = w.now;
+        goes = to_text (file args name code) args _ _ _ _ _ (append_assoc text out (lines_out env ls)) (then_goes (file args name code) args _ _ _ _ _ _ u.1 w.goes);
+        left = w.left;
+        value = w.value;
+      }

@@ -58,22 +58,24 @@ value_is (Binary f a b) env first locals s agrees h =
 abbrev pub later : State → List (Option Value) → List ℕ → State
 later s locals text = record s { locals = locals; out = s.out ++ text }
 
-differs : (m n : ℕ) → (m == n) ≡ false → m ≢ n
+pub differs : (m n : ℕ) → (m == n) ≡ false → m ≢ n
 differs m n e q = absurd (grind (arith, nat_tests))
 
 -- where a line binds there is room
 pub bound_place : (i : ℕ) (z : ℤ) (env : List ℤ) (count room : ℕ) → i ≤ length env → length (bind_at i z env) ≤ count → count ≤ room → i < room
 bound_place i z env count room small most inside = elim (eq_cases i (length env)) [
-    inl e ↦ omega (arith, length_bind i z env, ap (λ b. cond b (length env + 1) (length env)) e)
+  | inl e ↦ omega (arith, length_bind i z env, ap (λ b. cond b (length env + 1) (length env)) e)
   | inr e ↦ omega (arith, length_bind i z env, ap (λ b. cond b (length env + 1) (length env)) e, differs i (length env) e)
-  ]
+]
 
 pub lines_mean : (ls : List Line) (result : Sum) (env : List ℤ) (first : Option Value) (locals : List (Option Value)) (s : State) (count : ℕ)
     → Agrees env first locals s → count ≤ length locals → lines_ok (length env) ls result count ≡ true
     → (now : List (Option Value)) × (block (block_of ls result) s ≡ Done (Returned (Word (lines_result env ls result))) (later s now (lines_out env ls)))
-lines_mean [] result env first locals s count agrees room h =
-    (s.locals, ap (λ r. then_go (then_go r (λ v. pure (Returned v))) (λ flow. next_or flow (block done))) (value_is (expr_of result) env first locals s agrees (and_right _ _ h))
-      ∙ ap (λ t. Done (Returned (Word (eval env (expr_of result)))) (record s { out = t })) (sym (append-nil s.out)))
+lines_mean [] result env first locals s count agrees room h = (
+  s.locals,
+  ap (λ r. then_go (then_go r (λ v. pure (Returned v))) (λ flow. next_or flow (block done))) (value_is (expr_of result) env first locals s agrees (and_right _ _ h))
+      ∙ ap (λ t. Done (Returned (Word (eval env (expr_of result)))) (record s { out = t })) (sym (append-nil s.out)),
+)
 lines_mean (Assign i sum ∷ ls) result env first locals s count agrees room h =
     let z : ℤ = eval env (expr_of sum) in
     let ok : line_ok (length env) (Assign i sum) ≡ true = and_left _ _ h in
@@ -83,18 +85,22 @@ lines_mean (Assign i sum ∷ ls) result env first locals s count agrees room h =
     let inside : i < length locals = bound_place i z env count (length locals) small most room in
     let s1 : State = record s { locals = slice_set s.locals (suc i) (Some (Word z)) } in
     let agrees1 : Agrees (bind_at i z env) first (set locals i (Some (Word z))) s1 =
-          (ap (λ l. slice_set l (suc i) (Some (Word z))) agrees.0, shows_bind as_local None env locals i z agrees.1 small inside, omega (arith, most, room, length-set locals i (Some (Word z)))) in
-    let rest = lines_mean ls result (bind_at i z env) first (set locals i (Some (Word z))) s1 count agrees1 (omega (arith, room, length-set locals i (Some (Word z)))) more_ok in
-    (rest.0, ap (λ r. then_go (then_go r (λ v. set_local (suc i) v >> pure Next)) (λ flow. next_or flow (block (block_of ls result))))
-        (value_is (expr_of sum) env first locals s agrees (and_right _ _ ok)) ∙ rest.1)
+    (ap (λ l. slice_set l (suc i) (Some (Word z))) agrees.0, shows_bind as_local None env locals i z agrees.1 small inside, omega (arith, most, room, length-set locals i (Some (Word z)))) in
+    let rest = lines_mean ls result (bind_at i z env) first (set locals i (Some (Word z))) s1 count agrees1 (omega (arith, room, length-set locals i (Some (Word z)))) more_ok in (
+      rest.0,
+      ap (λ r. then_go (then_go r (λ v. set_local (suc i) v >> pure Next)) (λ flow. next_or flow (block (block_of ls result))))
+          (value_is (expr_of sum) env first locals s agrees (and_right _ _ ok)) ∙ rest.1,
+    )
 lines_mean (Print sum ∷ ls) result env first locals s count agrees room h =
     let z : ℤ = eval env (expr_of sum) in
     let s1 : State = record s { out = s.out ++ (signed_decimal z ++ 10 ∷ []) } in
     let agrees1 : Agrees env first locals s1 = (agrees.0, agrees.1, agrees.2) in
-    let rest = lines_mean ls result env first locals s1 count agrees1 room (and_right _ _ h) in
-    (rest.0, ap (λ r. then_go (then_go (then_go r (λ v. λ t. then_go (add_roots (v ∷ []) (values none t)) (λ vs. pure (v ∷ vs)))) (λ vs. put_if_any (print_line vs) >> pure Next)) (λ flow. next_or flow (block (block_of ls result))))
-        (value_is (expr_of sum) env first locals s agrees (and_left _ _ h)) ∙ rest.1
-      ∙ ap (λ t. Done (Returned (Word (lines_result env ls result))) (record s { locals = rest.0; out = t })) (append_assoc s.out (signed_decimal z ++ 10 ∷ []) (lines_out env ls)))
+    let rest = lines_mean ls result env first locals s1 count agrees1 room (and_right _ _ h) in (
+      rest.0,
+      ap (λ r. then_go (then_go (then_go r (λ v. λ t. then_go (add_roots (v ∷ []) (values none t)) (λ vs. pure (v ∷ vs)))) (λ vs. put_if_any (print_line vs) >> pure Next)) (λ flow. next_or flow (block (block_of ls result))))
+          (value_is (expr_of sum) env first locals s agrees (and_left _ _ h)) ∙ rest.1
+          ∙ ap (λ t. Done (Returned (Word (lines_result env ls result))) (record s { locals = rest.0; out = t })) (append_assoc s.out (signed_decimal z ++ 10 ∷ []) (lines_out env ls)),
+    )
 
 shows_none : {A : Type 0} (f : ℤ → A) (d : A) (xs : List A) → Shows f d [] xs
 shows_none f d xs i lt = absurd (omega arith)
@@ -114,11 +120,11 @@ runs : (body : Body) (args : List (List ℕ)) (n : ℕ) → mean (program_of bod
 runs body args n =
     let e : nat_lt (suc n) 1 ≡ false = grind (arith, nat_tests) in
     ap (λ b. meant_by [] (then_go (cond b (Running (Ref 0 ∷ []) (start args (suc n))) (Done tt (record (start args (suc n)) { left = suc n - 1 })))
-        (λ u. λ s. then_go (with_locals (block (block_of body.lines body.result) (record s { locals = Some (Ref 0) ∷ own_locals body }))) (λ flow. pure (result_of flow))))) e
+    (λ u. λ s. then_go (with_locals (block (block_of body.lines body.result) (record s { locals = Some (Ref 0) ∷ own_locals body }))) (λ flow. pure (result_of flow))))) e
 
 pub mean_is : (body : Body) (args : List (List ℕ)) (n : ℕ) → is_bound body ≡ true
     → (now : List (Option Value)) × (mean (program_of body) args (suc n)
-        ≡ run_of (Done (Returned (Word (lines_result [] body.lines body.result))) (later (entered_at body args n) now (lines_out [] body.lines))))
+    ≡ run_of (Done (Returned (Word (lines_result [] body.lines body.result))) (later (entered_at body args n) now (lines_out [] body.lines))))
 mean_is body args n h =
     let unbound : Option Value = None in
     let many : body.locals ≤ length (own_locals body) = omega (arith, length-replicate (suc body.locals - 1) unbound) in

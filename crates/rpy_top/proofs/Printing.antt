@@ -85,13 +85,13 @@ module _ (args : List (List ℕ)) (name : List ℕ) (code : Code) where
           → Goes file args (frame c 0 2 0 (Word (pos n) ∷ x ∷ y ∷ []) callers) s (frame c f b i vars cs) (s ++ (48 + n % 10) ∷ [])
       last_digit n x y s =
           let rest : step file args (frame c 0 2 0 (Word (pos n) ∷ x ∷ y ∷ []) callers) ≡ Onward (frame c 0 2 1 (with_value n x (pos (n % 10))) callers)
-                = ap (λ z. Onward (frame c 0 2 1 (with_value n x z) callers)) (rest_pos n) in
+          = ap (λ z. Onward (frame c 0 2 1 (with_value n x z) callers)) (rest_pos n) in
           let sum : wrap (pos (n % 10) +ℤ pos 48) ≡ pos (48 + n % 10)
-                = (let e : n % 10 + 48 ≡ 48 + n % 10 = omega arith in ap (λ m. wrap (pos m)) e) ∙ wrap_pos (48 + n % 10) (omega arith) in
+          = (let e : n % 10 + 48 ≡ 48 + n % 10 = omega arith in ap (λ m. wrap (pos m)) e) ∙ wrap_pos (48 + n % 10) (omega arith) in
           let digit : step file args (frame c 0 2 1 (with_value n x (pos (n % 10))) callers) ≡ Onward (frame c 0 2 2 (with_value n x (pos (48 + n % 10))) callers)
-                = ap (λ z. Onward (frame c 0 2 2 (with_value n x z) callers)) sum in
+          = ap (λ z. Onward (frame c 0 2 2 (with_value n x z) callers)) sum in
           then_goes file args _ _ _ _ _ _ (goes_on file args _ _ s rest)
-            (then_goes file args _ _ _ _ _ _ (goes_on file args _ _ s digit) (put_digit n x s))
+          (then_goes file args _ _ _ _ _ _ (goes_on file args _ _ s digit) (put_digit n x s))
 
       -- the first block goes on to the last one, or to that for the digits before
       abbrev first_at : ℕ → ℕ → ℕ → Bool → Core
@@ -101,7 +101,7 @@ module _ (args : List (List ℕ)) (name : List ℕ) (code : Code) where
           → Goes file args (frame c 0 0 0 (Word (pos n) ∷ Unset ∷ Unset ∷ []) callers) s (first_at n (cond t 2 1) 0 t) s
       chosen n t s e =
           then_goes file args _ _ _ _ _ _ (goes_on file args _ (first_at n 0 1 t) s (ap (λ t. Onward (first_at n 0 1 t)) e))
-            (goes_on file args (first_at n 0 1 t) (first_at n (cond t 2 1) 0 t) s refl)
+          (goes_on file args (first_at n 0 1 t) (first_at n (cond t 2 1) 0 t) s refl)
 
       few : (n : ℕ) (s : List ℕ) → n < 10
           → Goes file args (frame c 0 0 0 (Word (pos n) ∷ Unset ∷ Unset ∷ []) callers) s (frame c f b i vars cs) (s ++ (48 + n % 10) ∷ [])
@@ -115,13 +115,13 @@ module _ (args : List (List ℕ)) (name : List ℕ) (code : Code) where
 
       into_digits : (n : ℕ) (s : List ℕ) → 10 ≤ n → n < 2 ^ 63
           → Goes file args (frame c 0 0 0 (Word (pos n) ∷ Unset ∷ Unset ∷ []) callers) s
-              (frame c 0 0 0 (Word (pos (n / 10)) ∷ Unset ∷ Unset ∷ []) (callers ++ waiting 0 1 2 (calling n) ∷ [])) s
+          (frame c 0 0 0 (Word (pos (n / 10)) ∷ Unset ∷ Unset ∷ []) (callers ++ waiting 0 1 2 (calling n) ∷ [])) s
       into_digits n s large small =
           let e : int_lt (pos n) (pos 10) ≡ false = grind (arith, nat_tests) in
           let q : step file args (first_at n 1 0 false) ≡ Onward (frame c 0 1 1 (calling n) callers)
-                = ap (λ z. Onward (frame c 0 1 1 (Word (pos n) ∷ Flag false ∷ Word z ∷ []) callers)) (wrap_pos (n / 10) (omega arith)) in
+          = ap (λ z. Onward (frame c 0 1 1 (Word (pos n) ∷ Flag false ∷ Word z ∷ []) callers)) (wrap_pos (n / 10) (omega arith)) in
           then_goes file args _ _ _ _ _ _ (chosen n false s e)
-            (then_goes file args _ _ _ _ _ _ (goes_on file args _ _ s q) (goes_on file args _ _ s refl))
+          (then_goes file args _ _ _ _ _ _ (goes_on file args _ _ s q) (goes_on file args _ _ s refl))
 
       after_digits : (n : ℕ) (s : List ℕ)
           → Goes file args (frame c 0 1 2 (calling n) callers) s (frame c f b i vars cs) (s ++ (48 + n % 10) ∷ [])
@@ -136,14 +136,14 @@ module _ (args : List (List ℕ)) (name : List ℕ) (code : Code) where
     digits_go zero n f b i vars cs s fits small =
         to_text file args _ _ _ _ _ (ap (λ t. s ++ t) (sym (one_digit 0 n fits))) (few f b i vars cs n s fits)
     digits_go (suc m) n f b i vars cs s fits small = elim (cases_lt n 10) [
-        inl one ↦ to_text file args _ _ _ _ _ (ap (λ t. s ++ t) (sym (one_digit (suc m) n one))) (few f b i vars cs n s one)
+      | inl one ↦ to_text file args _ _ _ _ _ (ap (λ t. s ++ t) (sym (one_digit (suc m) n one))) (few f b i vars cs n s one)
       | inr large ↦
           to_text file args _ _ _ _ _ (append_assoc s (digits_of (suc m) (n / 10)) ((48 + n % 10) ∷ []) ∙ ap (λ t. s ++ t) (sym (more_digits (suc m) n large)))
-            (then_goes file args _ _ _ _ _ _ (into_digits f b i vars cs n s large small)
-              (then_goes file args _ _ _ _ _ _
-                (digits_go m (n / 10) 0 1 2 (calling f b i vars cs n) (callers f b i vars cs) s (fewer m n fits) (omega arith))
-                (after_digits f b i vars cs n (s ++ digits_of (suc m) (n / 10)))))
-      ]
+          (then_goes file args _ _ _ _ _ _ (into_digits f b i vars cs n s large small)
+          (then_goes file args _ _ _ _ _ _
+          (digits_go m (n / 10) 0 1 2 (calling f b i vars cs n) (callers f b i vars cs) s (fewer m n fits) (omega arith))
+          (after_digits f b i vars cs n (s ++ digits_of (suc m) (n / 10)))))
+    ]
 
     module _ (f b i : ℕ) (vars : List Value) (cs : List Caller) where
       -- ---- a word that is not below zero
@@ -155,18 +155,18 @@ module _ (args : List (List ℕ)) (name : List ℕ) (code : Code) where
           → Goes file args (frame c 1 0 0 (Word z ∷ Unset ∷ Unset ∷ []) (callers f b i vars cs)) s (word_at z (cond t 1 4) 0 t) s
       sign_chosen z t s e =
           then_goes file args _ _ _ _ _ _ (goes_on file args _ (word_at z 0 1 t) s (ap (λ t. Onward (word_at z 0 1 t)) e))
-            (goes_on file args (word_at z 0 1 t) (word_at z (cond t 1 4) 0 t) s refl)
+          (goes_on file args (word_at z 0 1 t) (word_at z (cond t 1 4) 0 t) s refl)
 
       not_below : (n : ℕ) (s : List ℕ) → n < 2 ^ 63
           → Goes file args (frame c 1 0 0 (Word (pos n) ∷ Unset ∷ Unset ∷ []) (callers f b i vars cs)) s (frame c f b i vars cs) (s ++ signed_decimal (pos n))
       not_below n s small =
           let e : int_lt (pos n) (pos 0) ≡ false = grind (arith, nat_tests) in
           then_goes file args _ _ _ _ _ _ (sign_chosen (pos n) false s e)
-            (then_goes file args _ _ _ _ _ _ (goes_on file args (word_at (pos n) 4 0 false) _ s refl)
-              (then_goes file args _ _ _ _ _ _
-                (to_text file args _ _ _ _ _ (ap (λ t. s ++ t) (sym (all_digits n)))
-                  (digits_go 63 n 1 4 1 (Word (pos n) ∷ Flag false ∷ Unset ∷ []) (callers f b i vars cs) s (omega arith) small))
-                (goes_on file args (word_at (pos n) 4 1 false) _ _ (backed 1 4 1 f b i (Word (pos n) ∷ Flag false ∷ Unset ∷ []) vars cs))))
+          (then_goes file args _ _ _ _ _ _ (goes_on file args (word_at (pos n) 4 0 false) _ s refl)
+          (then_goes file args _ _ _ _ _ _
+          (to_text file args _ _ _ _ _ (ap (λ t. s ++ t) (sym (all_digits n)))
+          (digits_go 63 n 1 4 1 (Word (pos n) ∷ Flag false ∷ Unset ∷ []) (callers f b i vars cs) s (omega arith) small))
+          (goes_on file args (word_at (pos n) 4 1 false) _ _ (backed 1 4 1 f b i (Word (pos n) ∷ Flag false ∷ Unset ∷ []) vars cs))))
 
       -- ---- a word below zero
 
@@ -182,25 +182,25 @@ module _ (args : List (List ℕ)) (name : List ℕ) (code : Code) where
           → Goes file args (minus_at m 3 0 t x) s (frame c f b i vars cs) (s ++ (48 + suc m % 10) ∷ [])
       last_of_minus m t x s =
           let rest : step file args (minus_at m 3 0 t x) ≡ Onward (minus_at m 3 1 t (Word (neg_ℤ (pos (suc m % 10)))))
-                = ap (λ z. Onward (minus_at m 3 1 t (Word z))) (rest_neg m) in
+          = ap (λ z. Onward (minus_at m 3 1 t (Word z))) (rest_neg m) in
           let digit : step file args (minus_at m 3 1 t (Word (neg_ℤ (pos (suc m % 10))))) ≡ Onward (minus_at m 3 2 t (Word (pos (48 + suc m % 10))))
-                = ap (λ z. Onward (minus_at m 3 2 t (Word z))) (ap wrap (minus_neg (suc m % 10)) ∙ wrap_pos (48 + suc m % 10) (omega arith)) in
+          = ap (λ z. Onward (minus_at m 3 2 t (Word z))) (ap wrap (minus_neg (suc m % 10)) ∙ wrap_pos (48 + suc m % 10) (omega arith)) in
           then_goes file args _ _ _ _ _ _ (goes_on file args _ _ s rest)
-            (then_goes file args _ _ _ _ _ _ (goes_on file args _ _ s digit) (put_last_of m t s))
+          (then_goes file args _ _ _ _ _ _ (goes_on file args _ _ s digit) (put_last_of m t s))
 
       -- the sign, and where it goes on
       minus_put : (m : ℕ) (t : Bool) (s : List ℕ) → m < 2 ^ 63 → int_eq (pos (suc m / 10)) (pos 0) ≡ t
           → Goes file args (frame c 1 0 0 (Word (negsuc m) ∷ Unset ∷ Unset ∷ []) (callers f b i vars cs)) s
-              (minus_at m (cond t 3 2) 0 (Flag t) (Word (pos (suc m / 10)))) (s ++ 45 ∷ [])
+          (minus_at m (cond t 3 2) 0 (Flag t) (Word (pos (suc m / 10)))) (s ++ 45 ∷ [])
       minus_put m t s small e =
           let q : step file args (minus_at m 1 1 (Flag true) Unset) ≡ Onward (minus_at m 1 2 (Flag true) (Word (pos (suc m / 10))))
-                = ap (λ z. Onward (minus_at m 1 2 (Flag true) (Word z))) (wrap_pos (suc m / 10) (omega arith)) in
+          = ap (λ z. Onward (minus_at m 1 2 (Flag true) (Word z))) (wrap_pos (suc m / 10) (omega arith)) in
           then_goes file args _ _ _ _ _ _ (sign_chosen (negsuc m) true s refl)
-            (then_goes file args _ _ _ _ _ _ (puts file args (word_at (negsuc m) 1 0 true) (minus_at m 1 1 (Flag true) Unset) s 45 refl)
-              (then_goes file args _ _ _ _ _ _ (goes_on file args _ _ _ q)
-                (then_goes file args _ _ _ _ _ _
-                  (goes_on file args _ (minus_at m 1 3 (Flag t) (Word (pos (suc m / 10)))) _ (ap (λ u. Onward (minus_at m 1 3 (Flag u) (Word (pos (suc m / 10))))) e))
-                  (goes_on file args (minus_at m 1 3 (Flag t) (Word (pos (suc m / 10)))) (minus_at m (cond t 3 2) 0 (Flag t) (Word (pos (suc m / 10)))) _ refl))))
+          (then_goes file args _ _ _ _ _ _ (puts file args (word_at (negsuc m) 1 0 true) (minus_at m 1 1 (Flag true) Unset) s 45 refl)
+          (then_goes file args _ _ _ _ _ _ (goes_on file args _ _ _ q)
+          (then_goes file args _ _ _ _ _ _
+          (goes_on file args _ (minus_at m 1 3 (Flag t) (Word (pos (suc m / 10)))) _ (ap (λ u. Onward (minus_at m 1 3 (Flag u) (Word (pos (suc m / 10))))) e))
+          (goes_on file args (minus_at m 1 3 (Flag t) (Word (pos (suc m / 10)))) (minus_at m (cond t 3 2) 0 (Flag t) (Word (pos (suc m / 10)))) _ refl))))
 
       signed_text : (s ds : List ℕ) (g : ℕ) → (s ++ 45 ∷ []) ++ ds ++ g ∷ [] ≡ s ++ (45 ∷ (ds ++ g ∷ []))
       signed_text s ds g = append_assoc (s ++ 45 ∷ []) ds (g ∷ []) ∙ append_assoc s (45 ∷ []) (ds ++ g ∷ [])
@@ -208,24 +208,24 @@ module _ (args : List (List ℕ)) (name : List ℕ) (code : Code) where
       below : (m : ℕ) (s : List ℕ) → m < 2 ^ 63
           → Goes file args (frame c 1 0 0 (Word (negsuc m) ∷ Unset ∷ Unset ∷ []) (callers f b i vars cs)) s (frame c f b i vars cs) (s ++ signed_decimal (negsuc m))
       below m s small = elim (cases_lt (suc m) 10) [
-          inl one ↦
+        | inl one ↦
             let z : suc m / 10 ≡ 0 = omega arith in
             let e : int_eq (pos (suc m / 10)) (pos 0) ≡ true = ap (λ q. int_eq (pos q) (pos 0)) z in
             to_text file args _ _ _ _ _
-              (append_assoc s (45 ∷ []) ((48 + suc m % 10) ∷ []) ∙ ap (λ t. s ++ (45 ∷ t)) (sym (one_digit 63 (suc m) one) ∙ sym (all_digits (suc m))))
-              (then_goes file args _ _ _ _ _ _ (minus_put m true s small e) (last_of_minus m (Flag true) _ (s ++ 45 ∷ [])))
+            (append_assoc s (45 ∷ []) ((48 + suc m % 10) ∷ []) ∙ ap (λ t. s ++ (45 ∷ t)) (sym (one_digit 63 (suc m) one) ∙ sym (all_digits (suc m))))
+            (then_goes file args _ _ _ _ _ _ (minus_put m true s small e) (last_of_minus m (Flag true) _ (s ++ 45 ∷ [])))
         | inr large ↦
             let some : 0 < suc m / 10 = omega arith in
             let e : int_eq (pos (suc m / 10)) (pos 0) ≡ false = grind (arith, nat_tests) in
             to_text file args _ _ _ _ _
-              (signed_text s (digits_of 63 (suc m / 10)) (48 + suc m % 10) ∙ ap (λ t. s ++ (45 ∷ t)) (sym (more_digits 63 (suc m) large) ∙ sym (all_digits (suc m))))
-              (then_goes file args _ _ _ _ _ _ (minus_put m false s small e)
-                (then_goes file args _ _ _ _ _ _ (goes_on file args (minus_at m 2 0 (Flag false) (Word (pos (suc m / 10)))) _ _ refl)
-                  (then_goes file args _ _ _ _ _ _
-                    (digits_go 62 (suc m / 10) 1 2 1 (Word (negsuc m) ∷ Flag false ∷ Word (pos (suc m / 10)) ∷ []) (callers f b i vars cs) (s ++ 45 ∷ []) (omega arith) (omega arith))
-                    (then_goes file args _ _ _ _ _ _ (goes_on file args (minus_at m 2 1 (Flag false) (Word (pos (suc m / 10)))) _ _ refl)
-                      (last_of_minus m (Flag false) _ ((s ++ 45 ∷ []) ++ digits_of 63 (suc m / 10)))))))
-        ]
+            (signed_text s (digits_of 63 (suc m / 10)) (48 + suc m % 10) ∙ ap (λ t. s ++ (45 ∷ t)) (sym (more_digits 63 (suc m) large) ∙ sym (all_digits (suc m))))
+            (then_goes file args _ _ _ _ _ _ (minus_put m false s small e)
+            (then_goes file args _ _ _ _ _ _ (goes_on file args (minus_at m 2 0 (Flag false) (Word (pos (suc m / 10)))) _ _ refl)
+            (then_goes file args _ _ _ _ _ _
+            (digits_go 62 (suc m / 10) 1 2 1 (Word (negsuc m) ∷ Flag false ∷ Word (pos (suc m / 10)) ∷ []) (callers f b i vars cs) (s ++ 45 ∷ []) (omega arith) (omega arith))
+            (then_goes file args _ _ _ _ _ _ (goes_on file args (minus_at m 2 1 (Flag false) (Word (pos (suc m / 10)))) _ _ refl)
+            (last_of_minus m (Flag false) _ ((s ++ 45 ∷ []) ++ digits_of 63 (suc m / 10)))))))
+      ]
 
       -- a word is printed
       pub word_goes : (z : ℤ) (s : List ℕ) → IsWord z

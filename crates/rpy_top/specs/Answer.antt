@@ -3,9 +3,12 @@ use Rattle.std.specs.Prelude.{◌≡◌, ◌⊎◌, ℕ, ◌+◌, ◌<◌, ◌�
 use Rattle.rpy_base.specs.Causes.{Rose}
 use Rattle.rpy_base.specs.Reading.{Disk}
 use Rattle.csub_tree.specs.Spelling.{file_text}
-use Rattle.rpy_top.specs.Command.{module_name}
 use Rattle.rpy_top.specs.FirstPath.{first_path}
 use Rattle.rpy_top.specs.Lower.{lowered}
+use Rattle.rpy_top.specs.Program.{program_of}
+use Rattle.rpy_top.specs.Built.{Built}
+use Rattle.rpy_top.specs.declared.fault.TranslateFault.{TranslateFault}
+use Rattle.rpy_top.specs.declared.fault.TranslateFault.TheVariants.{NotYet as Unready, NoMem as NoMemory}
 use Rattle.rpy_top.specs.declared.words.Command.{Command}
 use Rattle.rpy_top.specs.declared.words.Command.TheVariants.{Build}
 use Rattle.rpy_top.specs.declared.first_path.Body.{Body}
@@ -76,23 +79,34 @@ IsTooLong files file = IfSome files.held (λ disk. IfSome (disk file) (λ bytes.
 abbrev pub text_of : List ℕ → Body → List ℕ
 text_of name body = file_text (lowered (name ++ codes ".entry_point") body)
 
-abbrev pub translated : List ℕ → List ℕ → Option (List ℕ)
-translated name bytes = option_map (text_of name) (first_path bytes)
+-- the text is a translation of the program that the source spells
+pub record Translates (source text : List ℕ) : Type 0 where
+  pub body : Body
+  pub spells : first_path source ≡ Some body
+  pub built : Built (program_of body) text
 
-abbrev pub all_translated : List (List ℕ) → List (List ℕ) → Option (List ℕ)
-all_translated (name ∷ []) (bytes ∷ []) = translated name bytes
-all_translated names sources = None
+-- what a call that translates one source answers
+abbrev pub TranslatesTo : List ℕ → Result (List ℕ) TranslateFault → Type 0
+TranslatesTo source (Ok text) = Translates source text
+TranslatesTo source (Err Unready) = first_path source ≡ None
+TranslatesTo source (Err NoMemory) = Unit {0}
+
+-- the same of several sources, of which only one alone is translated
+abbrev pub AllTranslateTo : List (List ℕ) → Result (List ℕ) TranslateFault → Type 0
+AllTranslateTo (source ∷ []) result = TranslatesTo source result
+AllTranslateTo sources (Ok text) = ⊥
+AllTranslateTo sources (Err fault) = Unit {0}
 
 -- when the work on a file ends with each status
 abbrev pub BuildsTo : Status → List ℕ → Filed → Sunk → Type 0
-BuildsTo Done file files out = (bytes : List ℕ) × AreBytes files file bytes × ((text : List ℕ) × (translated (module_name file) bytes ≡ Some text) × Took out text) × AllRead files
+BuildsTo Done file files out = (bytes : List ℕ) × AreBytes files file bytes × ((text : List ℕ) × Translates bytes text × Took out text) × AllRead files
 BuildsTo Usage file files out = ⊥
 BuildsTo NoFile file files out = IsMissing files file × IsQuiet out × AllRead files
 BuildsTo NotRead file files out = Rose files.faults_before files.faults × IsQuiet out
-BuildsTo WriteFault file files out = (bytes : List ℕ) × AreBytes files file bytes × ((text : List ℕ) × (translated (module_name file) bytes ≡ Some text) × TookPart out text) × AllRead files
+BuildsTo WriteFault file files out = (bytes : List ℕ) × AreBytes files file bytes × ((text : List ℕ) × Translates bytes text × TookPart out text) × AllRead files
 BuildsTo NoMem file files out = IsQuiet out × AllRead files
 BuildsTo TooLong file files out = IsTooLong files file × IsQuiet out × AllRead files
-BuildsTo NotYet file files out = (bytes : List ℕ) × AreBytes files file bytes × (translated (module_name file) bytes ≡ None) × IsQuiet out × AllRead files
+BuildsTo NotYet file files out = (bytes : List ℕ) × AreBytes files file bytes × (first_path bytes ≡ None) × IsQuiet out × AllRead files
 
 -- when the work of a call ends with each status
 abbrev pub Works : Status → Option Command → Filed → Sunk → Type 0

@@ -55,7 +55,7 @@ command [] = None
 command (word ∷ words) = if bytes_eq word (codes "build") then build_of words else None
 
 abbrev pub AskedIs : Asked → Option Command → Type 0
-AskedIs (AskedBuild file) what = what ≡ Some (Build (file.now ∷ []))
+AskedIs (AskedBuild file) what = (what ≡ Some (Build (file.now ∷ []))) × (is_file file.now ≡ true)
 AskedIs Nothing what = what ≡ None
 
 -- the command, where the words fit one; want of memory aside

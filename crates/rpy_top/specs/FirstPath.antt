@@ -156,5 +156,8 @@ if_bound None = None
 if_bound (Some whole) = if is_bound whole then Some whole else None
 
 -- the program that a text spells, where it is a text of the first path
-abbrev pub first_path : Bytes → Option Body
-first_path i = if_bound (all_of ((expect (codes "def entry_point(argv):\n") >> body) i))
+abbrev pub spelled_by : Bytes → Option Body
+spelled_by i = all_of ((expect (codes "def entry_point(argv):\n") >> body) i)
+
+unfoldable pub first_path : Bytes → Option Body
+first_path i = if_bound (spelled_by i)

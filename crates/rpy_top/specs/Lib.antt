@@ -1,4 +1,5 @@
 pub mod Answer
+pub mod Built
 pub mod Bytes
 pub mod Command
 pub mod FirstPath

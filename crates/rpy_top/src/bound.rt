@@ -35,13 +35,7 @@ fn bound_by(k: u64, line: &Line) -> u64
     ensures value { result ≡ spec.bound_by k line.now }
 {
     match line {
-        Line::Assign(i, _) => {
-            if *i == k {
-                k + 1
-            } else {
-                k
-            }
-        }
+        Line::Assign(i, _) => { if *i == k { k + 1 } else { k } }
         Line::Print(_) => k,
     }
 }

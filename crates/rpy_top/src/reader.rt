@@ -392,6 +392,7 @@ fn ended(bytes: &Cursor<'_>, whole: Body) -> Result<Body, TranslateFault>
 }
 
 /// The program that a text of the first path spells.
+#[tactic(auto, unfolding(crate::specs::FirstPath::first_path))]
 pub fn first_path(alloc: Global, text: &[u8]) -> Result<Body, TranslateFault>
     ensures { Gives (spec.first_path text.now) result }
 {

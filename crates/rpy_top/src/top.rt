@@ -1,10 +1,9 @@
 // The top call.
-ghost use Rattle.std.specs.Prelude.{◌≡◌, ◌≤◌, ◌<◌, ◌++◌, ◌∷◌, [], length, map, All, Some, None, IfOk, OnOk, Option, List, ℕ, codes, option_map};
+ghost use Rattle.std.specs.Prelude.{◌≡◌, ◌≤◌, ◌<◌, ◌++◌, ◌∷◌, [], length, map, All, Some, None, IfOk, OnOk, true, Option, List, ℕ, codes, option_map};
 ghost use Rattle.rpy_base.specs.Watching.{Seen, IsFresh};
-ghost use Rattle.rpy_top.specs.Bytes.{Gives};
-ghost use Rattle.rpy_top.specs.Command.{command, module_name};
+ghost use Rattle.rpy_top.specs.Command.{command, is_file, is_module_name, is_name};
 ghost use Rattle.rpy_top.specs.declared.status.Status.{Status};
-ghost use Rattle.rpy_top.specs.Answer.{code, limit, sunk, filed, Answers, Works, BuildsTo, Said, PutEnds, Loads, translated, all_translated, text_of, first_file, line};
+ghost use Rattle.rpy_top.specs.Answer.{code, limit, sunk, filed, Answers, Works, BuildsTo, Said, PutEnds, Loads, TranslatesTo, AllTranslateTo, text_of, first_file, line};
 
 use crate::fault::TranslateFault;
 use crate::first_path::Body;
@@ -61,15 +60,21 @@ fn write_program(alloc: Global, name: &[u8], body: &Body) -> Result<Text, NoMem>
 }
 
 fn translate_one(alloc: Global, name: &[u8], source: &[u8]) -> Result<Text, TranslateFault>
-    ensures { Gives (translated name.now source.now) result }
+    requires { is_name name.now ≡ true }
+    ensures { TranslatesTo source.now result }
 {
     match first_path(alloc, source) {
-        Ok(body) => Ok(write_program(alloc, name, &body)?),
+        Ok(body) => match write_program(alloc, name, &body) {
+            Ok(text) => Ok(text),
+            Err(NoMem) => Err(TranslateFault::NoMem),
+        },
         Err(fault) => Err(fault),
     }
 }
 
+#[tactic(auto, using(crate::proofs::Translation::file_named))]
 fn build<F: Files, K: Sink>(alloc: Global, file: &Text, files: &mut F, out: &mut K) -> Status
+    requires { is_file file.now ≡ true }
     ensures held { F.held files.new ≡ F.held files.old }
     ensures builds { BuildsTo result file.now (filed F.held F.faults files.old files.new) (sunk K.faults K.taken out.old out.new) }
 {
@@ -176,14 +181,17 @@ pub fn rpyc<F: Files, K: Sink, E: Sink>(
     say(alloc, worked, words, err).code()
 }
 
-/// The C text of sources, each with its module's name; `NotYet` exactly where they are not one
-/// text of the first path.
+/// The C text of sources, each with its module's name: a translation of the program that they
+/// spell. `NotYet` exactly where they are not one text of the first path.
+#[tactic(auto, using(crate::proofs::Translation::module_named))]
 pub fn translate(
     alloc: Global,
     sources: &Seq<Text>,
     names: &Seq<Text>,
 ) -> Result<Text, TranslateFault>
-    ensures { Gives (all_translated names.now sources.now) result }
+    requires same { length names.now ≡ length sources.now }
+    requires named { All (λ name. is_module_name name ≡ true) names.now }
+    ensures { AllTranslateTo sources.now result }
 {
     match (names.as_slice(), sources.as_slice()) {
         ([name], [source]) => translate_one(alloc, name.bytes(), source.bytes()),

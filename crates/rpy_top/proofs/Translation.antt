@@ -1,0 +1,69 @@
+-- The text of a first-path source is a translation of its program.
+use Rattle.std.proofs.Common.{◌≡◌, ℕ, zero, suc, ◌+◌, ◌<◌, ◌≤◌, ◌⊎◌, Bool, true, false, cond, List, [], ◌∷◌, ◌++◌, length, Option, Some, None, codes, refl, sym, ap, subst, ◌∙◌, arith, inl, inr}
+use Rattle.std.specs.Prelude.{◌&&◌, ◌||◌, ◌==◌, not, nat_le}
+use Rattle.std.proofs.lemmas.Bool.Decides.{nat_tests}
+use Rattle.csub_tree.specs.Checked as checked
+use Rattle.csub_tree.specs.Spelling.{file_text}
+use Rattle.rpy_top.specs.Bytes.{is_name_byte, name_len, is_keyword}
+use Rattle.rpy_top.specs.Command.{is_name, begins_with_letter, is_file, begins_as_file, is_module_name, module_name}
+use Rattle.rpy_top.specs.FirstPath.{first_path, if_bound, spelled_by}
+use Rattle.rpy_top.specs.Program.{is_bound, program_of}
+use Rattle.rpy_top.specs.Lower.{lowered}
+use Rattle.rpy_top.specs.Built.{Built}
+use Rattle.rpy_top.specs.Answer.{text_of, Translates}
+use Rattle.rpy_top.specs.declared.first_path.Body.{Body}
+use Rattle.rpy_top.proofs.Abstract.{and_left, and_right, eq_of}
+use Rattle.rpy_top.proofs.Rules.{and_both, keeps_rules}
+use Rattle.rpy_top.proofs.Whole.{meets_always}
+
+bool_cases : (b : Bool) → (b ≡ true) ⊎ (b ≡ false)
+bool_cases true = inl refl
+bool_cases false = inr refl
+
+-- what may stand in a name may stand in the name of a C function
+byte_ok : (b : ℕ) → is_name_byte b ≡ true → checked.is_name_byte b ≡ true
+byte_ok b h = grind (arith, nat_tests)
+
+dot_ok : checked.is_name (codes ".entry_point") ≡ true
+dot_ok = refl
+
+name_ok : (name : List ℕ) → name_len name ≡ length name → checked.is_name (name ++ codes ".entry_point") ≡ true
+unfolding name_len
+name_ok [] e = dot_ok
+name_ok (b ∷ bs) e = elim (bool_cases (is_name_byte b)) [
+  | inl t ↦ and_both _ _ (byte_ok b t) (name_ok bs (omega (arith, sym (ap (λ x. cond x (suc (name_len bs)) 0) t) ∙ e)))
+  | inr f ↦ absurd (omega (arith, sym (ap (λ x. cond x (suc (name_len bs)) 0) f) ∙ e))
+]
+
+none_some : (body : Body) → None ≡ Some body → ⊥
+none_some body e = cc
+
+some_same : (a b : Body) → Some a ≡ Some b → a ≡ b
+some_same a b e = cc
+
+-- the locals of a first-path text are bound where they are read
+bound_of : (found : Option Body) (body : Body) → if_bound found ≡ Some body → is_bound body ≡ true
+bound_of None body e = absurd cc
+bound_of (Some whole) body e = elim (bool_cases (is_bound whole)) [
+  | inl t ↦ (let same : Some whole ≡ Some body = sym (ap (λ x. cond x (Some whole) None) t) ∙ e in sym (ap is_bound (some_same whole body same)) ∙ t)
+  | inr f ↦ absurd (none_some body (sym (ap (λ x. cond x (Some whole) None) f) ∙ e))
+]
+
+pub built : (name bytes : List ℕ) (body : Body) (text : List ℕ) → is_name name ≡ true → first_path bytes ≡ Some body → text ≡ text_of name body → Built (program_of body) text
+unfolding first_path
+built name bytes body text named spelled is = record {
+  file = lowered (name ++ codes ".entry_point") body;
+  spells = is;
+  checked = keeps_rules (name ++ codes ".entry_point") body (name_ok name (eq_of _ _ (and_right (begins_with_letter name) _ named))) (bound_of (spelled_by bytes) body spelled);
+  meets = λ args steps. meets_always args (name ++ codes ".entry_point") body (bound_of (spelled_by bytes) body spelled) steps;
+}
+
+pub translates : (name bytes : List ℕ) (body : Body) (text : List ℕ) → is_name name ≡ true → first_path bytes ≡ Some body → text ≡ text_of name body → Translates bytes text
+translates name bytes body text named spelled is = record { body = body; spells = spelled; built = built name bytes body text named spelled is }
+
+pub module_named : (name : List ℕ) → is_module_name name ≡ true → is_name name ≡ true
+module_named name h = and_left (is_name name) _ (and_left (is_name name && not (is_keyword name)) _ h)
+
+-- the module's name of a file is a name
+pub file_named : (word : List ℕ) → is_file word ≡ true → is_name (module_name word) ≡ true
+file_named word h = module_named (module_name word) (and_right (begins_as_file word) _ h)
