@@ -5,7 +5,7 @@ use Rattle.std.proofs.lemmas.Bool.Decides.{nat_tests}
 use Rattle.csub_tree.specs.Checked as checked
 use Rattle.csub_tree.specs.Spelling.{file_text}
 use Rattle.rpy_top.specs.Bytes.{is_name_byte, name_len, is_keyword}
-use Rattle.rpy_top.specs.Command.{is_name, begins_with_letter, is_file, begins_as_file, is_module_name, module_name}
+use Rattle.rpy_top.specs.Command.{is_name, begins_with_letter, is_file, begins_as_file, is_module_name, are_module_names, module_name}
 use Rattle.rpy_top.specs.FirstPath.{first_path, if_bound, spelled_by}
 use Rattle.rpy_top.specs.Program.{is_bound, program_of}
 use Rattle.rpy_top.specs.Lower.{lowered}
@@ -67,3 +67,6 @@ module_named name h = and_left (is_name name) _ (and_left (is_name name && not (
 -- the module's name of a file is a name
 pub file_named : (word : List ℕ) → is_file word ≡ true → is_name (module_name word) ≡ true
 file_named word h = module_named (module_name word) (and_right (begins_as_file word) _ h)
+
+pub first_named : (name : List ℕ) (names : List (List ℕ)) → are_module_names (name ∷ names) ≡ true → is_name name ≡ true
+first_named name names h = module_named name (and_left (is_module_name name) _ h)

@@ -37,6 +37,10 @@ is_name name = begins_with_letter name && name_len name == length name
 abbrev pub is_module_name : List ℕ → Bool
 is_module_name name = is_name name && not (is_keyword name) && not (among (codes "os" ∷ codes "sys" ∷ codes "rpython" ∷ []) name)
 
+abbrev pub are_module_names : List (List ℕ) → Bool
+are_module_names [] = true
+are_module_names (name ∷ names) = is_module_name name && are_module_names names
+
 abbrev pub begins_as_file : List ℕ → Bool
 begins_as_file [] = false
 begins_as_file (b ∷ bs) = not (b == 45)

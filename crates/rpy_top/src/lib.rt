@@ -13,7 +13,7 @@ mod words;
 
 pub use fault::TranslateFault;
 pub use top::{LIMIT, rpyc, translate};
-pub use words::{Command, WordsFault, read_words};
+pub use words::{Command, WordsFault, are_module_names, read_words};
 
 #[cfg(test)]
 mod tests;

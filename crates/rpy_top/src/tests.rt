@@ -1,5 +1,5 @@
 // Whole calls over files and sinks in memory.
-use crate::{TranslateFault, rpyc, translate};
+use crate::{TranslateFault, are_module_names, rpyc, translate};
 use rpy_base::{HeapWatch, Leaks, MemFiles, MemSink, NoMem, Seq, Tally, Text, pair_of};
 use std::alloc::Global;
 use std::test::Fail;
@@ -81,9 +81,7 @@ fn words_and_sources_have_statuses(rt: HostRuntime) -> Result<(), Fail> {
         let mut files = files_of(alloc, "a.py", source.as_bytes())?;
         let mut out = MemSink::new(alloc);
         let mut err = MemSink::new(alloc);
-        let tally = Box::new(alloc, Tally::new())?;
-        let leaks = Box::new(alloc, Leaks::new(alloc))?;
-        let mut watch = pair_of(alloc, tally, leaks)?;
+        let mut watch: Vec<Box<dyn HeapWatch>> = Vec::new(alloc);
         let answered = rpyc(alloc, &words, &mut files, &mut out, &mut err, &mut watch);
         assert_eq!(rt; answered, status, "the status of {line:?} on {source:?}");
         assert_eq!(rt;
@@ -102,6 +100,28 @@ fn words_and_sources_have_statuses(rt: HostRuntime) -> Result<(), Fail> {
             "what {line:?} wrote of {source:?}"
         );
     }
+    Ok(())
+}
+
+#[test]
+fn watchers_are_left_as_they_were(rt: HostRuntime) -> Result<(), Fail> {
+    let alloc = rt.alloc();
+    let words = words_of(alloc, "build a.py")?;
+    let mut files = files_of(alloc, "a.py", RETURNS.as_bytes())?;
+    let mut out = MemSink::new(alloc);
+    let mut err = MemSink::new(alloc);
+    let tally = Box::new(alloc, Tally::new())?;
+    let leaks = Box::new(alloc, Leaks::new(alloc))?;
+    let mut watch = pair_of(alloc, tally, leaks)?;
+    rpyc(alloc, &words, &mut files, &mut out, &mut err, &mut watch);
+    let mut texts = Text::new(alloc);
+    for watcher in &watch {
+        texts.append(watcher.report(alloc)?.bytes())?;
+    }
+    assert_eq!(rt;
+        texts.bytes(),
+        b"tally: made 0, gone 0, left 0\nleaks: none\n".as_slice()
+    );
     Ok(())
 }
 
@@ -180,14 +200,38 @@ fn translate_answers_the_text_of_build(rt: HostRuntime) -> Result<(), Fail> {
     names.push(Text::from_bytes(alloc, b"a")?)?;
     let mut sources = Seq::new(alloc);
     sources.push(Text::from_bytes(alloc, SUMS.as_bytes())?)?;
+    assert!(rt; are_module_names(names.as_slice()));
     let text = translate(alloc, &sources, &names)?;
     assert_eq!(rt; text.bytes(), out.taken());
-    sources.push(Text::from_bytes(alloc, b"")?)?;
-    names.push(Text::from_bytes(alloc, b"b")?)?;
+    Ok(())
+}
+
+#[test]
+fn two_sources_are_not_translated_yet(rt: HostRuntime) -> Result<(), Fail> {
+    let alloc = rt.alloc();
+    let mut names = Seq::new(alloc);
+    let mut sources = Seq::new(alloc);
+    for name in ["a", "b"] {
+        names.push(Text::from_bytes(alloc, name.as_bytes())?)?;
+        sources.push(Text::from_bytes(alloc, RETURNS.as_bytes())?)?;
+    }
+    assert!(rt; are_module_names(names.as_slice()));
+    assert_eq!(rt; names.len(), sources.len());
     let refused = match translate(alloc, &sources, &names) {
         Err(TranslateFault::NotYet) => true,
         _ => false,
     };
     assert!(rt; refused);
+    for (name, is_one) in [
+        ("while", false),
+        ("os", false),
+        ("9a", false),
+        ("a.b", false),
+        ("_a9", true),
+    ] {
+        let mut names = Seq::new(alloc);
+        names.push(Text::from_bytes(alloc, name.as_bytes())?)?;
+        assert_eq!(rt; are_module_names(names.as_slice()), is_one, "{name:?}");
+    }
     Ok(())
 }

@@ -1,7 +1,7 @@
 // The top call.
 ghost use Rattle.std.specs.Prelude.{◌≡◌, ◌≤◌, ◌<◌, ◌++◌, ◌∷◌, [], length, map, All, Some, None, IfOk, OnOk, true, Option, List, ℕ, codes, option_map};
 ghost use Rattle.rpy_base.specs.Watching.{Seen, IsFresh};
-ghost use Rattle.rpy_top.specs.Command.{command, is_file, is_module_name, is_name};
+ghost use Rattle.rpy_top.specs.Command.{command, is_file, are_module_names, is_name};
 ghost use Rattle.rpy_top.specs.declared.status.Status.{Status};
 ghost use Rattle.rpy_top.specs.Answer.{code, limit, sunk, filed, Answers, Works, BuildsTo, Said, PutEnds, Loads, TranslatesTo, AllTranslateTo, text_of, first_file, line};
 
@@ -183,14 +183,14 @@ pub fn rpyc<F: Files, K: Sink, E: Sink>(
 
 /// The C text of sources, each with its module's name: a translation of the program that they
 /// spell. `NotYet` exactly where they are not one text of the first path.
-#[tactic(auto, using(crate::proofs::Translation::module_named))]
+#[tactic(auto, using(crate::proofs::Translation::first_named))]
 pub fn translate(
     alloc: Global,
     sources: &Seq<Text>,
     names: &Seq<Text>,
 ) -> Result<Text, TranslateFault>
     requires same { length names.now ≡ length sources.now }
-    requires named { All (λ name. is_module_name name ≡ true) names.now }
+    requires named { are_module_names names.now ≡ true }
     ensures { AllTranslateTo sources.now result }
 {
     match (names.as_slice(), sources.as_slice()) {

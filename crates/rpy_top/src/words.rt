@@ -101,6 +101,19 @@ fn is_module_name(name: &[u8]) -> bool
     is_name(name) && !is_keyword(name) && !is_taken(name)
 }
 
+/// Whether each of these is a name that a module may have: a name, no keyword, and none of `os`,
+/// `sys` and `rpython`.
+pub fn are_module_names(names: &[Text]) -> bool
+    ensures { result ≡ spec.are_module_names names.now }
+{
+    for name in names {
+        if !is_module_name(name.bytes()) {
+            return false;
+        }
+    }
+    true
+}
+
 fn begins_as_file(word: &[u8]) -> bool
     ensures { result ≡ spec.begins_as_file word.now }
 {
