@@ -3,6 +3,7 @@ mod Digits
 mod Goes
 mod MachineSide
 mod MeanSide
+mod Options
 mod Printing
 mod Quotients
 mod Read

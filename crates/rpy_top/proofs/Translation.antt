@@ -1,11 +1,11 @@
 -- The text of a first-path source is a translation of its program.
-use Rattle.std.proofs.Common.{◌≡◌, ℕ, zero, suc, ◌+◌, ◌<◌, ◌≤◌, ◌⊎◌, Bool, true, false, cond, List, [], ◌∷◌, ◌++◌, length, Option, Some, None, codes, refl, sym, ap, subst, ◌∙◌, arith, inl, inr}
+use Rattle.std.proofs.Common.{◌≡◌, ℕ, zero, suc, ◌+◌, ◌<◌, ◌≤◌, ◌⊎◌, Bool, true, false, cond, List, [], ◌∷◌, ◌++◌, length, get_or, Option, Some, None, codes, refl, sym, ap, subst, ◌∙◌, arith, inl, inr}
 use Rattle.std.specs.Prelude.{◌&&◌, ◌||◌, ◌==◌, not, nat_le}
 use Rattle.std.proofs.lemmas.Bool.Decides.{nat_tests}
 use Rattle.csub_tree.specs.Checked as checked
 use Rattle.csub_tree.specs.Spelling.{file_text}
 use Rattle.rpy_top.specs.Bytes.{is_name_byte, name_len, is_keyword}
-use Rattle.rpy_top.specs.Command.{is_name, begins_with_letter, is_file, begins_as_file, is_module_name, are_module_names, module_name}
+use Rattle.rpy_top.specs.Command.{is_name, begins_with_letter, is_file, begins_as_file, is_module_name, are_module_names, module_name, are_sources, names_module, built_file, Building}
 use Rattle.rpy_top.specs.FirstPath.{first_path, if_bound, spelled_by}
 use Rattle.rpy_top.specs.Program.{is_bound, program_of}
 use Rattle.rpy_top.specs.Lower.{lowered}
@@ -70,3 +70,12 @@ file_named word h = module_named (module_name word) (and_right (begins_as_file w
 
 pub first_named : (name : List ℕ) (names : List (List ℕ)) → are_module_names (name ∷ names) ≡ true → is_name name ≡ true
 first_named name names h = module_named name (and_left (is_module_name name) _ h)
+
+-- the one source file that there is
+pub one_file : (files : List (List ℕ)) (file : List ℕ) → length files < 2 → 0 < length files → file ≡ get_or files 0 file → are_sources files ≡ true
+    → (built_file files ≡ Building file) × (is_file file ≡ true)
+one_file [] file few some at h = absurd (omega arith)
+one_file (f ∷ []) file few some at h =
+    let named : is_file f ≡ true = and_left (is_file f) _ (and_left (is_file f && not (names_module (module_name f) [])) _ h) in
+    (ap Building (sym at), ap is_file at ∙ named)
+one_file (f ∷ g ∷ files) file few some at h = absurd (omega arith)

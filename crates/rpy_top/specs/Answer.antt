@@ -9,8 +9,7 @@ use Rattle.rpy_top.specs.Program.{program_of}
 use Rattle.rpy_top.specs.Built.{Built}
 use Rattle.rpy_top.specs.declared.fault.TranslateFault.{TranslateFault}
 use Rattle.rpy_top.specs.declared.fault.TranslateFault.TheVariants.{NotYet as Unready, NoMem as NoMemory}
-use Rattle.rpy_top.specs.declared.words.Command.{Command}
-use Rattle.rpy_top.specs.declared.words.Command.TheVariants.{Build}
+use Rattle.rpy_top.specs.Command.{Brought, Building, NotThere}
 use Rattle.rpy_top.specs.declared.first_path.Body.{Body}
 use Rattle.rpy_top.specs.declared.status.Status.{Status}
 use Rattle.rpy_top.specs.declared.status.Status.TheVariants.{Done, Usage, NoFile, NotRead, WriteFault, NoMem, TooLong, NotYet}
@@ -109,23 +108,20 @@ BuildsTo TooLong file files out = IsTooLong files file × IsQuiet out × AllRead
 BuildsTo NotYet file files out = (bytes : List ℕ) × AreBytes files file bytes × (first_path bytes ≡ None) × IsQuiet out × AllRead files
 
 -- when the work of a call ends with each status
-abbrev pub Works : Status → Option Command → Filed → Sunk → Type 0
-Works status None files out = (status ≡ Usage) × IsQuiet out × AllRead files
-Works status (Some (Build [])) files out = ⊥
-Works status (Some (Build (file ∷ []))) files out = BuildsTo status file files out
-Works status (Some (Build (file ∷ other ∷ more))) files out = ⊥
+abbrev pub Works : Status → Brought → Filed → Sunk → Type 0
+Works status NotThere files out = (status ≡ Usage) × IsQuiet out × AllRead files
+Works status (Building file) files out = BuildsTo status file files out
 
 -- the first file that the words name
-abbrev pub first_file : Option Command → List ℕ
-first_file None = []
-first_file (Some (Build [])) = []
-first_file (Some (Build (file ∷ files))) = file
+abbrev pub first_file : Brought → List ℕ
+first_file NotThere = []
+first_file (Building file) = file
 
 abbrev pub usage_line : List ℕ
 usage_line = codes "usage: rpy COMMAND [OPTION..] FILE.. [-- ARG..]\n"
 
 -- the line for a status; none where nothing is to be written
-abbrev pub line : Status → Option Command → List ℕ
+abbrev pub line : Status → Brought → List ℕ
 line Done what = []
 line Usage what = usage_line
 line NoFile what = first_file what ++ codes ": no such file\n"
@@ -136,14 +132,14 @@ line TooLong what = first_file what ++ codes ": too long\n"
 line NotYet what = first_file what ++ codes ": not yet\n"
 
 -- a call answers the status of its work once the line for it is written to err; else a fault of err, or want of memory
-abbrev pub Said : Status → Status → Option Command → Sunk → Type 0
+abbrev pub Said : Status → Status → Brought → Sunk → Type 0
 Said worked answered what err =
     ((answered ≡ worked) × Took err (line worked what))
     ⊎ ((answered ≡ WriteFault) × TookPart err (line worked what))
     ⊎ ((answered ≡ NoMem) × IsQuiet err)
 
 -- the whole call
-abbrev pub Answers : Status → Option Command → Filed → Sunk → Sunk → Type 0
+abbrev pub Answers : Status → Brought → Filed → Sunk → Sunk → Type 0
 Answers answered what files out err = (worked : Status) × Works worked what files out × Said worked answered what err
 
 -- why a put or a read stopped, and what the sink and the files are then

@@ -5,6 +5,7 @@ mod bound;
 mod cursor;
 mod fault;
 mod first_path;
+mod job;
 mod lower;
 mod reader;
 mod status;
@@ -13,7 +14,7 @@ mod words;
 
 pub use fault::TranslateFault;
 pub use top::{LIMIT, rpyc, translate};
-pub use words::{Command, WordsFault, are_module_names, read_words};
+pub use words::{Command, RunWords, WordsFault, are_module_names, read_words};
 
 #[cfg(test)]
 mod tests;

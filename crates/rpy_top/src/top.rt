@@ -1,16 +1,17 @@
 // The top call.
 ghost use Rattle.std.specs.Prelude.{◌≡◌, ◌≤◌, ◌<◌, ◌++◌, ◌∷◌, [], length, map, All, Some, None, IfOk, OnOk, true, Option, List, ℕ, codes, option_map};
 ghost use Rattle.rpy_base.specs.Watching.{Seen, IsFresh};
-ghost use Rattle.rpy_top.specs.Command.{command, is_file, are_module_names, is_name};
+ghost use Rattle.rpy_top.specs.Command.{command, brought, is_file, are_module_names, is_name};
 ghost use Rattle.rpy_top.specs.declared.status.Status.{Status};
 ghost use Rattle.rpy_top.specs.Answer.{code, limit, sunk, filed, Answers, Works, BuildsTo, Said, PutEnds, Loads, TranslatesTo, AllTranslateTo, text_of, first_file, line};
 
 use crate::fault::TranslateFault;
 use crate::first_path::Body;
+use crate::job::{Job, job_of};
 use crate::lower::lower;
 use crate::reader::first_path;
 use crate::status::Status;
-use crate::words::{Asked, module_name, what_words_ask};
+use crate::words::module_name;
 use genc_writer::write_c;
 use rpy_base::{Files, Got, HeapWatch, NoMem, PutError, ReadError, Seq, Sink, Text};
 use std::alloc::Global;
@@ -94,11 +95,11 @@ fn build<F: Files, K: Sink>(alloc: Global, file: &Text, files: &mut F, out: &mut
 
 fn work<F: Files, K: Sink>(alloc: Global, words: &[Text], files: &mut F, out: &mut K) -> Status
     ensures held { F.held files.new ≡ F.held files.old }
-    ensures works { Works result (command words.now) (filed F.held F.faults files.old files.new) (sunk K.faults K.taken out.old out.new) }
+    ensures works { Works result (brought (command words.now)) (filed F.held F.faults files.old files.new) (sunk K.faults K.taken out.old out.new) }
 {
-    match what_words_ask(words) {
-        Asked::Build(file) => build(alloc, file, files, out),
-        Asked::Nothing => Status::Usage,
+    match job_of(words) {
+        Job::Build(file) => build(alloc, file, files, out),
+        Job::Nothing => Status::Usage,
     }
 }
 
@@ -112,17 +113,17 @@ fn joined(alloc: Global, start: &Text, end: &[u8]) -> Result<Text, NoMem>
 
 // The name of the first file that the words name, and then `end`.
 fn file_line(alloc: Global, words: &[Text], end: &[u8]) -> Result<Text, NoMem>
-    ensures { IfOk result (λ text. text ≡ first_file (command words.now) ++ end.now) }
+    ensures { IfOk result (λ text. text ≡ first_file (brought (command words.now)) ++ end.now) }
 {
-    match what_words_ask(words) {
-        Asked::Build(file) => joined(alloc, file, end),
-        Asked::Nothing => Text::from_bytes(alloc, end),
+    match job_of(words) {
+        Job::Build(file) => joined(alloc, file, end),
+        Job::Nothing => Text::from_bytes(alloc, end),
     }
 }
 
 // The line for a status; empty where nothing is to be written.
 fn line_of(alloc: Global, status: Status, words: &[Text]) -> Result<Text, NoMem>
-    ensures { IfOk result (λ text. text ≡ line status (command words.now)) }
+    ensures { IfOk result (λ text. text ≡ line status (brought (command words.now))) }
 {
     match status {
         Status::Usage => {
@@ -149,7 +150,7 @@ fn put_line<E: Sink>(err: &mut E, text: &Text) -> Result<(), Status>
 
 // Writes the line for a status; where there is none nothing is put.
 fn say<E: Sink>(alloc: Global, status: Status, words: &[Text], err: &mut E) -> Status
-    ensures { Said status result (command words.now) (sunk E.faults E.taken err.old err.new) }
+    ensures { Said status result (brought (command words.now)) (sunk E.faults E.taken err.old err.new) }
 {
     match line_of(alloc, status, words) {
         Err(NoMem) => Status::NoMem,
@@ -171,7 +172,7 @@ pub fn rpyc<F: Files, K: Sink, E: Sink>(
     watch: &mut Vec<Box<dyn HeapWatch>>,
 ) -> u8
     requires { All IsFresh (map (λ w. seen w) watch.old.items) }
-    ensures answers { (status : Status) × (result ≡ code status) × Answers status (command words.now)
+    ensures answers { (status : Status) × (result ≡ code status) × Answers status (brought (command words.now))
         (filed F.held F.faults files.old files.new) (sunk K.faults K.taken out.old out.new) (sunk E.faults E.taken err.old err.new) }
     ensures files { F.held files.new ≡ F.held files.old }
     ensures watchers { watch.new.items ≡ watch.old.items }

@@ -1,0 +1,41 @@
+// The commands that are there so far.
+ghost use Rattle.std.specs.Prelude.{◌≡◌, ◌∷◌, [], true, Some};
+ghost use Rattle.rpy_top.specs.Command as spec;
+ghost use Rattle.rpy_top.specs.Command.{JobIs, brought, command};
+
+use crate::words::{Asked, what_words_ask};
+use rpy_base::Text;
+
+/// What there is to do for a command that is there.
+#[derive(Clone, Copy)]
+pub enum Job<'a> {
+    Build(&'a Text),
+    Nothing,
+}
+
+fn build_of(files: &[Text]) -> Job<'_>
+    requires { spec.are_sources files.now ≡ true }
+    ensures { JobIs result (spec.built_file files.now) }
+{
+    match files {
+        [file] => Job::Build(file),
+        _ => Job::Nothing,
+    }
+}
+
+/// What there is to do for words.
+pub fn job_of(words: &[Text]) -> Job<'_>
+    ensures { JobIs result (brought (command words.now)) }
+{
+    match what_words_ask(words) {
+        Asked::Build(files) => build_of(files),
+        Asked::Check(_) => Job::Nothing,
+        Asked::Annotate(_) => Job::Nothing,
+        Asked::Flow(_) => Job::Nothing,
+        Asked::Run(_) => Job::Nothing,
+        Asked::LlRun(_) => Job::Nothing,
+        Asked::CRun(_) => Job::Nothing,
+        Asked::Sample(_) => Job::Nothing,
+        Asked::Nothing => Job::Nothing,
+    }
+}
