@@ -13,4 +13,5 @@ mod operation;
 mod outside;
 mod shape;
 mod statics;
+mod step;
 mod val;
