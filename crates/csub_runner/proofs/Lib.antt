@@ -1,5 +1,6 @@
 mod Blocks
 mod Bytes
+mod Cells
 mod Erasing
 mod Reached
 mod Shapes

@@ -25,7 +25,7 @@ use Rattle.csub_runner.proofs.Blocks.{vals_at, erased_unset, erased_set}
 use Rattle.csub_runner.proofs.Erasing.{operands_erased}
 use Rattle.csub_runner.proofs.Steps.{got_all}
 
-constant_ok : (heap : Heap) (c : CConst) → ValOk heap (raw_constant c)
+pub constant_ok : (heap : Heap) (c : CConst) → ValOk heap (raw_constant c)
 constant_ok heap (Word n) = tt
 constant_ok heap (Char b) = tt
 constant_ok heap (CBool b) = tt

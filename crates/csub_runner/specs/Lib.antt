@@ -1,4 +1,5 @@
 pub mod Core
 pub mod Erased
 pub mod Heap
+pub mod Parts
 pub mod Waiting

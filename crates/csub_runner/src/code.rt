@@ -1,7 +1,7 @@
 // Reading the file that runs.
 ghost use Rattle.std.specs.Prelude.{◌≡◌, ◌+◌, ◌<◌, ◌^◌, ◌++◌, slice_get, OnSome};
 ghost use Rattle.std.specs.Option.{option_copied};
-ghost use Rattle.csub_tree.specs.Machine.{stmt_in, block_in};
+ghost use Rattle.csub_tree.specs.Machine.{stmt_in, block_in, locals_of as locals_in};
 ghost use Rattle.csub_tree.specs.Statement.{same_type as same_kind, same_types as same_kinds, same_result as same_given, type_in as type_of_var};
 
 use csub_tree::{CFile, CFunction, CStmt, CType};
@@ -80,5 +80,15 @@ pub fn same_result(s: Option<CType>, t: Option<CType>) -> bool
         (None, None) => true,
         (Some(s), Some(t)) => same_type(s, t),
         _ => false,
+    }
+}
+
+/// The variables of a function that are no parameters.
+pub fn locals_of(file: &CFile, number: u64) -> u64
+    ensures { result ≡ locals_in (slice_get file.now.functions number) }
+{
+    match function_at(file, number) {
+        Some(function) => function.locals.len() as u64,
+        None => 0,
     }
 }

@@ -12,6 +12,7 @@ mod memory;
 mod operation;
 mod outside;
 mod shape;
+mod start;
 mod statics;
 mod step;
 mod val;
