@@ -2,6 +2,10 @@ mod Blocks
 mod Bytes
 mod Cells
 mod Erasing
+mod Facts
+mod InStep
+mod Law
+mod Output
 mod Reached
 mod Shapes
 mod Stands

@@ -11,6 +11,7 @@ mod machine;
 mod memory;
 mod operation;
 mod outside;
+mod run;
 mod shape;
 mod start;
 mod statics;

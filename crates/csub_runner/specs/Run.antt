@@ -1,0 +1,86 @@
+-- A whole run: what one statement does to the output and to the watchers, and what stands after the run.
+use Rattle.std.specs.Prelude.{◌≡◌, ℕ, ◌+◌, ◌<◌, ◌≤◌, ◌^◌, List, [], ◌∷◌, ◌++◌, length, map, take, Option, Some, None, option_map, Result, Ok, Err}
+use Rattle.rpy_base.specs.Causes.{Rose}
+use Rattle.rpy_base.specs.Watching.{Seen, Block, after_made, after_gone, first_told}
+use Rattle.csub_tree.specs.State.{Core, Event, Made, Freed, After, Onward, Puts, Told, Over, Stuck}
+use Rattle.csub_tree.specs.Meaning.{Ending, Came, StuckAt, Meant, MeansWithin, RunsOn, made_in, gone_in}
+use Rattle.csub_tree.specs.declared.tree.CFile.{CFile}
+use Rattle.csub_runner.specs.declared.run.CRan.{CRan}
+use Rattle.csub_runner.specs.declared.run.RunFault.{RunFault}
+use Rattle.csub_runner.specs.declared.run.RunFault.TheVariants.{Stuck as FaultStuck, WriteFault, WorkSpent, NoMem}
+use Rattle.csub_runner.specs.declared.run.Stop.{Stop}
+use Rattle.csub_runner.specs.declared.run.Stop.TheVariants.{Ended as StopEnded, Stuck as StopStuck, Spent}
+
+-- what a watcher has seen once it was told of an event, and of several in order
+abbrev pub told : Event → Seen → Seen
+told (Made number kind cells) seen = after_made (number, kind, cells) seen
+told (Freed number) seen = after_gone number seen
+
+abbrev pub told_all : List Event → Seen → Seen
+told_all [] seen = seen
+told_all (event ∷ events) seen = told_all events (told event seen)
+
+-- what a statement puts, and what the watchers are told
+abbrev pub put_by : After → List ℕ
+put_by (Puts byte core) = byte ∷ []
+put_by other = []
+
+abbrev pub told_by : After → List Event
+told_by (Told event core) = event ∷ []
+told_by other = []
+
+-- the run goes on in this state
+abbrev pub GoesOn : After → Core → Type 0
+GoesOn (Onward next) core = core ≡ next
+GoesOn (Puts byte next) core = core ≡ next
+GoesOn (Told event next) core = core ≡ next
+GoesOn (Over outcome next) core = ⊥
+GoesOn (Stuck reason) core = ⊥
+
+-- the run stops so, in this state
+abbrev pub Stops : Core → After → Stop → Core → Type 0
+Stops old (Onward next) stop core = ⊥
+Stops old (Puts byte next) stop core = ⊥
+Stops old (Told event next) stop core = ⊥
+Stops old (Over outcome next) stop core = (stop ≡ StopEnded outcome) × (core ≡ next)
+Stops old (Stuck reason) stop core = (stop ≡ StopStuck reason) × (core ≡ old)
+
+-- what a sink took after what it took before, where it tells it
+abbrev pub HasTaken : Option (List ℕ) → Option (List ℕ) → List ℕ → Type 0
+HasTaken before after bytes = after ≡ option_map (λ taken. taken ++ bytes) before
+
+-- a first part of these bytes was taken
+abbrev pub HasTakenSome : Option (List ℕ) → Option (List ℕ) → List ℕ → Type 0
+HasTakenSome before after bytes = (sent rest : List ℕ) × (bytes ≡ sent ++ rest) × HasTaken before after sent
+
+-- of the bytes that were held and those that were put, the first were taken and the others are held now
+abbrev pub Sends : Option (List ℕ) → Option (List ℕ) → List ℕ → List ℕ → List ℕ → Type 0
+Sends before after held put now = (sent : List ℕ) × (held ++ put ≡ sent ++ now) × HasTaken before after sent
+
+-- the first so many watchers were told of one block more
+abbrev pub SomeTold : List Seen → List Seen → Type 0
+SomeTold before after = (k : ℕ) × (block : Block) × (after ≡ first_told k (after_made block) before)
+
+-- the watchers after a fault: all are as after the same events, or some of them were told of one block more
+abbrev pub WatchersAfter : RunFault → List Seen → List Seen → Type 0
+WatchersAfter NoMem before after = SomeTold before after
+WatchersAfter fault before after = after ≡ before
+
+-- the watchers were told of blocks made and gone, in order, and these are those of the meaning
+abbrev pub ToldOf : Meant → List Seen → List Seen → Type 0
+ToldOf meant before after = (events : List Event) × (meant.made ≡ made_in events) × (meant.gone ≡ gone_in events) × (after ≡ map (told_all events) before)
+
+-- one statement more: the state goes on, what is put is held or taken, each watcher is told, and the blocks are counted
+pub record Advances (after : After) (new : Core) (before now : Option (List ℕ)) (held held_now : List ℕ) (made made_now gone gone_now : ℕ) (seen seen_now : List Seen) : Type 0 where
+  pub goes : GoesOn after new
+  pub sends : Sends before now held (put_by after) held_now
+  pub told_is : seen_now ≡ map (told_all (told_by after)) seen
+  pub made_is : made + length (made_in (told_by after)) < 2 ^ 64 → made_now ≡ made + length (made_in (told_by after))
+  pub gone_is : gone + length (gone_in (told_by after)) < 2 ^ 64 → gone_now ≡ gone + length (gone_in (told_by after))
+
+-- a fault of the sink or of memory
+abbrev pub IsOwnFault : RunFault → Type 0
+IsOwnFault (FaultStuck reason statement) = ⊥
+IsOwnFault WorkSpent = ⊥
+IsOwnFault WriteFault = Unit {0}
+IsOwnFault NoMem = Unit {0}
