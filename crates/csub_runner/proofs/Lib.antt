@@ -7,6 +7,7 @@ mod InStep
 mod Law
 mod Output
 mod Reached
+mod Runs
 mod Shapes
 mod Stands
 mod Steps

@@ -3,7 +3,8 @@ use Rattle.std.specs.Prelude.{◌≡◌, ℕ, ◌+◌, ◌<◌, ◌≤◌, ◌^�
 use Rattle.rpy_base.specs.Causes.{Rose}
 use Rattle.rpy_base.specs.Watching.{Seen, Block, after_made, after_gone, first_told}
 use Rattle.csub_tree.specs.State.{Core, Event, Made, Freed, After, Onward, Puts, Told, Over, Stuck}
-use Rattle.csub_tree.specs.Meaning.{Ending, Came, StuckAt, Meant, MeansWithin, RunsOn, made_in, gone_in}
+use Rattle.csub_tree.specs.Machine.{step, statement_number}
+use Rattle.csub_tree.specs.Meaning.{run, Ran, Ended, Unfinished, Ending, Came, StuckAt, Meant, MeansWithin, RunsOn, made_in, gone_in}
 use Rattle.csub_tree.specs.declared.tree.CFile.{CFile}
 use Rattle.csub_runner.specs.declared.run.CRan.{CRan}
 use Rattle.csub_runner.specs.declared.run.RunFault.{RunFault}
@@ -84,3 +85,32 @@ IsOwnFault (FaultStuck reason statement) = ⊥
 IsOwnFault WorkSpent = ⊥
 IsOwnFault WriteFault = Unit {0}
 IsOwnFault NoMem = Unit {0}
+
+-- how a run of at most so many statements stands when it stops, in this state
+abbrev pub RanTo : ℕ → CFile → List (List ℕ) → Core → Stop → Core → List ℕ → List Event → Type 0
+RanTo most file args start (StopEnded outcome) core text events = (k : ℕ) × (k ≤ most) × (run file args k start [] [] ≡ Ended (Came outcome) core text events)
+RanTo most file args start (StopStuck reason) core text events = (k : ℕ) × (k ≤ most) × (run file args k start [] [] ≡ Ended (StuckAt reason (statement_number file.functions core)) core text events)
+RanTo most file args start Spent core text events = run file args most start [] [] ≡ Unfinished core text events
+
+-- the run stopped: of its text the first part was taken and the rest is held, and each watcher was told of each block
+pub record Finished (most : ℕ) (file : CFile) (args : List (List ℕ)) (start : Core) (stop : Stop) (core : Core) (before now : Option (List ℕ)) (held : List ℕ) (made gone : ℕ) (seen seen_now : List Seen) : Type 0 where
+  pub text : List ℕ
+  pub events : List Event
+  pub ran : RanTo most file args start stop core text events
+  pub sent : List ℕ
+  pub text_is : text ≡ sent ++ held
+  pub taken : HasTaken before now sent
+  pub told_is : seen_now ≡ map (told_all events) seen
+  pub made_is : made ≡ length (made_in events)
+  pub gone_is : gone ≡ length (gone_in events)
+
+-- a fault came in the statement after so many others: the first part of what the run puts was taken
+pub record Broken (most : ℕ) (file : CFile) (args : List (List ℕ)) (start : Core) (fault : RunFault) (before now : Option (List ℕ)) (seen seen_now : List Seen) : Type 0 where
+  pub k : ℕ
+  pub core : Core
+  pub text : List ℕ
+  pub events : List Event
+  pub inside : k < most
+  pub ran : run file args k start [] [] ≡ Unfinished core text events
+  pub some : HasTakenSome before now (text ++ put_by (step file args core))
+  pub watchers : WatchersAfter fault (map (told_all events) seen) seen_now

@@ -1,5 +1,5 @@
 // A whole run.
-ghost use Rattle.std.specs.Prelude.{◌≡◌, List, [], ◌∷◌, ◌++◌, length, map, All, Err, OnOk, OnErr, IsErrOf, IfOk, IfErr, IfSome};
+ghost use Rattle.std.specs.Prelude.{◌≡◌, ◌≤◌, ◌^◌, List, [], ◌∷◌, ◌++◌, length, map, All, Err, OnOk, OnErr, IsErrOf, IfOk, IfErr, IfSome};
 ghost use Rattle.std.specs.Option.{IfNone};
 ghost use Rattle.csub_tree.specs.Layout.{shapes_of as shapes_as};
 ghost use Rattle.csub_tree.specs.Machine.{step as steps_to};
@@ -7,7 +7,7 @@ ghost use Rattle.csub_runner.specs.Core.{core_of, MachineOk};
 ghost use Rattle.csub_runner.specs.Synced.{Synced};
 ghost use Rattle.rpy_base.specs.Causes.{Rose};
 ghost use Rattle.csub_tree.specs.declared.stuck.StuckReason.{StuckReason};
-ghost use Rattle.csub_runner.specs.Run.{HasTaken, HasTakenSome, Sends, Advances, Stops, put_by, WatchersAfter, IsOwnFault};
+ghost use Rattle.csub_runner.specs.Run.{HasTaken, HasTakenSome, Sends, Advances, Stops, put_by, WatchersAfter, IsOwnFault, Finished, Broken};
 
 use crate::machine::{Machine, Next};
 use crate::shape::{Shape, shapes_of};
@@ -164,6 +164,42 @@ fn advance<K: Sink>(
         Next::Ends(outcome) => Ok(Some(Stop::Ended(outcome))),
         Next::Stuck(reason) => Ok(Some(Stop::Stuck(reason))),
     }
+}
+
+// At most so many statements.
+fn run_on<K: Sink>(
+    alloc: Global,
+    file: &CFile,
+    shapes: &Vec<Shape>,
+    args: &[Text],
+    most: u64,
+    machine: &mut Machine,
+    log: &mut Log,
+    out: &mut K,
+    watch: &mut Vec<Box<dyn HeapWatch>>,
+) -> Result<Stop, RunFault>
+    requires most { most ≤ 2 ^ 63 }
+    requires ok { MachineOk machine.old }
+    requires shapes { shapes.now.items ≡ shapes_as file.now.structs }
+    requires synced { All (Synced (core_of machine.old).blocks) (map (λ w. seen w) watch.old.items) }
+    requires held { log.old.held.items ≡ [] }
+    requires made { log.old.made ≡ 0 }
+    requires gone { log.old.gone ≡ 0 }
+    ensures finished { IfOk result (λ stop. Finished most file.now args.now (core_of machine.old) stop (core_of machine.new) (K.taken out.old) (K.taken out.new) log.new.held.items log.new.made log.new.gone
+        (map (λ w. seen w) watch.old.items) (map (λ w. seen w) watch.new.items)) }
+    ensures broken { IfErr result (λ fault. Broken most file.now args.now (core_of machine.old) fault (K.taken out.old) (K.taken out.new) (map (λ w. seen w) watch.old.items) (map (λ w. seen w) watch.new.items)) }
+    ensures calm { OnOk result (K.faults out.new ≡ K.faults out.old) }
+    ensures fault { IsErrOf result RunFault.WriteFault → Rose (K.faults out.old) (K.faults out.new) }
+    ensures causes { IfErr result IsOwnFault }
+{
+    for _ in 0..most {
+        match advance(alloc, file, shapes, args, machine, log, out, watch) {
+            Ok(None) => {}
+            Ok(Some(stop)) => return Ok(stop),
+            Err(fault) => return Err(fault),
+        }
+    }
+    Ok(Stop::Spent)
 }
 
 const MOST_HELD: usize = 4096;
