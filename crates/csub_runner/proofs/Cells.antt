@@ -1,17 +1,16 @@
 -- The constants of statics that wait to be read.
-use Rattle.std.proofs.Common.{◌≡◌, ℕ, ◌+◌, ◌++◌, ◌<◌, ◌≤◌, List, [], ◌∷◌, length, zero, suc, take, drop, map, get_or, refl, sym, ap, ◌∙◌, append_assoc, Bor, arith, rules, Some, replicate, subst}
-use Rattle.std.specs.Prelude.{sum_by, Option}
+use Rattle.std.proofs.Common.{◌≡◌, ℕ, ◌+◌, ◌++◌, ◌<◌, ◌≤◌, List, [], ◌∷◌, length, zero, suc, take, drop, map, get_or, refl, sym, ap, ◌∙◌, append_assoc, Bor, arith}
+use Rattle.std.specs.Prelude.{sum_by}
 use Rattle.std.specs.List.{All}
 use Rattle.std.proofs.lemmas.List.{append-nil, map-append}
-use Rattle.std.proofs.lemmas.List.Elements.{All-same, All-push, All-map, All-take, All-drop}
+use Rattle.std.proofs.lemmas.List.Elements.{All-same, All-map, All-take, All-drop}
 use Rattle.csub_tree.specs.Layout.{cell_constants, joined, constant}
-use Rattle.csub_tree.specs.State.{Value}
 use Rattle.csub_tree.specs.declared.tree.CConst.{CConst}
 use Rattle.csub_tree.specs.declared.tree.CCell.{CCell}
 use Rattle.csub_runner.specs.Erased.{erase, erase_all, erase_cells, raw_constant}
 use Rattle.csub_runner.specs.Heap.{ValOk, CellsOk}
 use Rattle.csub_runner.specs.declared.val.Cells.{Cells}
-use Rattle.csub_runner.specs.Parts.{weight, IsPart}
+use Rattle.csub_runner.specs.Parts.{weight}
 use Rattle.csub_runner.specs.declared.val.Val.{Val}
 use Rattle.csub_runner.specs.declared.heap.Heap.{Heap}
 use Rattle.csub_runner.proofs.Erasing.{constant_erased}

@@ -1,5 +1,5 @@
 -- What the code's answer tells of a statement.
-use Rattle.std.proofs.Common.{◌≡◌, ℕ, ◌+◌, ◌<◌, ◌^◌, ◌-◌, min, List, [], ◌∷◌, ◌++◌, length, map, get_or, refl, sym, ap, ◌∙◌, Some, None, subst, arith}
+use Rattle.std.proofs.Common.{◌≡◌, ℕ, ◌+◌, ◌<◌, ◌^◌, ◌-◌, min, List, [], ◌∷◌, length, map, get_or, refl, sym, ap, ◌∙◌, None, subst, arith}
 use Rattle.std.specs.Prelude.{Option, IsSome}
 use Rattle.std.specs.List.{All}
 use Rattle.rpy_base.specs.Watching.{Seen, CanMake, CanGo, after_made, after_gone}

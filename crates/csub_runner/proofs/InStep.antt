@@ -1,10 +1,10 @@
 -- Watchers stay in step with the heap.
-use Rattle.std.proofs.Common.{◌≡◌, ◌≢◌, ◌⊎◌, inl, inr, ℕ, zero, suc, ◌+◌, ◌<◌, ◌≤◌, ◌^◌, ◌==◌, Bool, true, false, cond, List, [], ◌∷◌, ◌++◌, length, map, get_or, set, refl, sym, ap, ◌∙◌, Some, None, arith, subst, add-one}
+use Rattle.std.proofs.Common.{◌≡◌, ℕ, zero, suc, ◌+◌, ◌<◌, ◌≤◌, ◌^◌, ◌==◌, Bool, true, false, cond, List, [], ◌∷◌, ◌++◌, length, map, get_or, set, refl, sym, ap, ◌∙◌, Some, None, arith, subst}
 use Rattle.std.specs.Prelude.{Option, IfSome, IsSome, option_map}
 use Rattle.std.proofs.lemmas.List.{length-set}
 use Rattle.std.specs.List.{All}
 use Rattle.std.proofs.lemmas.List.Elements.{All-weaker, All-map, All-same}
-use Rattle.std.proofs.lemmas.Bool.Decides.{nat_tests, eqb_tells}
+use Rattle.std.proofs.lemmas.Bool.Decides.{nat_tests}
 use Rattle.rpy_base.specs.Watching.{Seen, Block, IsNew, is_live, without, CanMake, CanGo, after_made, after_gone}
 use Rattle.csub_runner.specs.Synced.{numbers_from, gone_among, number_of, Synced}
 

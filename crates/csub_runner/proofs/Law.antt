@@ -1,17 +1,15 @@
 -- Each statement keeps a watcher in step with the blocks, once it was told.
-use Rattle.std.proofs.Common.{◌≡◌, ℕ, zero, suc, ◌+◌, ◌<◌, ◌≤◌, Bool, true, false, cond, List, [], ◌∷◌, ◌++◌, length, map, get_or, set, replicate, refl, sym, ap, ◌∙◌, Some, None, Ok, Err, arith, subst, pos, negsuc, ◌||◌, ◌&&◌}
+use Rattle.std.proofs.Common.{◌≡◌, ℕ, zero, suc, ◌+◌, Bool, true, false, cond, List, [], ◌∷◌, length, map, get_or, set, replicate, refl, sym, ap, ◌∙◌, Some, None, Ok, Err, subst, pos, negsuc, ◌||◌, ◌&&◌}
 use Rattle.std.specs.Prelude.{Option, Result, IfSome, IsSome, is_some, option_map, nat_lt, nat_le, slice_get, ℤ}
 use Rattle.std.proofs.lemmas.List.{length-set}
 use Rattle.rpy_base.specs.Watching.{Seen}
-use Rattle.rpy_base.specs.declared.outcome.Outcome.{Outcome}
 use Rattle.rpy_base.specs.declared.outcome.FailName.{FailName}
-use Rattle.csub_tree.specs.State.{Value, Unset, Word, Byte, Flag, Fun, Null, Ptr, Static, Block, Caller, Core, Event, Made, Freed, After, Onward, Puts, Told, Over, Stuck}
+use Rattle.csub_tree.specs.State.{Value, Unset, Word, Byte, Flag, Fun, Null, Ptr, Static, Block, Caller, Core, Made, Freed, After, Onward, Puts, Told, Over, Stuck}
 use Rattle.csub_tree.specs.Operation.{Answer, word_of, flag_of, is_unset, unary_of, binary_of}
 use Rattle.csub_tree.specs.Layout.{Shape, shape_at, place, shapes_of}
-use Rattle.csub_tree.specs.Statement.{read, operand, operands, any_unset, block_at, on, on_block, reached, answered, item, put_item, stored, fun_of, same_result, same_types, last_of, argument, byte_in, bytes_of, fail_name_of, type_in, set as set_var, unary, binary, get_field, set_field, get_item, set_item, new_block, new_items, new_array, free_block, free, pay_steps, pay, call, enter, call_fn, call_value, enter_as, exc_set, exc_clear, in_range, arg_len, arg, put_word, put_byte, goes_to, branch, ended, back_to, back_with, give_back, fail, raised_as, raised}
+use Rattle.csub_tree.specs.Statement.{read, operand, operands, any_unset, block_at, on, on_block, reached, answered, item, put_item, stored, fun_of, same_result, same_types, last_of, argument, byte_in, bytes_of, fail_name_of, type_in, set as set_var, new_block, new_items, free_block, free, pay_steps, enter, call_value, enter_as, in_range, put_word, back_to, give_back, fail, raised_as, raised}
 use Rattle.csub_tree.specs.Machine.{does, does_at, step, stmt_at}
 use Rattle.csub_tree.specs.declared.stuck.StuckReason.{StuckReason}
-use Rattle.csub_tree.specs.declared.stuck.StuckReason.TheVariants.{Outside, Unset as IsUnset, Signature}
 use Rattle.csub_tree.specs.declared.tree.CFile.{CFile}
 use Rattle.csub_tree.specs.declared.tree.CType.{CType}
 use Rattle.csub_tree.specs.declared.tree.CType.TheVariants.{Signed, Char, Bool as CBool, Fn, Ptr as CPtr}

@@ -1,6 +1,7 @@
 mod Blocks
 mod Bytes
 mod Cells
+mod Endings
 mod Erasing
 mod Facts
 mod InStep

@@ -1,8 +1,8 @@
 -- One statement more of a run.
-use Rattle.std.proofs.Common.{◌≡◌, ℕ, zero, suc, ◌+◌, ◌-◌, ◌<◌, ◌≤◌, ◌^◌, List, [], ◌∷◌, ◌++◌, map, length, get_or, refl, sym, ap, ◌∙◌, Some, None, arith, append_assoc, subst}
-use Rattle.std.specs.Prelude.{Option, option_map, IsSome}
+use Rattle.std.proofs.Common.{◌≡◌, ℕ, suc, ◌+◌, ◌<◌, ◌≤◌, ◌^◌, List, [], ◌∷◌, ◌++◌, map, length, refl, sym, ap, ◌∙◌, arith, append_assoc, subst}
+use Rattle.std.specs.Prelude.{Option}
 use Rattle.std.specs.List.{All}
-use Rattle.std.proofs.lemmas.List.{append-nil, map-id, length-append}
+use Rattle.std.proofs.lemmas.List.{append-nil, map-id}
 use Rattle.std.proofs.lemmas.List.Elements.{All-weaker, All-map, All-same}
 use Rattle.rpy_base.specs.Watching.{Seen}
 use Rattle.csub_tree.specs.State.{Core, Event, Made, Freed, After, Onward, Puts, Told, Over, Stuck}
@@ -11,11 +11,11 @@ use Rattle.csub_tree.specs.Meaning.{Ran, Ended, Unfinished, run, follow, made_in
 use Rattle.csub_tree.specs.declared.tree.CFile.{CFile}
 use Rattle.csub_runner.specs.declared.run.RunFault.{RunFault}
 use Rattle.csub_runner.specs.declared.run.Stop.{Stop}
-use Rattle.csub_runner.specs.declared.run.Stop.TheVariants.{Ended as StopEnded, Stuck as StopStuck, Spent}
+use Rattle.csub_runner.specs.declared.run.Stop.TheVariants.{Spent}
 use Rattle.csub_runner.specs.Synced.{Synced}
-use Rattle.csub_runner.specs.Run.{told, told_all, told_by, put_by, GoesOn, Stops, HasTaken, HasTakenSome, Sends, Advances, WatchersAfter, RanTo, Finished, Broken}
+use Rattle.csub_runner.specs.Run.{told, told_all, told_by, put_by, GoesOn, Stops, HasTaken, HasTakenSome, Advances, WatchersAfter, RanTo, Finished, Broken}
 use Rattle.csub_runner.proofs.Law.{Good, step_good}
-use Rattle.csub_runner.proofs.Output.{taken_more, taken_nothing, some_behind, some_of}
+use Rattle.csub_runner.proofs.Output.{taken_more, taken_nothing, some_behind}
 
 -- after i statements: the text and the events so far, and that the run from the start goes on from here
 pub record IsAt (file : CFile) (args : List (List ℕ)) (start : Core) (before now : Option (List ℕ)) (held : List ℕ) (seen_before seen : List Seen) (made gone i : ℕ) (core : Core) (text : List ℕ) (events : List Event) : Type 0 where
@@ -56,11 +56,11 @@ few_events (Told (Freed n) c) = (omega arith, omega arith)
 few_events (Over o c) = (omega arith, omega arith)
 few_events (Stuck r) = (omega arith, omega arith)
 
-run_suc : (file : CFile) (args : List (List ℕ)) (k : ℕ) (core : Core) (text : List ℕ) (events : List Event) → run file args (suc k) core text events ≡ follow file (run file args k) core text events (step file args core)
+pub run_suc : (file : CFile) (args : List (List ℕ)) (k : ℕ) (core : Core) (text : List ℕ) (events : List Event) → run file args (suc k) core text events ≡ follow file (run file args k) core text events (step file args core)
 unfolding run
 run_suc file args k core text events = refl
 
-run_zero : (file : CFile) (args : List (List ℕ)) (core : Core) (text : List ℕ) (events : List Event) → run file args 0 core text events ≡ Unfinished core text events
+pub run_zero : (file : CFile) (args : List (List ℕ)) (core : Core) (text : List ℕ) (events : List Event) → run file args 0 core text events ≡ Unfinished core text events
 unfolding run
 run_zero file args core text events = refl
 
@@ -150,7 +150,7 @@ module _ (file : CFile) (args : List (List ℕ)) (start core : Core) (before mid
     text = text;
     events = events;
     inside = lt;
-    ran = ap (λ n. run file args n start [] []) (omega arith) ∙ at.goes_on 0 ∙ run_zero file args core text events;
+    goes_on = at.goes_on;
     some = some_behind before mid now at.sent (held ++ put_by (step file args core)) (text ++ put_by (step file args core)) (ap (λ t. t ++ put_by (step file args core)) at.text_is ∙ append_assoc at.sent held (put_by (step file args core))) at.taken h;
     watchers = subst (λ s. WatchersAfter fault s seen2) at.seen_is w;
   }

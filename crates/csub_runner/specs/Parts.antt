@@ -1,5 +1,5 @@
 -- The cells of a static, taken apart.
-use Rattle.std.specs.Prelude.{◌≡◌, ℕ, ◌+◌, List, [], ◌∷◌, map, sum, sum_by}
+use Rattle.std.specs.Prelude.{◌≡◌, ℕ, ◌+◌, [], ◌∷◌, map, sum, sum_by}
 use Rattle.csub_tree.specs.Layout.{cell_constants, joined}
 use Rattle.csub_tree.specs.declared.tree.CCell.{CCell, fold-CCell}
 use Rattle.csub_tree.specs.declared.tree.CCell.TheOpen.{CCell-F}

@@ -1,9 +1,9 @@
 -- A whole run: what one statement does to the output and to the watchers, and what stands after the run.
-use Rattle.std.specs.Prelude.{◌≡◌, ℕ, ◌+◌, ◌<◌, ◌≤◌, ◌^◌, List, [], ◌∷◌, ◌++◌, length, map, take, Option, Some, None, option_map, Result, Ok, Err}
+use Rattle.std.specs.Prelude.{◌≡◌, ℕ, ◌+◌, ◌-◌, ◌<◌, ◌≤◌, ◌^◌, List, [], ◌∷◌, ◌++◌, length, map, Option, option_map, Result, Ok, Err}
 use Rattle.rpy_base.specs.Causes.{Rose}
 use Rattle.rpy_base.specs.Watching.{Seen, Block, after_made, after_gone, first_told}
 use Rattle.csub_tree.specs.State.{Core, Event, Made, Freed, After, Onward, Puts, Told, Over, Stuck}
-use Rattle.csub_tree.specs.Machine.{step, statement_number}
+use Rattle.csub_tree.specs.Machine.{step, start, statement_number}
 use Rattle.csub_tree.specs.Meaning.{run, Ran, Ended, Unfinished, Ending, Came, StuckAt, Meant, MeansWithin, RunsOn, made_in, gone_in}
 use Rattle.csub_tree.specs.declared.tree.CFile.{CFile}
 use Rattle.csub_runner.specs.declared.run.CRan.{CRan}
@@ -111,6 +111,47 @@ pub record Broken (most : ℕ) (file : CFile) (args : List (List ℕ)) (start : 
   pub text : List ℕ
   pub events : List Event
   pub inside : k < most
-  pub ran : run file args k start [] [] ≡ Unfinished core text events
+  pub goes_on : (m : ℕ) → run file args (k + m) start [] [] ≡ run file args m core text events
   pub some : HasTakenSome before now (text ++ put_by (step file args core))
   pub watchers : WatchersAfter fault (map (told_all events) seen) seen_now
+
+-- which count of a sink's faults goes with which fault
+abbrev pub CauseOf : RunFault → ℕ → ℕ → Type 0
+CauseOf WriteFault before now = Rose before now
+CauseOf other before now = now ≡ before
+
+-- at some moment of the run this is the text that it put, and these are the events
+abbrev pub Stands : Ran → List ℕ → List Event → Type 0
+Stands (Ended ending core t es) text events = (t ≡ text) × (es ≡ events)
+Stands (Unfinished core t es) text events = (t ≡ text) × (es ≡ events)
+
+abbrev pub PutsSoFar : CFile → List (List ℕ) → ℕ → List ℕ → List Event → Type 0
+PutsSoFar file args steps text events = (k : ℕ) × Stands (run file args k (start file steps) [] []) text events
+
+-- after a fault: a first part of what the run put by some moment was taken, and the watchers stand as at that moment, but that after
+-- want of memory some of them may have seen one block more
+abbrev pub StandsAfter : RunFault → CFile → List (List ℕ) → ℕ → Option (List ℕ) → Option (List ℕ) → List Seen → List Seen → Type 0
+StandsAfter fault file args steps before now seen seen_now =
+    (text : List ℕ) × (events : List Event) × PutsSoFar file args steps text events × HasTakenSome before now text × WatchersAfter fault (map (told_all events) seen) seen_now
+
+-- an ending: the output was taken, and each watcher was told of each block made and gone
+abbrev pub EndsSo : Ending → CFile → List (List ℕ) → ℕ → Option (List ℕ) → Option (List ℕ) → List Seen → List Seen → Meant → Type 0
+EndsSo ending file args steps before now seen seen_now meant =
+    MeansWithin (2 ^ 63) file args steps meant × (meant.ending ≡ ending) × HasTaken before now meant.output × ToldOf meant seen seen_now
+
+-- what a run answers, and what it leaves
+abbrev pub Runs : CFile → List (List ℕ) → ℕ → Option (List ℕ) → Option (List ℕ) → List Seen → List Seen → Result CRan RunFault → Type 0
+Runs file args steps before now seen seen_now (Ok ran) = (meant : Meant) × EndsSo (Came ran.outcome) file args steps before now seen seen_now meant
+    × (ran.steps_used ≡ meant.paid) × (ran.blocks_made ≡ length meant.made) × (ran.blocks_gone ≡ length meant.gone)
+Runs file args steps before now seen seen_now (Err (FaultStuck reason statement)) = (meant : Meant) × EndsSo (StuckAt reason statement) file args steps before now seen seen_now meant
+Runs file args steps before now seen seen_now (Err WorkSpent) = RunsOn (2 ^ 63) file args steps × StandsAfter WorkSpent file args steps before now seen seen_now
+Runs file args steps before now seen seen_now (Err WriteFault) = StandsAfter WriteFault file args steps before now seen seen_now
+Runs file args steps before now seen seen_now (Err NoMem) = StandsAfter NoMem file args steps before now seen seen_now
+
+-- what a run that stopped so answers
+abbrev pub Concludes : CFile → ℕ → Core → ℕ → ℕ → Stop → Result CRan RunFault → Type 0
+Concludes file steps core made gone (StopEnded outcome) (Ok ran) = (ran.outcome ≡ outcome) × (ran.steps_used ≡ steps - core.steps) × (ran.blocks_made ≡ made) × (ran.blocks_gone ≡ gone)
+Concludes file steps core made gone (StopStuck reason) (Err (FaultStuck given statement)) = (given ≡ reason) × (statement ≡ statement_number file.functions core)
+Concludes file steps core made gone (StopStuck reason) (Err NoMem) = Unit {0}
+Concludes file steps core made gone Spent (Err WorkSpent) = Unit {0}
+Concludes file steps core made gone stop result = ⊥

@@ -9,6 +9,7 @@ mod heap;
 mod jump;
 mod machine;
 mod memory;
+mod number;
 mod operation;
 mod outside;
 mod run;

@@ -5,14 +5,15 @@ ghost use Rattle.csub_tree.specs.Layout.{shapes_of as shapes_as};
 ghost use Rattle.csub_tree.specs.Machine.{step as steps_to};
 ghost use Rattle.csub_runner.specs.Core.{core_of, MachineOk};
 ghost use Rattle.csub_runner.specs.Synced.{Synced};
-ghost use Rattle.rpy_base.specs.Causes.{Rose};
+ghost use Rattle.rpy_base.specs.Watching.{IsFresh};
 ghost use Rattle.csub_tree.specs.declared.stuck.StuckReason.{StuckReason};
-ghost use Rattle.csub_runner.specs.Run.{HasTaken, HasTakenSome, Sends, Advances, Stops, put_by, WatchersAfter, IsOwnFault, Finished, Broken};
+ghost use Rattle.csub_runner.specs.Run.{HasTaken, HasTakenSome, Sends, Advances, Stops, put_by, WatchersAfter, IsOwnFault, Finished, Broken, CauseOf, Concludes, Runs};
 
 use crate::machine::{Machine, Next};
+use crate::number::statement_number;
 use crate::shape::{Shape, shapes_of};
 use crate::start::start;
-use csub_tree::{CFile, CFunction, StuckReason};
+use csub_tree::{CFile, StuckReason};
 use rpy_base::{HeapWatch, NoMem, Outcome, PutError, Sink, Text, tell_gone, tell_made};
 use std::alloc::Global;
 use thiserror::Error;
@@ -73,7 +74,7 @@ fn flush<K: Sink>(held: &mut Vec<u8>, out: &mut K) -> Result<(), RunFault>
     ensures taken { OnOk result (HasTaken (K.taken out.old) (K.taken out.new) held.old.items) }
     ensures some { OnErr result (HasTakenSome (K.taken out.old) (K.taken out.new) held.old.items) }
     ensures calm { OnOk result (K.faults out.new ≡ K.faults out.old) }
-    ensures fault { IsErrOf result RunFault.WriteFault → Rose (K.faults out.old) (K.faults out.new) }
+    ensures fault { IfErr result (λ fault. CauseOf fault (K.faults out.old) (K.faults out.new)) }
     ensures causes { IfErr result IsOwnFault }
 {
     match out.put(held.as_slice()) {
@@ -99,7 +100,7 @@ fn collect<K: Sink>(held: &mut Vec<u8>, out: &mut K, byte: u8) -> Result<(), Run
     ensures sends { OnOk result (Sends (K.taken out.old) (K.taken out.new) held.old.items (byte ∷ []) held.new.items) }
     ensures some { OnErr result (HasTakenSome (K.taken out.old) (K.taken out.new) (held.old.items ++ byte ∷ [])) }
     ensures calm { OnOk result (K.faults out.new ≡ K.faults out.old) }
-    ensures fault { IsErrOf result RunFault.WriteFault → Rose (K.faults out.old) (K.faults out.new) }
+    ensures fault { IfErr result (λ fault. CauseOf fault (K.faults out.old) (K.faults out.new)) }
     ensures causes { IfErr result IsOwnFault }
 {
     hold(held, byte)?;
@@ -129,7 +130,7 @@ fn advance<K: Sink>(
     ensures stops { IfOk result (λ stop. IfSome stop (λ s. Stops (core_of machine.old) (steps_to file.now args.now (core_of machine.old)) s (core_of machine.new))) }
     ensures still { IfOk result (λ stop. IfSome stop (λ _. (log.new ≡ log.old) × (K.taken out.new ≡ K.taken out.old) × (map (λ w. seen w) watch.new.items ≡ map (λ w. seen w) watch.old.items))) }
     ensures calm { OnOk result (K.faults out.new ≡ K.faults out.old) }
-    ensures fault { IsErrOf result RunFault.WriteFault → Rose (K.faults out.old) (K.faults out.new) }
+    ensures fault { IfErr result (λ fault. CauseOf fault (K.faults out.old) (K.faults out.new)) }
     ensures some { OnErr result (HasTakenSome (K.taken out.old) (K.taken out.new) (log.old.held.items ++ put_by (steps_to file.now args.now (core_of machine.old)))) }
     ensures watchers { IfErr result (λ fault. WatchersAfter fault (map (λ w. seen w) watch.old.items) (map (λ w. seen w) watch.new.items)) }
     ensures causes { IfErr result IsOwnFault }
@@ -189,7 +190,7 @@ fn run_on<K: Sink>(
         (map (λ w. seen w) watch.old.items) (map (λ w. seen w) watch.new.items)) }
     ensures broken { IfErr result (λ fault. Broken most file.now args.now (core_of machine.old) fault (K.taken out.old) (K.taken out.new) (map (λ w. seen w) watch.old.items) (map (λ w. seen w) watch.new.items)) }
     ensures calm { OnOk result (K.faults out.new ≡ K.faults out.old) }
-    ensures fault { IsErrOf result RunFault.WriteFault → Rose (K.faults out.old) (K.faults out.new) }
+    ensures fault { IfErr result (λ fault. CauseOf fault (K.faults out.old) (K.faults out.new)) }
     ensures causes { IfErr result IsOwnFault }
 {
     for _ in 0..most {
@@ -201,6 +202,89 @@ fn run_on<K: Sink>(
     }
     Ok(Stop::Spent)
 }
+
+// What a run that stopped so answers.
+fn conclude(
+    file: &CFile,
+    steps: u64,
+    machine: &Machine,
+    log: &Log,
+    stop: Stop,
+) -> Result<CRan, RunFault>
+    ensures { Concludes file.now steps (core_of machine.now) log.now.made log.now.gone stop result }
+{
+    match stop {
+        Stop::Ended(outcome) => Ok(CRan {
+            outcome,
+            steps_used: steps.saturating_sub(machine.steps),
+            blocks_made: log.made,
+            blocks_gone: log.gone,
+        }),
+        Stop::Stuck(reason) => {
+            match statement_number(file, machine.function, machine.block, machine.at) {
+                Ok(number) => Err(RunFault::Stuck(reason, number)),
+                Err(NoMem) => Err(RunFault::NoMem),
+            }
+        }
+        Stop::Spent => Err(RunFault::WorkSpent),
+    }
+}
+
+/// Runs a C file with at most so many steps paid. The output goes to the sink, and each watcher is
+/// told of each block that is made, before it is used, and of each that is freed, in order.
+///
+/// # Errors
+///
+/// [`RunFault::Stuck`] where the machine is stuck; [`RunFault::WorkSpent`] where it comes to no
+/// ending within 2^63 statements; [`RunFault::WriteFault`] where the sink failed. After an error the
+/// sink holds a first part of the output.
+pub fn run_c<K: Sink>(
+    alloc: Global,
+    file: &CFile,
+    args: &[Text],
+    steps: u64,
+    out: &mut K,
+    watch: &mut Vec<Box<dyn HeapWatch>>,
+) -> Result<CRan, RunFault>
+    requires { All IsFresh (map (λ w. seen w) watch.old.items) }
+    ensures runs { Runs file.now args.now steps (K.taken out.old) (K.taken out.new) (map (λ w. seen w) watch.old.items) (map (λ w. seen w) watch.new.items) result }
+    ensures calm { OnOk result (K.faults out.new ≡ K.faults out.old) }
+    ensures fault { IfErr result (λ fault. CauseOf fault (K.faults out.old) (K.faults out.new)) }
+{
+    let shapes = match shapes_of(alloc, file.structs.as_slice()) {
+        Ok(shapes) => shapes,
+        Err(NoMem) => return Err(RunFault::NoMem),
+    };
+    let mut machine = match start(alloc, file, &shapes, steps) {
+        Ok(machine) => machine,
+        Err(NoMem) => return Err(RunFault::NoMem),
+    };
+    let mut log = Log {
+        held: Vec::new(alloc),
+        made: 0,
+        gone: 0,
+    };
+    let ran = run_on(
+        alloc,
+        file,
+        &shapes,
+        args,
+        MOST_STATEMENTS,
+        &mut machine,
+        &mut log,
+        out,
+        watch,
+    );
+    match ran {
+        Ok(stop) => match flush(&mut log.held, out) {
+            Ok(()) => conclude(file, steps, &machine, &log, stop),
+            Err(fault) => Err(fault),
+        },
+        Err(fault) => Err(fault),
+    }
+}
+
+const MOST_STATEMENTS: u64 = 1 << 63;
 
 const MOST_HELD: usize = 4096;
 

@@ -1,4 +1,4 @@
-use Rattle.std.proofs.Common.{rules, arith, refl, ap, sym, ◌∙◌, map, ◌∷◌, [], ◌++◌}
+use Rattle.std.proofs.Common.{ap, sym, map, ◌∷◌, [], ◌++◌}
 use Rattle.csub_tree.specs.State.{Made, Freed}
 use Rattle.csub_tree.specs.Machine.{step}
 use Rattle.csub_runner.specs.Core.{core_of}

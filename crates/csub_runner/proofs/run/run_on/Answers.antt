@@ -1,6 +1,6 @@
-use Rattle.std.proofs.Common.{rules, arith, refl, ap, sym, ◌∙◌, map}
+use Rattle.std.proofs.Common.{arith, refl, ap, ◌∙◌, map}
 use Rattle.csub_runner.specs.Core.{core_of}
-use Rattle.csub_runner.proofs.Runs.{IsAt, next_at, stopped, spent, broken, at_start}
+use Rattle.csub_runner.proofs.Runs.{next_at, stopped, spent, broken, at_start}
 use Rattle.csub_runner.proofs.run.run_on.Goals as goal
 
 pub loop-init : goal.loop-init

@@ -1,9 +1,6 @@
-use Rattle.std.proofs.Common.{rules, arith, ap, sym, ◌∙◌, refl, map, take, drop}
-use Rattle.std.proofs.lemmas.List.Elements.{All-same, All-take, All-drop}
-use Rattle.csub_tree.specs.Layout.{cell_constants, joined, static_values, shape_at, constant}
-use Rattle.csub_runner.specs.Erased.{erase_all, raw_constant}
-use Rattle.csub_runner.specs.Heap.{ValOk}
-use Rattle.csub_runner.proofs.Cells.{constants_ok, static_ok, static_is}
+use Rattle.std.proofs.Common.{rules, ap, ◌∙◌, map, take, drop}
+use Rattle.csub_tree.specs.Layout.{cell_constants, joined, static_values}
+use Rattle.csub_runner.proofs.Cells.{static_ok, static_is}
 use Rattle.csub_runner.proofs.start.static_block.Goals as goal
 
 pub returns-clause-ok : goal.returns-clause-ok

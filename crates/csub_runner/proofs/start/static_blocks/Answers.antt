@@ -1,4 +1,4 @@
-use Rattle.std.proofs.Common.{rules, arith, ap, sym, ◌∙◌, ◌++◌, ◌∷◌, [], map}
+use Rattle.std.proofs.Common.{◌++◌, ◌∷◌, []}
 use Rattle.std.proofs.lemmas.List.Elements.{All-same, All-push}
 use Rattle.csub_tree.specs.Layout.{static_block}
 use Rattle.csub_runner.specs.Erased.{erase_cells}

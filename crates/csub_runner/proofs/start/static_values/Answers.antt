@@ -1,4 +1,4 @@
-use Rattle.std.proofs.Common.{rules, arith, ap, sym, ◌∙◌, ◌++◌, ◌∷◌, []}
+use Rattle.std.proofs.Common.{rules, ap, sym, ◌∙◌, ◌++◌, ◌∷◌, []}
 use Rattle.csub_runner.proofs.Cells.{read_empty, read_value, read_parts, first_of_list, empty_list}
 use Rattle.csub_runner.proofs.start.static_values.Goals as goal
 
