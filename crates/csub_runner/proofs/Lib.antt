@@ -1,7 +1,14 @@
 mod Blocks
 mod Bytes
+mod Cells
+mod Endings
 mod Erasing
+mod Facts
+mod InStep
+mod Law
+mod Output
 mod Reached
+mod Runs
 mod Shapes
 mod Stands
 mod Steps

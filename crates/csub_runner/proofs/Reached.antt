@@ -1,16 +1,14 @@
 -- Fields and items through a pointer.
-use Rattle.std.proofs.Common.{◌≡◌, ℕ, zero, suc, ◌+◌, ◌<◌, ◌≤◌, min, List, [], ◌∷◌, length, get_or, set, refl, sym, ap, ◌∙◌, Some, None, Ok, Err, subst, Bool, true, false, cond, pos, negsuc, arith}
+use Rattle.std.proofs.Common.{◌≡◌, ℕ, zero, suc, ◌+◌, min, List, [], ◌∷◌, length, get_or, set, refl, sym, ap, ◌∙◌, Some, None, Ok, Err, subst, Bool, true, false, cond, pos, negsuc}
 use Rattle.std.specs.Prelude.{Option, Result, slice_get, ℤ, nat_lt}
-use Rattle.std.specs.List.{All}
 use Rattle.std.proofs.lemmas.List.{length-map}
-use Rattle.std.proofs.lemmas.Bool.Decides.{nat_tests}
-use Rattle.csub_tree.specs.State.{Value, Block, Core, Ptr, Static, Stuck}
+use Rattle.csub_tree.specs.State.{Value, Block, Core, Stuck}
 use Rattle.csub_tree.specs.Operation.{is_unset, word_of}
 use Rattle.csub_tree.specs.Layout.{Shape, shape_at, place, begins_with}
 use Rattle.csub_tree.specs.Statement.{read, block_at, as_struct, reached, on_block, on, stored, set as set_var, get_field, get_item, item, set_field, set_item, put_item}
 use Rattle.csub_tree.specs.declared.stuck.StuckReason.{StuckReason}
 use Rattle.csub_tree.specs.declared.stuck.StuckReason.TheVariants.{Kind, Outside, Unset as IsUnset}
-use Rattle.csub_runner.specs.Erased.{erase, erase_all, erase_cells}
+use Rattle.csub_runner.specs.Erased.{erase, erase_all}
 use Rattle.csub_runner.specs.Heap.{at_static, with_field, with_item, index_at}
 use Rattle.csub_runner.specs.Core.{IsStep}
 use Rattle.csub_runner.specs.declared.machine.Next.{Next}

@@ -1,13 +1,11 @@
 -- What the machine's methods leave, in words of the erased state.
-use Rattle.std.proofs.Common.{◌≡◌, ◌≢◌, ℕ, ◌+◌, ◌++◌, ◌-◌, take, List, [], ◌∷◌, length, zero, suc, get_or, set, map, replicate, refl, sym, ap, ◌∙◌, Some, None, Ok, Err, subst, rules, Bor, arith}
-use Rattle.std.specs.Prelude.{Option, Result, IfOk, IfSome, OnOk, IsSome, option_map, slice_get}
+use Rattle.std.proofs.Common.{◌≡◌, ℕ, ◌+◌, ◌++◌, List, [], ◌∷◌, length, zero, suc, set, map, replicate, sym, ap, ◌∙◌, Some, None, subst, rules, Bor}
+use Rattle.std.specs.Prelude.{Option, IfSome, slice_get}
 use Rattle.std.specs.Option.{option_copied}
 use Rattle.std.specs.List.{All}
-use Rattle.std.proofs.lemmas.List.{length-map}
-use Rattle.std.proofs.lemmas.List.Elements.{All-weaker, All-set, All-same, All-push, All-replicate, All-take, All-head, All-tail}
-use Rattle.csub_tree.specs.State.{Value, Unset, Null, Ptr as IsPtr, Block, Core}
-use Rattle.csub_tree.specs.Statement.{read}
-use Rattle.csub_runner.specs.Erased.{erase, erase_all, erase_cells, erase_caller}
+use Rattle.std.proofs.lemmas.List.Elements.{All-weaker, All-set, All-same, All-replicate, All-head, All-tail}
+use Rattle.csub_tree.specs.State.{Unset, Null, Ptr as IsPtr, Core}
+use Rattle.csub_runner.specs.Erased.{erase_all, erase_cells, erase_caller}
 use Rattle.csub_runner.specs.Waiting.{Waiting}
 use Rattle.csub_runner.specs.declared.heap.Heap.{Heap}
 use Rattle.csub_runner.specs.declared.val.Cells.{Cells}
@@ -15,11 +13,11 @@ use Rattle.csub_runner.specs.declared.val.Ptr.{Ptr}
 use Rattle.csub_runner.specs.declared.val.Val.{Val}
 use Rattle.csub_runner.specs.declared.val.Val.TheVariants.{Unset as RawUnset, Null as RawNull, Ptr as RawPtr}
 use Rattle.csub_runner.specs.declared.machine.Next.{Next}
-use Rattle.csub_runner.specs.declared.machine.Next.TheVariants.{Goes, Made as NextMade}
+use Rattle.csub_runner.specs.declared.machine.Next.TheVariants.{Made as NextMade}
 use Rattle.csub_runner.specs.Heap.{IsSound, PtrOk, ValOk, CellsOk, blocks_of, find}
 use Rattle.csub_runner.specs.Core.{AllOk, new_core}
 use Rattle.csub_runner.proofs.Stands.{vals_kept, cells_kept, val_kept, same_some}
-use Rattle.csub_runner.proofs.Blocks.{vals_at, read_erased, table_length, erased_unset, erased_set}
+use Rattle.csub_runner.proofs.Blocks.{table_length, erased_unset, erased_set}
 
 -- one of the elements that all have a property
 pub got_all : {X : Type 0} (P : X → Type 0) (xs : List X) (i : ℕ) (x : X) → All P xs → slice_get xs i ≡ Some x → P x

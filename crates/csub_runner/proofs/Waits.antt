@@ -1,10 +1,10 @@
 -- Calls and the way back from them.
-use Rattle.std.proofs.Common.{◌≡◌, ℕ, ◌+◌, ◌++◌, ◌-◌, ◌<◌, take, List, [], ◌∷◌, length, zero, suc, get_or, set, map, replicate, refl, sym, ap, ◌∙◌, Some, None, subst}
+use Rattle.std.proofs.Common.{◌≡◌, ℕ, ◌+◌, ◌++◌, ◌-◌, take, List, [], ◌∷◌, length, zero, suc, get_or, map, replicate, refl, sym, ap, ◌∙◌, Some, None, subst}
 use Rattle.std.specs.Prelude.{Option, option_map, slice_get}
 use Rattle.std.specs.List.{All}
 use Rattle.std.proofs.lemmas.List.{length-map}
-use Rattle.std.proofs.lemmas.List.Elements.{All-weaker, All-set, All-same, All-push, All-replicate, All-take, All-map, All-append}
-use Rattle.csub_tree.specs.State.{Value, Unset, Block, Caller, Core}
+use Rattle.std.proofs.lemmas.List.Elements.{All-set, All-same, All-push, All-replicate, All-take, All-map, All-append}
+use Rattle.csub_tree.specs.State.{Unset, Core}
 use Rattle.csub_tree.specs.Statement.{operands, entered, taken_by, last_of, back_to, ended}
 use Rattle.csub_tree.specs.declared.tree.CFunction.{CFunction}
 use Rattle.csub_tree.specs.declared.tree.CConst.{CConst}
@@ -25,7 +25,7 @@ use Rattle.csub_runner.proofs.Blocks.{vals_at, erased_unset, erased_set}
 use Rattle.csub_runner.proofs.Erasing.{operands_erased}
 use Rattle.csub_runner.proofs.Steps.{got_all}
 
-constant_ok : (heap : Heap) (c : CConst) → ValOk heap (raw_constant c)
+pub constant_ok : (heap : Heap) (c : CConst) → ValOk heap (raw_constant c)
 constant_ok heap (Word n) = tt
 constant_ok heap (Char b) = tt
 constant_ok heap (CBool b) = tt

@@ -1,5 +1,5 @@
 // Fields and items.
-ghost use Rattle.std.specs.Prelude.{◌≡◌, ◌<◌, ◌^◌, Some, length};
+ghost use Rattle.std.specs.Prelude.{◌≡◌, ◌+◌, ◌<◌, ◌^◌, Some, length};
 ghost use Rattle.csub_tree.specs.State.{Block};
 ghost use Rattle.csub_tree.specs.Statement.{block_at, stored, get_field as gets_field, set_field as sets_field, get_item as gets_item, set_item as sets_item};
 ghost use Rattle.csub_runner.specs.Erased.{erase};
@@ -36,7 +36,7 @@ impl Machine {
         pointer: Val,
         k: u64,
     ) -> Next
-        requires at { self.old.at < 2 ^ 63 }
+        requires at { self.old.at + 1 < 2 ^ 64 }
         requires ok { MachineOk self.old }
         requires pointer { ValOk self.old.heap pointer }
         ensures ok { MachineOk self.new }
@@ -51,7 +51,7 @@ impl Machine {
 
     // Writes a field of the block that a pointer names.
     fn store_field(&mut self, pointer: Val, at: u64, value: Val) -> Next
-        requires at { self.old.at < 2 ^ 63 }
+        requires at { self.old.at + 1 < 2 ^ 64 }
         requires ok { MachineOk self.old }
         requires pointer { ValOk self.old.heap pointer }
         requires value { ValOk self.old.heap value }
@@ -76,7 +76,7 @@ impl Machine {
     }
 
     fn store_item(&mut self, pointer: Val, at: u64, value: Val) -> Next
-        requires at { self.old.at < 2 ^ 63 }
+        requires at { self.old.at + 1 < 2 ^ 64 }
         requires ok { MachineOk self.old }
         requires pointer { ValOk self.old.heap pointer }
         requires value { ValOk self.old.heap value }
@@ -108,7 +108,7 @@ impl Machine {
         k: u64,
         value: Val,
     ) -> Next
-        requires at { self.old.at < 2 ^ 63 }
+        requires at { self.old.at + 1 < 2 ^ 64 }
         requires ok { MachineOk self.old }
         requires pointer { ValOk self.old.heap pointer }
         requires value { ValOk self.old.heap value }
@@ -133,7 +133,7 @@ impl Machine {
         pointer: Val,
         index: Val,
     ) -> Next
-        requires at { self.old.at < 2 ^ 63 }
+        requires at { self.old.at + 1 < 2 ^ 64 }
         requires ok { MachineOk self.old }
         requires pointer { ValOk self.old.heap pointer }
         ensures ok { MachineOk self.new }
@@ -160,7 +160,7 @@ impl Machine {
         index: Val,
         value: Val,
     ) -> Next
-        requires at { self.old.at < 2 ^ 63 }
+        requires at { self.old.at + 1 < 2 ^ 64 }
         requires ok { MachineOk self.old }
         requires pointer { ValOk self.old.heap pointer }
         requires value { ValOk self.old.heap value }

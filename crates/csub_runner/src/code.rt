@@ -1,8 +1,8 @@
 // Reading the file that runs.
-ghost use Rattle.std.specs.Prelude.{◌≡◌, ◌++◌, slice_get};
+ghost use Rattle.std.specs.Prelude.{◌≡◌, ◌+◌, ◌<◌, ◌^◌, ◌++◌, slice_get, OnSome};
 ghost use Rattle.std.specs.Option.{option_copied};
-ghost use Rattle.csub_tree.specs.Machine.{stmt_in, block_in};
-ghost use Rattle.csub_tree.specs.Statement.{same_type as same_kind, same_types as same_kinds, same_result as same_given};
+ghost use Rattle.csub_tree.specs.Machine.{stmt_in, block_in, locals_of as locals_in};
+ghost use Rattle.csub_tree.specs.Statement.{same_type as same_kind, same_types as same_kinds, same_result as same_given, type_in as type_of_var};
 
 use csub_tree::{CFile, CFunction, CStmt, CType};
 
@@ -14,17 +14,32 @@ pub fn function_at(file: &CFile, number: u64) -> Option<&CFunction>
 
 /// The statement at a place.
 pub fn statement(file: &CFile, function: u64, block: u64, at: u64) -> Option<&CStmt>
-    ensures { option_copied result ≡ stmt_in (block_in (slice_get file.now.functions function) block) at }
+    ensures is { option_copied result ≡ stmt_in (block_in (slice_get file.now.functions function) block) at }
+    ensures within { OnSome result (at + 1 < 2 ^ 64) }
 {
-    file.functions
+    let stmts = file
+        .functions
         .get(function as usize)?
         .blocks
-        .get(block as usize)?
-        .get(at as usize)
+        .get(block as usize)?;
+    if at < stmts.len() as u64 {
+        stmts.get(at as usize)
+    } else {
+        None
+    }
 }
 
 /// The type of a variable.
-pub fn type_of(function: &CFunction, a: u64) -> Option<CType>
+pub fn type_in(file: &CFile, number: u64, a: u64) -> Option<CType>
+    ensures { result ≡ type_of_var (slice_get file.now.functions number) a }
+{
+    match function_at(file, number) {
+        Some(function) => type_of(function, a),
+        None => None,
+    }
+}
+
+fn type_of(function: &CFunction, a: u64) -> Option<CType>
     ensures { result ≡ slice_get (function.now.params ++ function.now.locals) a }
 {
     let params = function.params.len() as u64;
@@ -65,5 +80,15 @@ pub fn same_result(s: Option<CType>, t: Option<CType>) -> bool
         (None, None) => true,
         (Some(s), Some(t)) => same_type(s, t),
         _ => false,
+    }
+}
+
+/// The variables of a function that are no parameters.
+pub fn locals_of(file: &CFile, number: u64) -> u64
+    ensures { result ≡ locals_in (slice_get file.now.functions number) }
+{
+    match function_at(file, number) {
+        Some(function) => function.locals.len() as u64,
+        None => 0,
     }
 }

@@ -1,5 +1,5 @@
 // Steps, exception slots, arguments, output, and ends of a run.
-ghost use Rattle.std.specs.Prelude.{◌≡◌, ◌<◌, ◌^◌, IfOk};
+ghost use Rattle.std.specs.Prelude.{◌≡◌, ◌+◌, ◌<◌, ◌^◌, IfOk};
 ghost use Rattle.csub_tree.specs.Statement.{pay as pays, exc_set as sets_exc, exc_clear as clears_exc, arg_len as gets_arg_len, arg as gets_arg, put_byte as puts_byte, fail as fails, fail_name_of, raised as raises};
 ghost use Rattle.csub_runner.specs.Erased.{erase};
 ghost use Rattle.csub_runner.specs.Heap.{ValOk};
@@ -15,7 +15,7 @@ use std::alloc::Global;
 
 impl Machine {
     pub fn pay(&mut self, cost: Val) -> Next
-        requires at { self.old.at < 2 ^ 63 }
+        requires at { self.old.at + 1 < 2 ^ 64 }
         requires ok { MachineOk self.old }
         ensures ok { MachineOk self.new }
         ensures step { IsStep (core_of self.old) (pays (core_of self.old) (erase cost)) result (core_of self.new) }
@@ -37,7 +37,7 @@ impl Machine {
     }
 
     pub fn exc_set(&mut self, kind: Val, value: Val) -> Next
-        requires at { self.old.at < 2 ^ 63 }
+        requires at { self.old.at + 1 < 2 ^ 64 }
         requires ok { MachineOk self.old }
         requires kind { ValOk self.old.heap kind }
         requires value { ValOk self.old.heap value }
@@ -54,7 +54,7 @@ impl Machine {
     }
 
     pub fn exc_clear(&mut self) -> Next
-        requires at { self.old.at < 2 ^ 63 }
+        requires at { self.old.at + 1 < 2 ^ 64 }
         requires ok { MachineOk self.old }
         ensures ok { MachineOk self.new }
         ensures step { IsStep (core_of self.old) (clears_exc (core_of self.old)) result (core_of self.new) }
@@ -66,7 +66,7 @@ impl Machine {
     }
 
     pub fn arg_len(&mut self, args: &[Text], a: u64, i: Val) -> Next
-        requires at { self.old.at < 2 ^ 63 }
+        requires at { self.old.at + 1 < 2 ^ 64 }
         requires ok { MachineOk self.old }
         ensures ok { MachineOk self.new }
         ensures step { IsStep (core_of self.old) (gets_arg_len (core_of self.old) args.now a (erase i)) result (core_of self.new) }
@@ -81,7 +81,7 @@ impl Machine {
     }
 
     pub fn arg(&mut self, args: &[Text], a: u64, i: Val, j: Val) -> Next
-        requires at { self.old.at < 2 ^ 63 }
+        requires at { self.old.at + 1 < 2 ^ 64 }
         requires ok { MachineOk self.old }
         ensures ok { MachineOk self.new }
         ensures step { IsStep (core_of self.old) (gets_arg (core_of self.old) args.now a (erase i) (erase j)) result (core_of self.new) }
@@ -102,7 +102,7 @@ impl Machine {
     }
 
     pub fn put_byte(&mut self, x: Val) -> Next
-        requires at { self.old.at < 2 ^ 63 }
+        requires at { self.old.at + 1 < 2 ^ 64 }
         requires ok { MachineOk self.old }
         ensures ok { MachineOk self.new }
         ensures step { IsStep (core_of self.old) (puts_byte (core_of self.old) (erase x)) result (core_of self.new) }

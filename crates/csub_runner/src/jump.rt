@@ -1,5 +1,5 @@
 // Calls, returns and jumps.
-ghost use Rattle.std.specs.Prelude.{◌≡◌, ◌<◌, ◌^◌, ◌-◌, length, slice_get, IfOk, OnOk, All, map, ◌++◌, replicate};
+ghost use Rattle.std.specs.Prelude.{◌≡◌, ◌+◌, ◌<◌, ◌^◌, ◌-◌, length, slice_get, IfOk, OnOk, All, map, ◌++◌, replicate};
 ghost use Rattle.csub_tree.specs.Statement.{operands, entered, enter as enters, call as calls, call_fn as calls_fn, enter_as as enters_as, last_of, ended as ends, back_to as goes_back, back_with as goes_back_with, give_back as gives_back, goes_to as goes_to_block, branch as branches};
 ghost use Rattle.csub_runner.specs.Erased.{erase};
 ghost use Rattle.csub_runner.specs.Heap.{ValOk};
@@ -24,7 +24,7 @@ impl Machine {
         xs: &[COperand],
         function: &CFunction,
     ) -> Result<Next, NoMem>
-        requires at { self.old.at < 2 ^ 63 }
+        requires at { self.old.at + 1 < 2 ^ 64 }
         requires ok { MachineOk self.old }
         ensures ok { IfOk result (λ _. MachineOk self.new) }
         ensures next { IfOk result (λ next. next ≡ Next.Goes) }
@@ -53,7 +53,7 @@ impl Machine {
         number: u64,
         xs: &[COperand],
     ) -> Result<Next, NoMem>
-        requires at { self.old.at < 2 ^ 63 }
+        requires at { self.old.at + 1 < 2 ^ 64 }
         requires ok { MachineOk self.old }
         ensures ok { IfOk result (λ _. MachineOk self.new) }
         ensures step { IfOk result (λ next. IsStep (core_of self.old) (calls (core_of self.old) into number (operands (core_of self.old).vars xs.now) (slice_get file.now.functions number)) next (core_of self.new)) }
@@ -77,7 +77,7 @@ impl Machine {
         called: Val,
         xs: &[COperand],
     ) -> Result<Next, NoMem>
-        requires at { self.old.at < 2 ^ 63 }
+        requires at { self.old.at + 1 < 2 ^ 64 }
         requires ok { MachineOk self.old }
         ensures ok { IfOk result (λ _. MachineOk self.new) }
         ensures step { IfOk result (λ next. IsStep (core_of self.old) (calls_fn file.now.functions (core_of self.old) into gives params.now (erase called) (operands (core_of self.old).vars xs.now)) next (core_of self.new)) }
@@ -102,7 +102,7 @@ impl Machine {
         number: u64,
         xs: &[COperand],
     ) -> Result<Next, NoMem>
-        requires at { self.old.at < 2 ^ 63 }
+        requires at { self.old.at + 1 < 2 ^ 64 }
         requires ok { MachineOk self.old }
         ensures ok { IfOk result (λ _. MachineOk self.new) }
         ensures step { IfOk result (λ next. IsStep (core_of self.old) (enters_as (core_of self.old) into gives params.now number (operands (core_of self.old).vars xs.now) (slice_get file.now.functions number)) next (core_of self.new)) }

@@ -1,5 +1,5 @@
 // The machine's state, what it reads, and how a variable takes a value.
-ghost use Rattle.std.specs.Prelude.{◌≡◌, ◌<◌, ◌^◌, ℕ, Ok, Err, IfOk, IfErr, IfSome, option_map, replicate, map, All, [], length};
+ghost use Rattle.std.specs.Prelude.{◌≡◌, ◌+◌, ◌<◌, ◌^◌, ℕ, Ok, Err, IfOk, IfErr, IfSome, option_map, replicate, map, All, [], length};
 ghost use Rattle.std.specs.Option.{option_copied};
 ghost use Rattle.csub_tree.specs.State.{Value as ValueOf};
 ghost use Rattle.csub_tree.specs.Statement.{read as read_value, operand as operand_value, block_at as block_of, reached as reaches, onward as goes_onward, assigned, set as sets, answered, unary as unary_does, binary as binary_does};
@@ -131,7 +131,7 @@ impl Machine {
     }
 
     pub fn assign(&mut self, a: u64, value: Val) -> Next
-        requires at { self.old.at < 2 ^ 63 }
+        requires at { self.old.at + 1 < 2 ^ 64 }
         requires ok { MachineOk self.old }
         requires value { ValOk self.old.heap value }
         ensures ok { MachineOk self.new }
@@ -143,7 +143,7 @@ impl Machine {
     }
 
     pub fn set(&mut self, a: u64, value: Val) -> Next
-        requires at { self.old.at < 2 ^ 63 }
+        requires at { self.old.at + 1 < 2 ^ 64 }
         requires ok { MachineOk self.old }
         requires value { ValOk self.old.heap value }
         ensures ok { MachineOk self.new }
@@ -156,7 +156,7 @@ impl Machine {
     }
 
     fn answer(&mut self, a: u64, answer: Result<Val, StuckReason>) -> Next
-        requires at { self.old.at < 2 ^ 63 }
+        requires at { self.old.at + 1 < 2 ^ 64 }
         requires ok { MachineOk self.old }
         requires value { IfOk answer (ValOk self.old.heap) }
         ensures ok { MachineOk self.new }
@@ -169,7 +169,7 @@ impl Machine {
     }
 
     pub fn unary(&mut self, a: u64, op: CUnary, x: Val) -> Next
-        requires at { self.old.at < 2 ^ 63 }
+        requires at { self.old.at + 1 < 2 ^ 64 }
         requires ok { MachineOk self.old }
         ensures ok { MachineOk self.new }
         ensures step { IsStep (core_of self.old) (unary_does (core_of self.old) a op (erase x)) result (core_of self.new) }
@@ -178,7 +178,7 @@ impl Machine {
     }
 
     pub fn binary(&mut self, a: u64, op: CBinary, x: Val, y: Val) -> Next
-        requires at { self.old.at < 2 ^ 63 }
+        requires at { self.old.at + 1 < 2 ^ 64 }
         requires ok { MachineOk self.old }
         ensures ok { MachineOk self.new }
         ensures step { IsStep (core_of self.old) (binary_does (core_of self.old) a op (erase x) (erase y)) result (core_of self.new) }

@@ -1,5 +1,5 @@
 // Blocks that are made and freed.
-ghost use Rattle.std.specs.Prelude.{◌≡◌, ◌<◌, ◌^◌, IfOk};
+ghost use Rattle.std.specs.Prelude.{◌≡◌, ◌+◌, ◌<◌, ◌^◌, IfOk};
 ghost use Rattle.csub_tree.specs.Statement.{new_block as makes, new_array as makes_array, new_items as makes_items, free as frees};
 ghost use Rattle.csub_runner.specs.Erased.{erase};
 ghost use Rattle.csub_runner.specs.Heap.{ValOk};
@@ -22,7 +22,7 @@ impl Machine {
         kind: u64,
         items: u64,
     ) -> Result<Next, NoMem>
-        requires at { self.old.at < 2 ^ 63 }
+        requires at { self.old.at + 1 < 2 ^ 64 }
         requires ok { MachineOk self.old }
         ensures ok { IfOk result (λ _. MachineOk self.new) }
         ensures step { IfOk result (λ next. IsStep (core_of self.old) (makes (core_of self.old) shapes.now.items a kind items) next (core_of self.new)) }
@@ -49,7 +49,7 @@ impl Machine {
         kind: u64,
         count: Val,
     ) -> Result<Next, NoMem>
-        requires at { self.old.at < 2 ^ 63 }
+        requires at { self.old.at + 1 < 2 ^ 64 }
         requires ok { MachineOk self.old }
         ensures ok { IfOk result (λ _. MachineOk self.new) }
         ensures step { IfOk result (λ next. IsStep (core_of self.old) (makes_array (core_of self.old) shapes.now.items a kind (erase count)) next (core_of self.new)) }
@@ -68,7 +68,7 @@ impl Machine {
         kind: u64,
         count: i64,
     ) -> Result<Next, NoMem>
-        requires at { self.old.at < 2 ^ 63 }
+        requires at { self.old.at + 1 < 2 ^ 64 }
         requires ok { MachineOk self.old }
         ensures ok { IfOk result (λ _. MachineOk self.new) }
         ensures step { IfOk result (λ next. IsStep (core_of self.old) (makes_items (core_of self.old) shapes.now.items a kind count) next (core_of self.new)) }
@@ -80,7 +80,7 @@ impl Machine {
     }
 
     pub fn free(&mut self, pointer: Val) -> Next
-        requires at { self.old.at < 2 ^ 63 }
+        requires at { self.old.at + 1 < 2 ^ 64 }
         requires ok { MachineOk self.old }
         requires pointer { ValOk self.old.heap pointer }
         ensures ok { MachineOk self.new }

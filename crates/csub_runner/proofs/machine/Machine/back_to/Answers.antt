@@ -1,6 +1,6 @@
-use Rattle.std.proofs.Common.{rules, refl, ap, sym, ◌∙◌}
+use Rattle.std.proofs.Common.{rules, refl, sym}
 use Rattle.csub_runner.specs.Core.{core_of}
-use Rattle.csub_runner.proofs.Waits.{back_ok, back_is, end_is}
+use Rattle.csub_runner.proofs.Waits.{back_ok, back_is}
 use Rattle.csub_runner.proofs.machine.Machine.back_to.Goals as goal
 
 pub returns-in-Some-clause-ok : goal.returns-in-Some-clause-ok

@@ -1,4 +1,4 @@
-use Rattle.std.proofs.Common.{rules, refl, ap, sym, ◌∙◌}
+use Rattle.std.proofs.Common.{rules, refl}
 use Rattle.csub_runner.specs.Core.{core_of}
 use Rattle.csub_runner.proofs.Waits.{entered_ok, entered_is}
 use Rattle.csub_runner.proofs.machine.Machine.enter.Goals as goal

@@ -1,4 +1,4 @@
-use Rattle.std.proofs.Common.{ap, ◌∙◌, sym, rules}
+use Rattle.std.proofs.Common.{ap, ◌∙◌, rules}
 use Rattle.csub_runner.specs.Core.{core_of}
 use Rattle.csub_runner.specs.Erased.{erase, erase_cells}
 use Rattle.csub_runner.specs.Heap.{index_at}
