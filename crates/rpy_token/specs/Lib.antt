@@ -1,4 +1,5 @@
 pub mod Bytes
 pub mod Fault
 pub mod Number
+pub mod Quoted
 pub mod Words

@@ -5,6 +5,7 @@ mod bytes;
 mod fault;
 mod number;
 mod place;
+mod quoted;
 mod token;
 mod words;
 

@@ -42,11 +42,11 @@ fn with_digit(base: u64, value: u64, b: u8) -> Option<u64>
     value.checked_mul(base)?.checked_add(digit(b))
 }
 
-/// The value of digits, where it is a word.
-#[tactic(auto, using(crate::proofs::NumberLemmas::word_past), unfolding(crate::specs::Number::value_from))]
-fn word(base: u64, digits: &[u8]) -> Option<i64>
+/// The value of digits, where it is below 2^64.
+#[tactic(auto, using(crate::proofs::NumberLemmas::value_past, crate::proofs::NumberLemmas::value_whole), unfolding(crate::specs::Number::value_from))]
+pub fn value(base: u64, digits: &[u8]) -> Option<u64>
     requires { 0 < base }
-    ensures { result ≡ spec.word base digits.now }
+    ensures { SomeIff result (spec.value_from base 0 digits.now < 2 ^ 64) (spec.value_from base 0 digits.now) }
 {
     let mut value: u64 = 0;
     for b in digits {
@@ -55,7 +55,15 @@ fn word(base: u64, digits: &[u8]) -> Option<i64>
         };
         value = more;
     }
-    i64::try_from(value).ok()
+    Some(value)
+}
+
+/// The value of digits, where it is a word.
+fn word(base: u64, digits: &[u8]) -> Option<i64>
+    requires { 0 < base }
+    ensures { result ≡ spec.word base digits.now }
+{
+    i64::try_from(value(base, digits)?).ok()
 }
 
 /// The base of a number, and its digits.
