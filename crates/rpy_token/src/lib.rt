@@ -4,6 +4,7 @@
 mod bytes;
 mod fault;
 mod number;
+mod piece;
 mod place;
 mod quoted;
 mod token;
