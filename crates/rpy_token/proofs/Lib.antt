@@ -1,2 +1,6 @@
+pub mod LinesLemmas
 pub mod NumberLemmas
+pub mod Outcomes
 pub mod QuotedLemmas
+pub mod ScanLemmas
+pub mod Sizes

@@ -28,7 +28,7 @@ pub body_goes_on : (form : Form) (size start n at : ℕ) (found bytes : Bytes) (
 body_goes_on form size start n at found bytes next rest lt e c = after form size start n at found bytes next rest lt e ∙ rw c refl
 
 -- a bind fails as its first part does
-fails : {A B : Type 0} (e : TokenFault) (o : Outcome A) (f : A → Outcome B) → Fails e o → Fails e (o >>= f)
+pub fails : {A B : Type 0} (e : TokenFault) (o : Outcome A) (f : A → Outcome B) → Fails e o → Fails e (o >>= f)
 fails fault.NoMem o f h = tt
 fails (fault.BadByte at) o f h = rw h refl
 fails (fault.BadIndent at) o f h = rw h refl
@@ -36,7 +36,7 @@ fails (fault.OpenString at) o f h = rw h refl
 fails (fault.BadNumber at) o f h = rw h refl
 fails (fault.Limit kind at) o f h = rw h refl
 
-carry : {A : Type 0} (e : TokenFault) (o q : Outcome A) → o ≡ q → Fails e q → Fails e o
+pub carry : {A : Type 0} (e : TokenFault) (o q : Outcome A) → o ≡ q → Fails e q → Fails e o
 carry fault.NoMem o q s h = tt
 carry (fault.BadByte at) o q s h = s ∙ h
 carry (fault.BadIndent at) o q s h = s ∙ h

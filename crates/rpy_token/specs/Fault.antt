@@ -35,3 +35,13 @@ Gives view (Err e) outcome = Fails e outcome
 abbrev pub Same : {X A : Type 0} → (X → A) → Option X → Option A → Type 0
 Same view None o = o ≡ None
 Same view (Some x) o = o ≡ Some (view x)
+
+-- what a function that changes a value ensures: its value at the return, unless memory fails
+abbrev pub Moves : {X A : Type 0} → Outcome A → Result X TokenFault → A → Type 0
+Moves outcome (Ok x) new = outcome ≡ Ok new
+Moves outcome (Err e) new = Fails e outcome
+
+-- what is there, seen by view
+abbrev pub seen : {X A : Type 0} → (X → A) → Option X → Option A
+seen view None = None
+seen view (Some x) = Some (view x)

@@ -1,7 +1,9 @@
 pub mod Bytes
 pub mod Fault
+pub mod Levels
 pub mod Lines
 pub mod Number
 pub mod Piece
 pub mod Quoted
+pub mod Scan
 pub mod Words

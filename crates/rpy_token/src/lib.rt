@@ -3,12 +3,17 @@
 
 mod bytes;
 mod fault;
+mod levels;
+mod lines;
 mod number;
 mod piece;
 mod place;
 mod quoted;
+mod scan;
 mod token;
 mod words;
 
 pub use fault::{LimitKind, TokenFault};
+pub use lines::line_of;
+pub use scan::tokens;
 pub use token::{Keyword, Sign, Token, TokenKind, Tokens};

@@ -1,0 +1,307 @@
+// The tokens of a source, from left to right.
+ghost use Rattle.std.specs.Prelude.{◌≡◌, ◌≤◌, ◌<◌, ◌^◌, length, Ok, IfOk, OnOk};
+ghost use Rattle.rpy_token.specs.Lines.{rest_at};
+ghost use Rattle.rpy_token.specs.Scan as spec;
+ghost use Rattle.rpy_token.specs.Fault.{Gives, Moves, seen};
+
+use crate::bytes::{after_newline, blank_len};
+use crate::levels::{Levels, count, role_of};
+use crate::lines::Place;
+use crate::piece::{Piece, after_comment, next_piece};
+use crate::{LimitKind, Token, TokenFault, TokenKind, Tokens};
+use rpy_base::{NoMem, Seq, Text};
+use std::alloc::Global;
+
+/// How many indentations may be open at one place.
+const MAX_INDENTS: usize = 32;
+
+/// What was read so far: whether a logical line begins here, the open indentations from the
+/// outermost on, the brackets, and the tokens.
+#[derive(Drop)]
+pub struct Scan {
+    pub fresh: bool,
+    pub indents: Seq<u32>,
+    pub levels: Levels,
+    pub found: Seq<Token>,
+}
+
+/// A token of so many bytes.
+fn put(place: &Place<'_>, scan: &mut Scan, kind: TokenKind, n: usize) -> Result<(), NoMem>
+    requires { n ≤ length (rest_at place.now) }
+    ensures { OnOk result (scan.new ≡ spec.put kind n place.now scan.old) }
+{
+    let start = place.at();
+    let end = start + n as u32;
+    let line = place.line();
+    scan.found.push(Token {
+        kind,
+        start,
+        end,
+        line,
+    })
+}
+
+/// What follows a comment line's text, past its newline.
+fn past_newline(bytes: &[u8]) -> &[u8]
+    ensures { result.now ≡ spec.past_newline bytes.entry.now }
+{
+    after_newline(bytes).unwrap_or(bytes)
+}
+
+/// What follows a line of nothing but spaces, tabs and a comment, if that is what stands here.
+#[tactic(auto, unfolding(crate::specs::Scan::blank_line))]
+fn blank_line(size: u32, bytes: &[u8]) -> Result<Option<&[u8]>, TokenFault>
+    ensures { Gives (seen (λ x. x.now)) result (spec.blank_line size bytes.entry.now) }
+{
+    let (_, text) = bytes.split_at(blank_len(bytes));
+    let Some((b, rest)) = text.split_first() else {
+        return Ok(Some(text));
+    };
+    if *b != b'#' {
+        return Ok(after_newline(text));
+    }
+    let end = after_comment(size, rest)?;
+    Ok(Some(past_newline(end)))
+}
+
+#[tactic(auto, unfolding(crate::specs::Scan::has_tab))]
+fn has_tab(bytes: &[u8]) -> bool
+    ensures { result ≡ spec.has_tab bytes.now }
+{
+    for b in bytes {
+        if *b == b'\t' {
+            return true;
+        }
+    }
+    false
+}
+
+/// The innermost open indentation; where none is open, the margin.
+fn innermost(indents: &[u32]) -> u32
+    ensures { result ≡ spec.innermost indents.now }
+{
+    match indents.last() {
+        Some(width) => *width,
+        None => 0,
+    }
+}
+
+#[tactic(auto, unfolding(crate::specs::Scan::is_open))]
+fn is_open(width: u32, indents: &[u32]) -> bool
+    ensures { result ≡ spec.is_open width indents.now }
+{
+    for open in indents {
+        if *open == width {
+            return true;
+        }
+    }
+    false
+}
+
+/// How many open indentations are no wider.
+#[tactic(auto, unfolding(crate::specs::Scan::kept_len))]
+fn kept_len(width: u32, indents: &[u32]) -> usize
+    ensures value { result ≡ spec.kept_len width indents.now }
+    ensures within { result ≤ length indents.now }
+{
+    let mut n = 0;
+    for open in indents {
+        if *open > width {
+            return n;
+        }
+        n += 1;
+    }
+    n
+}
+
+/// One Dedent for each open indentation that is wider.
+#[tactic(auto, using(crate::proofs::ScanLemmas::one_closed), unfolding(crate::specs::Scan::close_indents))]
+fn close_indents(width: u32, place: &Place<'_>, scan: &mut Scan) -> Result<(), NoMem>
+    ensures { OnOk result (scan.new ≡ spec.close_indents width place.now scan.old) }
+{
+    let closing = scan.indents.len() - kept_len(width, scan.indents.as_slice());
+    for _turn in 0..closing {
+        put(place, scan, TokenKind::Dedent, 0)?;
+        scan.indents.pop();
+    }
+    Ok(())
+}
+
+fn open_indent(width: u32, place: &Place<'_>, scan: &mut Scan) -> Result<(), TokenFault>
+    ensures { Moves (spec.open_indent width place.now scan.old) result (place.now, scan.new) }
+{
+    if scan.indents.len() >= MAX_INDENTS {
+        return Err(TokenFault::Limit(LimitKind::Blocks, place.at()));
+    }
+    scan.indents.push(width)?;
+    put(place, scan, TokenKind::Indent, 0)?;
+    Ok(())
+}
+
+/// The text of a line that begins at `start` has this indentation.
+#[tactic(auto, unfolding(crate::specs::Scan::set_indent))]
+fn set_indent(
+    start: u32,
+    width: u32,
+    place: &Place<'_>,
+    scan: &mut Scan,
+) -> Result<(), TokenFault>
+    ensures { Moves (spec.set_indent start width place.now scan.old) result (place.now, scan.new) }
+{
+    let indents = scan.indents.as_slice();
+    if innermost(indents) < width {
+        open_indent(width, place, scan)
+    } else if width == 0 || is_open(width, indents) {
+        close_indents(width, place, scan)?;
+        Ok(())
+    } else {
+        Err(TokenFault::BadIndent(start))
+    }
+}
+
+#[tactic(auto, unfolding(crate::specs::Scan::indent))]
+fn indent(place: &mut Place<'_>, scan: &mut Scan) -> Result<(), TokenFault>
+    ensures { Moves (spec.indent place.old scan.old) result (place.new, scan.new) }
+{
+    let start = place.at();
+    let rest = place.rest();
+    let width = blank_len(rest);
+    if has_tab(&rest[..width]) {
+        return Err(TokenFault::BadIndent(start));
+    }
+    place.skip(width);
+    set_indent(start, width as u32, place, scan)
+}
+
+fn take_token(
+    n: usize,
+    kind: TokenKind,
+    place: &mut Place<'_>,
+    scan: &mut Scan,
+) -> Result<(), TokenFault>
+    requires { n ≤ length (rest_at place.old) }
+    ensures { Moves (spec.take_token n kind place.old scan.old) result (place.new, scan.new) }
+{
+    count(place.at(), role_of(&kind), &mut scan.levels)?;
+    put(place, scan, kind, n)?;
+    place.skip(n);
+    Ok(())
+}
+
+#[tactic(auto, unfolding(crate::specs::Scan::take_piece))]
+fn take_piece(
+    n: usize,
+    piece: Piece,
+    place: &mut Place<'_>,
+    scan: &mut Scan,
+) -> Result<(), TokenFault>
+    requires { n ≤ length (rest_at place.old) }
+    ensures { Moves (spec.take_piece n place.old scan.old piece) result (place.new, scan.new) }
+{
+    match piece {
+        Piece::Blank => {
+            place.skip(n);
+            Ok(())
+        }
+        Piece::Lexeme(kind) => take_token(n, kind, place, scan),
+        Piece::LineEnd => {
+            if scan.levels.outer.len() > 0 {
+                place.skip(n);
+                return Ok(());
+            }
+            scan.fresh = true;
+            take_token(n, TokenKind::Newline, place, scan)
+        }
+    }
+}
+
+/// How many bytes there are before a rest.
+fn used(bytes: &[u8], rest: &[u8]) -> usize
+    ensures value { result ≡ spec.used bytes.now rest.now }
+    ensures within { result ≤ length bytes.now }
+{
+    bytes.len().saturating_sub(rest.len())
+}
+
+#[tactic(auto, unfolding(crate::specs::Scan::inside))]
+fn inside(alloc: Global, place: &mut Place<'_>, scan: &mut Scan) -> Result<(), TokenFault>
+    ensures { Moves (spec.inside place.old scan.old) result (place.new, scan.new) }
+{
+    let bytes = place.rest();
+    let (piece, rest) = next_piece(alloc, place.size(), bytes)?;
+    take_piece(used(bytes, rest), piece, place, scan)
+}
+
+#[tactic(auto, unfolding(crate::specs::Scan::begin))]
+fn begin(alloc: Global, place: &mut Place<'_>, scan: &mut Scan) -> Result<(), TokenFault>
+    ensures { Moves (spec.begin place.old scan.old) result (place.new, scan.new) }
+{
+    let bytes = place.rest();
+    match blank_line(place.size(), bytes)? {
+        Some(rest) => {
+            place.skip(used(bytes, rest));
+            Ok(())
+        }
+        None => {
+            indent(place, scan)?;
+            scan.fresh = false;
+            inside(alloc, place, scan)
+        }
+    }
+}
+
+fn turn(alloc: Global, place: &mut Place<'_>, scan: &mut Scan) -> Result<(), TokenFault>
+    ensures { Moves (spec.turn place.old scan.old) result (place.new, scan.new) }
+{
+    if scan.fresh {
+        begin(alloc, place, scan)
+    } else {
+        inside(alloc, place, scan)
+    }
+}
+
+#[tactic(auto, unfolding(crate::specs::Scan::finish))]
+fn finish(place: &Place<'_>, mut scan: Scan) -> Result<Seq<Token>, TokenFault>
+    ensures { Gives (λ x. x) result (Ok (spec.finish place.now scan)) }
+{
+    if !scan.fresh {
+        put(place, &mut scan, TokenKind::Newline, 0)?;
+    }
+    close_indents(0, place, &mut scan)?;
+    put(place, &mut scan, TokenKind::End, 0)?;
+    Ok(scan.found)
+}
+
+#[tactic(auto, using(crate::proofs::ScanLemmas::run_more, crate::proofs::ScanLemmas::run_done, crate::proofs::ScanLemmas::run_fails), unfolding(crate::specs::Scan::token_list))]
+fn token_list(alloc: Global, source: &[u8]) -> Result<Seq<Token>, TokenFault>
+    requires { length source.now ≤ 1048576 }
+    ensures { Gives (λ x. x) result (spec.token_list source.now) }
+{
+    let mut place = Place::new(source);
+    let levels = Levels {
+        operators: 0,
+        outer: Seq::new(alloc),
+    };
+    let mut scan = Scan {
+        fresh: true,
+        indents: Seq::new(alloc),
+        levels,
+        found: Seq::new(alloc),
+    };
+    for _turn in 0..source.len() {
+        if place.rest().is_empty() {
+            return finish(&place, scan);
+        }
+        turn(alloc, &mut place, &mut scan)?;
+    }
+    finish(&place, scan)
+}
+
+/// The tokens of a source.
+#[tactic(auto, using(crate::proofs::Sizes::few_tokens))]
+pub fn tokens(alloc: Global, source: &Text) -> Result<Tokens, TokenFault>
+    requires { length source.now ≤ 1048576 }
+    ensures { Gives (λ x. x) result (spec.token_list source.now) }
+{
+    Ok(Tokens::from_seq(token_list(alloc, source.bytes())?))
+}
