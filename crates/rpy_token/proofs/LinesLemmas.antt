@@ -1,6 +1,6 @@
 -- Newlines, counted.
 use Rattle.std.proofs.Common.{◌≡◌, ℕ, ◌+◌, ◌≤◌, ◌++◌, cond, eqb, List, length, take, drop, sym, ap, ◌∙◌, arith}
-use Rattle.std.specs.List.{count_by, sum_by}
+use Rattle.std.specs.List.{count_by}
 use Rattle.std.proofs.lemmas.List.{length-take, length-drop, take-append-drop, take-take, drop-take}
 use Rattle.std.proofs.lemmas.List.Sums.{count_by-le-length, sum_by-append}
 use Rattle.rpy_token.specs.Bytes.{Bytes}

@@ -1,9 +1,8 @@
 -- One more turn.
-use Rattle.std.proofs.Common.{◌≡◌, ℕ, zero, suc, ◌+◌, ◌-◌, ◌<◌, ◌≤◌, Bool, true, false, cond, eqb, List, [], ◌∷◌, ◌++◌, length, take, replicate, Option, Some, None, MatchOption, Ok, Err, refl, ap, ◌∙◌, sym, arith, append_assoc, length-append}
+use Rattle.std.proofs.Common.{◌≡◌, ℕ, zero, suc, ◌+◌, ◌-◌, ◌<◌, ◌≤◌, false, cond, eqb, List, [], ◌∷◌, ◌++◌, length, take, replicate, Option, Some, None, MatchOption, Ok, refl, ap, ◌∙◌, sym, arith, append_assoc, length-append}
 use Rattle.std.proofs.lemmas.Bool.Decides.{nat_tests}
 use Rattle.std.proofs.lemmas.List.{replicate-append-replicate, length-take, take-take, take_at}
 use Rattle.rpy_token.specs.declared.fault.TokenFault.{TokenFault}
-use Rattle.rpy_token.specs.declared.fault.TokenFault.TheVariants as fault
 use Rattle.rpy_token.specs.declared.scan.Scan.{Scan}
 use Rattle.rpy_token.specs.declared.token.Token.{Token}
 use Rattle.rpy_token.specs.Fault.{Outcome, ◌>>=◌, Fails}
@@ -49,9 +48,9 @@ front_popped xs m old new (Some last) e in_range h =
 -- after so many Dedents
 abbrev pub closed_by : ℕ → Spot → Scan → Scan
 closed_by n spot scan = record scan {
-    indents = take (length scan.indents - n) scan.indents;
-    found = scan.found ++ replicate n (token_at kind.Dedent 0 spot)
-  }
+  indents = take (length scan.indents - n) scan.indents;
+  found = scan.found ++ replicate n (token_at kind.Dedent 0 spot);
+}
 
 pub close_more : (spot : Spot) (before now after : Scan) (n : ℕ) (o : Option ℕ) (new : List ℕ)
     → now ≡ closed_by n spot before → after ≡ put kind.Dedent 0 spot now

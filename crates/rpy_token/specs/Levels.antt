@@ -1,5 +1,5 @@
 -- Brackets, and the operators between two separators.
-use Rattle.std.specs.Prelude.{ℕ, ◌+◌, ◌-◌, nat_lt, if◌then◌else◌, List, [], ◌∷◌, ◌++◌, length, take, slice_index, Ok, Err}
+use Rattle.std.specs.Prelude.{ℕ, ◌+◌, ◌-◌, nat_lt, if◌then◌else◌, [], ◌∷◌, ◌++◌, length, take, slice_index, Ok, Err}
 use Rattle.rpy_token.specs.declared.fault.LimitKind.TheVariants.{Brackets, Operators}
 use Rattle.rpy_token.specs.declared.fault.TokenFault.TheVariants as fault
 use Rattle.rpy_token.specs.declared.levels.Levels.{Levels}
@@ -67,7 +67,7 @@ opened levels = record { operators = 0; outer = levels.outer ++ levels.operators
 abbrev pub closed : Levels → Levels
 closed levels =
     if nat_lt 0 (length levels.outer) then
-        record { operators = slice_index levels.outer (length levels.outer - 1); outer = take (length levels.outer - 1) levels.outer }
+    record { operators = slice_index levels.outer (length levels.outer - 1); outer = take (length levels.outer - 1) levels.outer }
     else levels
 
 -- the levels after a token of this role at a place

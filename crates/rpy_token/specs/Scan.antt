@@ -60,7 +60,7 @@ close_indents width spot scan =
     let kept = kept_len width scan.indents in
     record scan {
       indents = take kept scan.indents;
-      found = scan.found ++ replicate (length scan.indents - kept) (token_at kind.Dedent 0 spot)
+      found = scan.found ++ replicate (length scan.indents - kept) (token_at kind.Dedent 0 spot);
     }
 
 -- at most 32 indentations are open

@@ -17,3 +17,6 @@ pub use fault::{LimitKind, TokenFault};
 pub use lines::line_of;
 pub use scan::tokens;
 pub use token::{Keyword, Sign, Token, TokenKind, Tokens};
+
+#[cfg(test)]
+mod tests;

@@ -140,12 +140,7 @@ fn open_indent(width: u32, place: &Place<'_>, scan: &mut Scan) -> Result<(), Tok
 
 /// The text of a line that begins at `start` has this indentation.
 #[tactic(auto, unfolding(crate::specs::Scan::set_indent))]
-fn set_indent(
-    start: u32,
-    width: u32,
-    place: &Place<'_>,
-    scan: &mut Scan,
-) -> Result<(), TokenFault>
+fn set_indent(start: u32, width: u32, place: &Place<'_>, scan: &mut Scan) -> Result<(), TokenFault>
     ensures { Moves (spec.set_indent start width place.now scan.old) result (place.now, scan.new) }
 {
     let indents = scan.indents.as_slice();
