@@ -4,3 +4,4 @@ pub mod Outcomes
 pub mod QuotedLemmas
 pub mod ScanLemmas
 pub mod Sizes
+pub mod StackLemmas

@@ -29,3 +29,8 @@ ok_is x y e = cc
 pub read_is : {A : Type 0} (P : A → Type 0) (o : Outcome A) (x : A) → OnRead P o → o ≡ Ok x → P x
 read_is P (Ok y) x h e = subst P (ok_is y x e) h
 read_is P (Err f) x h e = absurd cc
+
+-- of a test
+pub on_test : (P : Bool → Type 0) (b : Bool) → (b ≡ true → P true) → (b ≡ false → P false) → P b
+on_test P true on_true on_false = on_true refl
+on_test P false on_true on_false = on_false refl

@@ -1,14 +1,14 @@
 -- One more turn.
-use Rattle.std.proofs.Common.{◌≡◌, ℕ, zero, suc, ◌+◌, ◌-◌, ◌<◌, ◌≤◌, false, cond, eqb, List, [], ◌∷◌, ◌++◌, length, take, replicate, Option, Some, None, MatchOption, Ok, refl, ap, ◌∙◌, sym, arith, append_assoc, length-append}
+use Rattle.std.proofs.Common.{◌≡◌, ℕ, zero, suc, ◌+◌, ◌-◌, ◌<◌, true, false, cond, eqb, ltb, List, [], ◌∷◌, ◌++◌, length, replicate, Option, Some, None, MatchOption, Ok, refl, ap, ◌∙◌, sym, arith, append_assoc, append-nil}
 use Rattle.std.proofs.lemmas.Bool.Decides.{nat_tests}
-use Rattle.std.proofs.lemmas.List.{replicate-append-replicate, length-take, take-take, take_at}
+use Rattle.std.proofs.lemmas.List.{replicate-append-replicate}
 use Rattle.rpy_token.specs.declared.fault.TokenFault.{TokenFault}
 use Rattle.rpy_token.specs.declared.scan.Scan.{Scan}
 use Rattle.rpy_token.specs.declared.token.Token.{Token}
 use Rattle.rpy_token.specs.Fault.{Outcome, ◌>>=◌, Fails}
 use Rattle.rpy_token.specs.Lines.{Spot, rest_at}
 use Rattle.rpy_token.specs.declared.token.TokenKind.TheVariants as kind
-use Rattle.rpy_token.specs.Scan.{turn, run, finish, put, token_at}
+use Rattle.rpy_token.specs.Scan.{turn, run, finish, put, token_at, has_wider, wider, kept, close_indents}
 use Rattle.rpy_token.proofs.QuotedLemmas.{fails, carry}
 
 pub one_closed : (n : ℕ) (t : Token) (found : List Token) → (found ++ replicate n t) ++ t ∷ [] ≡ found ++ replicate (n + 1) t
@@ -36,32 +36,42 @@ pub run_fails : (e : TokenFault) (n at : ℕ) (spot : Spot) (scan : Scan) (total
 run_fails e n at spot scan total so_far lt some h =
     carry e total _ (so_far ∙ unroll n at spot scan lt some) (fails e (turn spot scan) _ h)
 
--- what is left when the last of a front is taken
-pub front_popped : (xs : List ℕ) (m : ℕ) (old new : List ℕ) (o : Option ℕ) → old ≡ take m xs → m ≤ length xs → MatchOption o ((old ≡ []) × (new ≡ [])) (λ last. old ≡ new ++ last ∷ []) → new ≡ take (m - 1) xs
-front_popped xs m old new None e in_range h =
-    let none : m ≡ 0 = omega (arith, ap length e, ap length h.0, length-take m xs) in
-    h.1 ∙ ap (λ k. take (k - 1) xs) (sym none)
-front_popped xs m old new (Some last) e in_range h =
-    let size : length new ≡ m - 1 = omega (arith, ap length e, ap length h, length-append new (last ∷ []), length-take m xs) in
-    sym (take_at new (last ∷ []) (m - 1) size) ∙ ap (take (m - 1)) (sym h ∙ e) ∙ take-take (m - 1) m xs (omega arith)
+-- ---- one more Dedent
 
--- after so many Dedents
-abbrev pub closed_by : ℕ → Spot → Scan → Scan
-closed_by n spot scan = record scan {
-  indents = take (length scan.indents - n) scan.indents;
-  found = scan.found ++ replicate n (token_at kind.Dedent 0 spot);
-}
-
-pub close_more : (spot : Spot) (before now after : Scan) (n : ℕ) (o : Option ℕ) (new : List ℕ)
-    → now ≡ closed_by n spot before → after ≡ put kind.Dedent 0 spot now
-    → MatchOption o ((after.indents ≡ []) × (new ≡ [])) (λ last. after.indents ≡ new ++ last ∷ []) → n < length before.indents
-    → record after { indents = new } ≡ closed_by (n + 1) spot before
-close_more spot before now after n o new so_far one pop lt =
+closes_one : (width top : ℕ) (new : List ℕ) (spot : Spot) (now after : Scan) → after ≡ put kind.Dedent 0 spot now → now.indents ≡ top ∷ new → ltb width top ≡ true
+    → close_indents width spot (record after { indents = new }) ≡ close_indents width spot now
+unfolding kept wider
+closes_one width top new spot now after one is lt =
     let t : Token = token_at kind.Dedent 0 spot in
-    let size : ℕ = length before.indents in
-    let e : after ≡ put kind.Dedent 0 spot (closed_by n spot before) = one ∙ ap (put kind.Dedent 0 spot) so_far in
-    let left : new ≡ take (size - n - 1) before.indents = front_popped before.indents (size - n) after.indents new o (ap (λ (s : Scan). s.indents) e) (omega arith) pop in
-    let same : size - n - 1 ≡ size - (n + 1) = omega arith in
-    ap (λ (s : Scan). record s { indents = new }) e
-    ∙ ap (λ (is : List ℕ). record before { indents = is; found = (before.found ++ replicate n t) ++ t ∷ [] }) (left ∙ ap (λ k. take k before.indents) same)
-    ∙ ap (λ (fs : List Token). record before { indents = take (size - (n + 1)) before.indents; found = fs }) (one_closed n t before.found)
+    let k : kept width now.indents ≡ kept width new = ap (kept width) is ∙ ap (λ b. cond b (kept width new) (top ∷ new)) lt in
+    let w : wider width now.indents ≡ suc (wider width new) = ap (wider width) is ∙ ap (λ b. cond b (suc (wider width new)) 0) lt in
+    let f : (now.found ++ t ∷ []) ++ replicate (wider width new) t ≡ now.found ++ replicate (wider width now.indents) t =
+    append_assoc now.found (t ∷ []) (replicate (wider width new) t) ∙ ap (λ m. now.found ++ replicate m t) (sym w) in
+    ap (λ (s : Scan). close_indents width spot (record s { indents = new })) one
+    ∙ ap (λ (is : List ℕ). record now { indents = is; found = (now.found ++ t ∷ []) ++ replicate (wider width new) t }) (sym k)
+    ∙ ap (λ (fs : List Token). record now { indents = kept width now.indents; found = fs }) f
+
+pub one_wider : (width : ℕ) (spot : Spot) (before now after : Scan) (o : Option ℕ) (new : List ℕ)
+    → close_indents width spot now ≡ close_indents width spot before → after ≡ put kind.Dedent 0 spot now → has_wider width now.indents ≡ true
+    → MatchOption o ((after.indents ≡ []) × (new ≡ [])) (λ top. after.indents ≡ top ∷ new)
+    → close_indents width spot (record after { indents = new }) ≡ close_indents width spot before
+one_wider width spot before now after None new so_far one more pop =
+    let none : now.indents ≡ [] = sym (ap (λ (s : Scan). s.indents) one) ∙ pop.0 in
+    let no_more : has_wider width now.indents ≡ false = ap (has_wider width) none in
+    absurd cc
+one_wider width spot before now after (Some top) new so_far one more pop =
+    let is : now.indents ≡ top ∷ new = sym (ap (λ (s : Scan). s.indents) one) ∙ pop in
+    closes_one width top new spot now after one is (sym (ap (has_wider width) is) ∙ more) ∙ so_far
+
+kept_same : (width : ℕ) (is : List ℕ) → has_wider width is ≡ false → (kept width is ≡ is) × (wider width is ≡ 0)
+unfolding kept wider
+kept_same width [] h = (refl, refl)
+kept_same width (i ∷ is) h = (ap (λ b. cond b (kept width is) (i ∷ is)) h, ap (λ b. cond b (suc (wider width is)) 0) h)
+
+pub none_wider : (width : ℕ) (spot : Spot) (scan : Scan) → has_wider width scan.indents ≡ false → close_indents width spot scan ≡ scan
+none_wider width spot scan none =
+    let t : Token = token_at kind.Dedent 0 spot in
+    let k = kept_same width scan.indents none in
+    ap (λ (is : List ℕ). record scan { indents = is; found = scan.found ++ replicate (wider width scan.indents) t }) k.0
+    ∙ ap (λ (n : ℕ). record scan { found = scan.found ++ replicate n t }) k.1
+    ∙ ap (λ (fs : List Token). record scan { found = fs }) (append-nil scan.found)

@@ -1,7 +1,7 @@
 -- How many tokens a source has.
-use Rattle.std.proofs.Common.{◌≡◌, ℕ, zero, suc, ◌+◌, ◌-◌, ◌*◌, ◌^◌, ◌<◌, ◌≤◌, true, false, cond, eqb, ltb, ◌||◌, List, [], ◌∷◌, ◌++◌, length, take, replicate, Option, Some, None, Ok, Err, arith, length-append}
+use Rattle.std.proofs.Common.{◌≡◌, ℕ, zero, suc, ◌+◌, ◌*◌, ◌^◌, ◌<◌, ◌≤◌, true, false, cond, eqb, ltb, List, [], ◌∷◌, ◌++◌, length, take, replicate, Option, Some, None, Ok, Err, arith, length-append}
 use Rattle.std.proofs.lemmas.Bool.Decides.{nat_tests}
-use Rattle.std.proofs.lemmas.List.{length-take, length-replicate}
+use Rattle.std.proofs.lemmas.List.{length-replicate}
 use Rattle.rpy_token.specs.declared.fault.TokenFault.TheVariants as fault
 use Rattle.rpy_token.specs.declared.piece.Piece.{Piece}
 use Rattle.rpy_token.specs.declared.piece.Piece.TheVariants as p
@@ -14,8 +14,8 @@ use Rattle.rpy_token.specs.Fault.{Outcome, ◌>>=◌}
 use Rattle.rpy_token.specs.Levels.{role_of, counted}
 use Rattle.rpy_token.specs.Lines.{Spot, rest_at, size_at, skip}
 use Rattle.rpy_token.specs.Piece.{next_piece}
-use Rattle.rpy_token.specs.Scan.{token_at, put, take_token, take_piece, used, inside, innermost, is_open, kept_len, close_indents, open_indent, set_indent, has_tab, indent, blank_line, begin_after, begin, turn, finish, run, token_list, first_scan}
-use Rattle.rpy_token.proofs.Outcomes.{OnRead, on_bind, on_any, on_if, read_is}
+use Rattle.rpy_token.specs.Scan.{token_at, put, take_token, take_piece, used, inside, innermost, wider, kept, close_indents, open_indent, set_indent, has_tab, indent, blank_line, begin_after, begin, turn, finish, run, token_list, first_scan}
+use Rattle.rpy_token.proofs.Outcomes.{OnRead, on_bind, on_any, on_if, on_test, read_is}
 
 -- few indentations are open, and at most k tokens are new
 abbrev pub Small : ℕ → Scan → Spot × Scan → Type 0
@@ -45,24 +45,29 @@ below n k e = grind (arith, nat_tests)
 
 open_small : (width : ℕ) (spot : Spot) (scan : Scan) → OnRead (Small 32 scan) (open_indent width spot scan)
 open_small width spot scan =
-    on_if (OnRead (Small 32 scan)) (ltb (length scan.indents) 32) (Ok (spot, put kind.Indent 0 spot (record scan { indents = scan.indents ++ width ∷ [] }))) _
-    (λ e. (omega (arith, below (length scan.indents) 32 e, length-append scan.indents (width ∷ [])), omega (arith, length-append scan.found (token_at kind.Indent 0 spot ∷ []))))
+    on_if (OnRead (Small 32 scan)) (ltb (length scan.indents) 32) (Ok (spot, put kind.Indent 0 spot (record scan { indents = width ∷ scan.indents }))) _
+    (λ e. (omega (arith, below (length scan.indents) 32 e), omega (arith, length-append scan.found (token_at kind.Indent 0 spot ∷ []))))
     (λ _. tt)
 
+wider_few : (width : ℕ) (is : List ℕ) → (length (kept width is) ≤ length is) × (wider width is ≤ length is)
+unfolding kept wider
+wider_few width [] = (omega arith, omega arith)
+wider_few width (i ∷ is) =
+    let rest = wider_few width is in
+    on_test (λ b. (length (cond b (kept width is) (i ∷ is)) ≤ length (i ∷ is)) × (cond b (suc (wider width is)) 0 ≤ length (i ∷ is))) (ltb width i) (λ _. (omega (arith, rest.0), omega (arith, rest.1))) (λ _. (omega arith, omega arith))
+
 close_small : (width : ℕ) (spot : Spot) (scan : Scan) → length scan.indents ≤ 32 → Small 32 scan (spot, close_indents width spot scan)
-unfolding close_indents
 close_small width spot scan few =
-    let kept = kept_len width scan.indents in
-    let t = token_at kind.Dedent 0 spot in (
-      omega (arith, length-take (kept_len width scan.indents) scan.indents),
-      omega (arith, length-append scan.found (replicate (length scan.indents - kept_len width scan.indents) (token_at kind.Dedent 0 spot)), length-replicate (length scan.indents - kept_len width scan.indents) (token_at kind.Dedent 0 spot)),
+    let w = wider_few width scan.indents in (
+      omega (arith, w.0),
+      omega (arith, w.1, length-append scan.found (replicate (wider width scan.indents) (token_at kind.Dedent 0 spot)), length-replicate (wider width scan.indents) (token_at kind.Dedent 0 spot)),
     )
 
 set_small : (start width : ℕ) (spot : Spot) (scan : Scan) → length scan.indents ≤ 32 → OnRead (Small 32 scan) (set_indent start width spot scan)
 unfolding set_indent
 set_small start width spot scan few =
     on_if (OnRead (Small 32 scan)) (ltb (innermost scan.indents) width) (open_indent width spot scan) _ (λ _. open_small width spot scan)
-    (λ _. on_if (OnRead (Small 32 scan)) (eqb width 0 || is_open width scan.indents) (Ok (spot, close_indents width spot scan)) (Err (fault.BadIndent start)) (λ _. close_small width spot scan few) (λ _. tt))
+    (λ _. on_if (OnRead (Small 32 scan)) (eqb (innermost (kept width scan.indents)) width) (Ok (spot, close_indents width spot scan)) (Err (fault.BadIndent start)) (λ _. close_small width spot scan few) (λ _. tt))
 
 indent_small : (spot : Spot) (scan : Scan) → length scan.indents ≤ 32 → OnRead (Small 32 scan) (indent spot scan)
 unfolding indent
@@ -93,7 +98,7 @@ finish_small spot scan few =
     let P : Scan → Type 0 = λ s. (length s.indents ≤ 32) × (length s.found ≤ length scan.found + 1) in
     let ended : Scan = cond scan.fresh scan (put kind.Newline 0 spot scan) in
     let e : P ended = on_if P scan.fresh scan (put kind.Newline 0 spot scan) (λ _. (few, omega arith)) (λ _. (few, omega (arith, length-append scan.found (token_at kind.Newline 0 spot ∷ [])))) in
-    omega (arith, e.1, (close_small 0 spot ended e.0).1, length-append (close_indents 0 spot ended).found (token_at kind.End 0 spot ∷ []))
+    omega (arith, e.0, e.1, length-append ended.found (replicate (length ended.indents) (token_at kind.Dedent 0 spot)), length-replicate (length ended.indents) (token_at kind.Dedent 0 spot), length-append (ended.found ++ replicate (length ended.indents) (token_at kind.Dedent 0 spot)) (token_at kind.End 0 spot ∷ []))
 
 abbrev Short : ℕ → Scan → List Token → Type 0
 Short n scan list = length list ≤ length scan.found + 33 * n + 34

@@ -1,5 +1,5 @@
 -- Brackets, and the operators between two separators.
-use Rattle.std.specs.Prelude.{ℕ, ◌+◌, ◌-◌, nat_lt, if◌then◌else◌, [], ◌∷◌, ◌++◌, length, take, slice_index, Ok, Err}
+use Rattle.std.specs.Prelude.{ℕ, ◌+◌, nat_lt, if◌then◌else◌, List, [], ◌∷◌, length, Ok, Err}
 use Rattle.rpy_token.specs.declared.fault.LimitKind.TheVariants.{Brackets, Operators}
 use Rattle.rpy_token.specs.declared.fault.TokenFault.TheVariants as fault
 use Rattle.rpy_token.specs.declared.levels.Levels.{Levels}
@@ -61,14 +61,15 @@ with_operator at levels =
 
 -- A bracket is an operator of the level around it, and begins a level of its own.
 abbrev pub opened : Levels → Levels
-opened levels = record { operators = 0; outer = levels.outer ++ levels.operators ∷ [] }
+opened levels = record { operators = 0; outer = levels.operators ∷ levels.outer }
 
--- at depth zero a closing bracket changes nothing
+-- back in the level around; at depth zero a closing bracket changes nothing
+abbrev pub back_in : Levels → List ℕ → Levels
+back_in levels [] = levels
+back_in levels (operators ∷ outer) = record { operators = operators; outer = outer }
+
 abbrev pub closed : Levels → Levels
-closed levels =
-    if nat_lt 0 (length levels.outer) then
-    record { operators = slice_index levels.outer (length levels.outer - 1); outer = take (length levels.outer - 1) levels.outer }
-    else levels
+closed levels = back_in levels levels.outer
 
 -- the levels after a token of this role at a place
 unfoldable pub counted : ℕ → Role → Levels → Outcome Levels

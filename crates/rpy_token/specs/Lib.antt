@@ -6,4 +6,5 @@ pub mod Number
 pub mod Piece
 pub mod Quoted
 pub mod Scan
+pub mod Stack
 pub mod Words

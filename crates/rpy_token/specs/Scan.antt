@@ -1,5 +1,5 @@
 -- The tokens of a source, from left to right.
-use Rattle.std.specs.Prelude.{ℕ, zero, suc, ◌+◌, ◌-◌, Bool, true, false, ◌||◌, nat_lt, nat_le, ◌==◌, if◌then◌else◌, List, [], ◌∷◌, ◌++◌, length, take, drop, replicate, slice_index, unwrap_or, Option, Some, None, Ok, Err}
+use Rattle.std.specs.Prelude.{ℕ, zero, suc, ◌+◌, ◌-◌, Bool, true, false, ◌||◌, nat_lt, ◌==◌, if◌then◌else◌, List, [], ◌∷◌, ◌++◌, length, take, drop, replicate, unwrap_or, Option, Some, None, Ok, Err}
 use Rattle.rpy_token.specs.declared.fault.LimitKind.TheVariants.{Blocks}
 use Rattle.rpy_token.specs.declared.fault.TokenFault.TheVariants as fault
 use Rattle.rpy_token.specs.declared.piece.Piece.{Piece}
@@ -41,39 +41,46 @@ unfoldable pub has_tab : Bytes → Bool
 has_tab [] = false
 has_tab (b ∷ bs) = b == 9 || has_tab bs
 
--- the innermost open indentation; where none is open, the margin
+-- The open indentations stand with the innermost first. Where none is open, the margin serves.
 abbrev pub innermost : List ℕ → ℕ
-innermost indents = if nat_lt 0 (length indents) then slice_index indents (length indents - 1) else 0
+innermost [] = 0
+innermost (i ∷ is) = i
 
-unfoldable pub is_open : ℕ → List ℕ → Bool
-is_open width [] = false
-is_open width (i ∷ is) = i == width || is_open width is
+-- is the innermost one wider?
+abbrev pub has_wider : ℕ → List ℕ → Bool
+has_wider width [] = false
+has_wider width (i ∷ is) = nat_lt width i
 
--- how many open indentations are no wider
-unfoldable pub kept_len : ℕ → List ℕ → ℕ
-kept_len width [] = 0
-kept_len width (i ∷ is) = if nat_le i width then suc (kept_len width is) else 0
+-- how many open indentations are wider, up to one that is not
+unfoldable pub wider : ℕ → List ℕ → ℕ
+wider width [] = 0
+wider width (i ∷ is) = if nat_lt width i then suc (wider width is) else 0
+
+-- and which are left without these
+unfoldable pub kept : ℕ → List ℕ → List ℕ
+kept width [] = []
+kept width (i ∷ is) = if nat_lt width i then kept width is else i ∷ is
+
+-- so many Dedents more
+abbrev pub with_dedents : ℕ → Spot → List Token → List Token
+with_dedents n spot found = found ++ replicate n (token_at kind.Dedent 0 spot)
 
 -- one Dedent for each open indentation that is wider
-unfoldable pub close_indents : ℕ → Spot → Scan → Scan
+abbrev pub close_indents : ℕ → Spot → Scan → Scan
 close_indents width spot scan =
-    let kept = kept_len width scan.indents in
-    record scan {
-      indents = take kept scan.indents;
-      found = scan.found ++ replicate (length scan.indents - kept) (token_at kind.Dedent 0 spot);
-    }
+    record scan { indents = kept width scan.indents; found = with_dedents (wider width scan.indents) spot scan.found }
 
 -- at most 32 indentations are open
 abbrev pub open_indent : ℕ → Spot → Scan → Outcome (Spot × Scan)
 open_indent width spot scan =
-    if nat_lt (length scan.indents) 32 then Ok (spot, put kind.Indent 0 spot (record scan { indents = scan.indents ++ width ∷ [] }))
+    if nat_lt (length scan.indents) 32 then Ok (spot, put kind.Indent 0 spot (record scan { indents = width ∷ scan.indents }))
     else Err (fault.Limit Blocks spot.at)
 
--- the text of a line that begins at a place has this indentation
+-- the indentation of the text of a line that begins at a place
 unfoldable pub set_indent : ℕ → ℕ → Spot → Scan → Outcome (Spot × Scan)
 set_indent start width spot scan =
     if nat_lt (innermost scan.indents) width then open_indent width spot scan
-    else (if width == 0 || is_open width scan.indents then Ok (spot, close_indents width spot scan)
+    else (if innermost (kept width scan.indents) == width then Ok (spot, close_indents width spot scan)
     else Err (fault.BadIndent start))
 
 unfoldable pub indent : Spot → Scan → Outcome (Spot × Scan)
@@ -119,7 +126,7 @@ turn spot scan = if scan.fresh then begin spot scan else inside spot scan
 unfoldable pub finish : Spot → Scan → List Token
 finish spot scan =
     let ended = if scan.fresh then scan else put kind.Newline 0 spot scan in
-    (put kind.End 0 spot (close_indents 0 spot ended)).found
+    with_dedents (length ended.indents) spot ended.found ++ token_at kind.End 0 spot ∷ []
 
 -- in at most so many turns
 abbrev pub run : ℕ → Spot → Scan → Outcome (List Token)

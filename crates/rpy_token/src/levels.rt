@@ -3,9 +3,9 @@ ghost use Rattle.std.specs.Prelude.{◌≡◌, Ok};
 ghost use Rattle.rpy_token.specs.Levels as spec;
 ghost use Rattle.rpy_token.specs.Fault.{Moves};
 
+use crate::stack::Stack;
 use crate::token::{Keyword, Sign};
 use crate::{LimitKind, TokenFault, TokenKind};
-use rpy_base::Seq;
 
 /// How many brackets may be open at one place.
 const MAX_BRACKETS: usize = 16;
@@ -22,12 +22,11 @@ pub enum Role {
     Plain,
 }
 
-/// The operators since the last separator: of the innermost bracket, and of the levels around it
-/// from the outermost on.
+/// The operators since the last separator, in the innermost bracket and in the levels around it.
 #[derive(Drop)]
 pub struct Levels {
     pub operators: u32,
-    pub outer: Seq<u32>,
+    pub outer: Stack,
 }
 
 fn role_of_sign(sign: Sign) -> Role

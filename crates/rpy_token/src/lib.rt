@@ -10,6 +10,7 @@ mod piece;
 mod place;
 mod quoted;
 mod scan;
+mod stack;
 mod token;
 mod words;
 

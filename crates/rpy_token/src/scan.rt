@@ -8,6 +8,7 @@ use crate::bytes::{after_newline, blank_len};
 use crate::levels::{Levels, count, role_of};
 use crate::lines::Place;
 use crate::piece::{Piece, after_comment, next_piece};
+use crate::stack::Stack;
 use crate::{LimitKind, Token, TokenFault, TokenKind, Tokens};
 use rpy_base::{NoMem, Seq, Text};
 use std::alloc::Global;
@@ -15,12 +16,12 @@ use std::alloc::Global;
 /// How many indentations may be open at one place.
 const MAX_INDENTS: usize = 32;
 
-/// What was read so far: whether a logical line begins here, the open indentations from the
-/// outermost on, the brackets, and the tokens.
+/// What was read so far: whether a logical line begins here, the open indentations with the
+/// innermost first, the brackets, and the tokens.
 #[derive(Drop)]
 pub struct Scan {
     pub fresh: bool,
-    pub indents: Seq<u32>,
+    pub indents: Stack,
     pub levels: Levels,
     pub found: Seq<Token>,
 }
@@ -77,52 +78,40 @@ fn has_tab(bytes: &[u8]) -> bool
 }
 
 /// The innermost open indentation; where none is open, the margin.
-fn innermost(indents: &[u32]) -> u32
+fn innermost(indents: &Stack) -> u32
     ensures { result ≡ spec.innermost indents.now }
 {
-    match indents.last() {
-        Some(width) => *width,
-        None => 0,
-    }
+    indents.top().unwrap_or(0)
 }
 
-#[tactic(auto, unfolding(crate::specs::Scan::is_open))]
-fn is_open(width: u32, indents: &[u32]) -> bool
-    ensures { result ≡ spec.is_open width indents.now }
+fn is_wider(indents: &Stack, width: u32) -> bool
+    ensures { result ≡ spec.has_wider width indents.now }
 {
-    for open in indents {
-        if *open == width {
-            return true;
-        }
+    match indents.top() {
+        Some(open) => width < open,
+        None => false,
     }
-    false
-}
-
-/// How many open indentations are no wider.
-#[tactic(auto, unfolding(crate::specs::Scan::kept_len))]
-fn kept_len(width: u32, indents: &[u32]) -> usize
-    ensures value { result ≡ spec.kept_len width indents.now }
-    ensures within { result ≤ length indents.now }
-{
-    let mut n = 0;
-    for open in indents {
-        if *open > width {
-            return n;
-        }
-        n += 1;
-    }
-    n
 }
 
 /// One Dedent for each open indentation that is wider.
-#[tactic(auto, using(crate::proofs::ScanLemmas::one_closed), unfolding(crate::specs::Scan::close_indents))]
+
 fn close_indents(width: u32, place: &Place<'_>, scan: &mut Scan) -> Result<(), NoMem>
     ensures { OnOk result (scan.new ≡ spec.close_indents width place.now scan.old) }
 {
-    let closing = scan.indents.len() - kept_len(width, scan.indents.as_slice());
-    for _turn in 0..closing {
+    while is_wider(&scan.indents, width) {
         put(place, scan, TokenKind::Dedent, 0)?;
         scan.indents.pop();
+    }
+    Ok(())
+}
+
+/// One Dedent for each open indentation.
+#[tactic(auto, using(crate::proofs::ScanLemmas::one_closed))]
+fn close_all(place: &Place<'_>, scan: &mut Scan) -> Result<(), NoMem>
+    ensures { OnOk result (scan.new.found ≡ spec.with_dedents (length scan.old.indents) place.now scan.old.found) }
+{
+    for _turn in 0..scan.indents.len() {
+        put(place, scan, TokenKind::Dedent, 0)?;
     }
     Ok(())
 }
@@ -143,11 +132,11 @@ fn open_indent(width: u32, place: &Place<'_>, scan: &mut Scan) -> Result<(), Tok
 fn set_indent(start: u32, width: u32, place: &Place<'_>, scan: &mut Scan) -> Result<(), TokenFault>
     ensures { Moves (spec.set_indent start width place.now scan.old) result (place.now, scan.new) }
 {
-    let indents = scan.indents.as_slice();
-    if innermost(indents) < width {
-        open_indent(width, place, scan)
-    } else if width == 0 || is_open(width, indents) {
-        close_indents(width, place, scan)?;
+    if innermost(&scan.indents) < width {
+        return open_indent(width, place, scan);
+    }
+    close_indents(width, place, scan)?;
+    if innermost(&scan.indents) == width {
         Ok(())
     } else {
         Err(TokenFault::BadIndent(start))
@@ -262,7 +251,7 @@ fn finish(place: &Place<'_>, mut scan: Scan) -> Result<Seq<Token>, TokenFault>
     if !scan.fresh {
         put(place, &mut scan, TokenKind::Newline, 0)?;
     }
-    close_indents(0, place, &mut scan)?;
+    close_all(place, &mut scan)?;
     put(place, &mut scan, TokenKind::End, 0)?;
     Ok(scan.found)
 }
@@ -275,11 +264,11 @@ fn token_list(alloc: Global, source: &[u8]) -> Result<Seq<Token>, TokenFault>
     let mut place = Place::new(source);
     let levels = Levels {
         operators: 0,
-        outer: Seq::new(alloc),
+        outer: Stack::new(alloc),
     };
     let mut scan = Scan {
         fresh: true,
-        indents: Seq::new(alloc),
+        indents: Stack::new(alloc),
         levels,
         found: Seq::new(alloc),
     };

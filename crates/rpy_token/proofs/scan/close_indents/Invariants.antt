@@ -1,10 +1,9 @@
-use Rattle.std.proofs.Common.{◌≡◌, ◌-◌, ◌++◌, length, take, replicate}
-use Rattle.rpy_token.specs.declared.token.TokenKind.TheVariants as kind
-use Rattle.rpy_token.specs.Scan.{token_at}
+use Rattle.std.proofs.Common.{◌≡◌, length}
+use Rattle.rpy_token.specs.Scan.{close_indents}
 use Rattle.rpy_token.proofs.scan.close_indents.Given as goal
 
-abbrev pub invariant-loop-turn : goal.invariant-loop-turn
-invariant-loop-turn l = l.scan ≡ record l.initial.scan {
-  indents = take (length l.initial.scan.indents - l._turn) l.initial.scan.indents;
-  found = l.initial.scan.found ++ replicate l._turn (token_at kind.Dedent 0 l.place);
-}
+abbrev pub invariant-loop-scan : goal.invariant-loop-scan
+invariant-loop-scan l = close_indents l.width l.place l.scan ≡ close_indents l.width l.place l.initial.scan
+
+abbrev pub decreases-loop-scan : goal.decreases-loop-scan
+decreases-loop-scan l = length l.scan.indents
