@@ -1,7 +1,11 @@
 pub mod LinesLemmas
 pub mod NumberLemmas
 pub mod Outcomes
+pub mod Progress
 pub mod QuotedLemmas
+pub mod Runs
 pub mod ScanLemmas
 pub mod Sizes
 pub mod StackLemmas
+pub mod Totality
+pub mod Whole

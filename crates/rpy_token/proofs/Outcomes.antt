@@ -34,3 +34,7 @@ read_is P (Err f) x h e = absurd cc
 pub on_test : (P : Bool → Type 0) (b : Bool) → (b ≡ true → P true) → (b ≡ false → P false) → P b
 on_test P true on_true on_false = on_true refl
 on_test P false on_true on_false = on_false refl
+
+pub on_weaker : {A : Type 0} (P Q : A → Type 0) → ((x : A) → P x → Q x) → (o : Outcome A) → OnRead P o → OnRead Q o
+on_weaker P Q f (Ok x) h = f x h
+on_weaker P Q f (Err e) h = tt

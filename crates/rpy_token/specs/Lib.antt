@@ -5,6 +5,7 @@ pub mod Lines
 pub mod Number
 pub mod Piece
 pub mod Quoted
+pub mod Relation
 pub mod Scan
 pub mod Stack
 pub mod Words

@@ -16,7 +16,7 @@ mod words;
 
 pub use fault::{LimitKind, TokenFault};
 pub use lines::line_of;
-pub use scan::tokens;
+pub use scan::{one_reading, tokens};
 pub use token::{Keyword, Sign, Token, TokenKind, Tokens};
 
 #[cfg(test)]

@@ -1,6 +1,9 @@
 // The tokens of a source, from left to right.
-ghost use Rattle.std.specs.Prelude.{◌≡◌, ◌≤◌, ◌<◌, ◌^◌, length, Ok, IfOk, OnOk};
+ghost use Rattle.std.specs.Prelude.{◌≡◌, ◌≤◌, ◌⊎◌, ℕ, List, length, Ok, IfOk, IfErr, OnOk, MatchResult};
 ghost use Rattle.rpy_token.specs.Lines.{rest_at};
+ghost use Rattle.rpy_token.specs.declared.fault.TokenFault.{TokenFault};
+ghost use Rattle.rpy_token.specs.declared.token.Token.{Token};
+ghost use Rattle.rpy_token.specs.Relation.{IsTokens, HasFault, IsCause};
 ghost use Rattle.rpy_token.specs.Scan as spec;
 ghost use Rattle.rpy_token.specs.Fault.{Gives, Moves, seen};
 
@@ -281,11 +284,35 @@ fn token_list(alloc: Global, source: &[u8]) -> Result<Seq<Token>, TokenFault>
     finish(&place, scan)
 }
 
-/// The tokens of a source.
 #[tactic(auto, using(crate::proofs::Sizes::few_tokens))]
-pub fn tokens(alloc: Global, source: &Text) -> Result<Tokens, TokenFault>
+fn read(alloc: Global, source: &[u8]) -> Result<Tokens, TokenFault>
     requires { length source.now ≤ 1048576 }
     ensures { Gives (λ x. x) result (spec.token_list source.now) }
 {
-    Ok(Tokens::from_seq(token_list(alloc, source.bytes())?))
+    Ok(Tokens::from_seq(token_list(alloc, source)?))
 }
+
+/// The tokens of a source, or its first fault.
+#[tactic(auto, using(crate::proofs::Whole::tokens_found, crate::proofs::Whole::tokens_only, crate::proofs::Whole::no_fault, crate::proofs::Whole::fault_cause, crate::proofs::Whole::only_memory, crate::proofs::Whole::only_fault))]
+pub fn tokens(alloc: Global, source: &Text) -> Result<Tokens, TokenFault>
+    requires { length source.now ≤ 1048576 }
+    // What is given is what the source has.
+    ensures found { IfOk result (λ list. IsTokens source.now list) }
+    ensures cause { IfErr result (λ fault. IsCause source.now fault) }
+
+    // What the source has is given, unless memory runs out.
+    ensures tokens { (list : List Token) → IsTokens source.now list
+        → MatchResult result (λ got. got ≡ list) (λ fault. fault ≡ TokenFault.NoMem) }
+    ensures fault { (want : TokenFault) → HasFault source.now want
+        → MatchResult result (λ _. ⊥) (λ fault. (fault ≡ want) ⊎ (fault ≡ TokenFault.NoMem)) }
+{
+    read(alloc, source.bytes())
+}
+
+/// A source has tokens or a fault, never both, and only one list or one fault.
+pub fn one_reading()
+    ensures some { (source : List ℕ) → ((list : List Token) × IsTokens source list) ⊎ ((fault : TokenFault) × HasFault source fault) }
+    ensures never_both { (source : List ℕ) (list : List Token) (fault : TokenFault) → IsTokens source list → HasFault source fault → ⊥ }
+    ensures one_list { (source : List ℕ) (a b : List Token) → IsTokens source a → IsTokens source b → a ≡ b }
+    ensures one_fault { (source : List ℕ) (a b : TokenFault) → HasFault source a → HasFault source b → a ≡ b }
+{}
