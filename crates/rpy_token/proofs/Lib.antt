@@ -3,6 +3,7 @@ pub mod NumberLemmas
 pub mod Outcomes
 pub mod Progress
 pub mod QuotedLemmas
+pub mod Rows
 pub mod Runs
 pub mod ScanLemmas
 pub mod Sizes

@@ -25,6 +25,9 @@ not_both a b o e f = cc
 pub tokens_found : (source : Bytes) (list : List Token) → token_list source ≡ Ok list → IsTokens source list
 tokens_found source list e = at_out source (Ok list) e
 
+pub fault_found : (source : Bytes) (f : TokenFault) → token_list source ≡ Err f → HasFault source f
+fault_found source f e = at_out source (Err f) e
+
 pub tokens_only : (source : Bytes) (list other : List Token) → token_list source ≡ Ok list → IsTokens source other → list ≡ other
 tokens_only source list other e d = ok_is list other (token_list source) e (list_is source (Ok other) d)
 
