@@ -1,5 +1,7 @@
+pub mod Causes
 pub mod LinesLemmas
 pub mod NumberLemmas
+pub mod Ordered
 pub mod Outcomes
 pub mod Progress
 pub mod QuotedLemmas

@@ -7,6 +7,8 @@ use Rattle.rpy_token.specs.Bytes.{Bytes}
 use Rattle.rpy_token.specs.Fault.{Outcome, Fails}
 use Rattle.rpy_token.specs.Scan.{token_list}
 use Rattle.rpy_token.specs.Relation.{AtLine, start_of, IsTokens, HasFault, IsCause}
+use Rattle.rpy_token.specs.Order.{InOrder}
+use Rattle.rpy_token.proofs.Ordered.{tokens_order}
 use Rattle.rpy_token.proofs.Runs.{list_is}
 use Rattle.rpy_token.proofs.Totality.{ends_somehow, is_read}
 
@@ -27,6 +29,9 @@ tokens_found source list e = at_out source (Ok list) e
 
 pub fault_found : (source : Bytes) (f : TokenFault) → token_list source ≡ Err f → HasFault source f
 fault_found source f e = at_out source (Err f) e
+
+pub tokens_ordered : (source : Bytes) (list : List Token) → token_list source ≡ Ok list → InOrder source 0 list
+tokens_ordered source list e = tokens_order source list (tokens_found source list e)
 
 pub tokens_only : (source : Bytes) (list other : List Token) → token_list source ≡ Ok list → IsTokens source other → list ≡ other
 tokens_only source list other e d = ok_is list other (token_list source) e (list_is source (Ok other) d)

@@ -3,6 +3,7 @@ pub mod Fault
 pub mod Levels
 pub mod Lines
 pub mod Number
+pub mod Order
 pub mod Piece
 pub mod Quoted
 pub mod Relation

@@ -3,6 +3,7 @@ ghost use Rattle.std.specs.Prelude.{◌≡◌, ◌≤◌, ◌⊎◌, ℕ, List, 
 ghost use Rattle.rpy_token.specs.Lines.{rest_at};
 ghost use Rattle.rpy_token.specs.declared.fault.TokenFault.{TokenFault};
 ghost use Rattle.rpy_token.specs.declared.token.Token.{Token};
+ghost use Rattle.rpy_token.specs.Order.{InOrder};
 ghost use Rattle.rpy_token.specs.Relation.{IsTokens, HasFault, IsCause};
 ghost use Rattle.rpy_token.specs.Scan as spec;
 ghost use Rattle.rpy_token.specs.Fault.{Gives, Moves, seen};
@@ -293,11 +294,12 @@ fn read(alloc: Global, source: &[u8]) -> Result<Tokens, TokenFault>
 }
 
 /// The tokens of a source, or its first fault.
-#[tactic(auto, using(crate::proofs::Whole::tokens_found, crate::proofs::Whole::tokens_only, crate::proofs::Whole::no_fault, crate::proofs::Whole::fault_cause, crate::proofs::Whole::only_memory, crate::proofs::Whole::only_fault))]
+#[tactic(auto, using(crate::proofs::Whole::tokens_found, crate::proofs::Whole::tokens_only, crate::proofs::Whole::tokens_ordered, crate::proofs::Whole::no_fault, crate::proofs::Whole::fault_cause, crate::proofs::Whole::only_memory, crate::proofs::Whole::only_fault))]
 pub fn tokens(alloc: Global, source: &Text) -> Result<Tokens, TokenFault>
     requires { length source.now ≤ 1048576 }
     // What is given is what the source has.
     ensures found { IfOk result (λ list. IsTokens source.now list) }
+    ensures order { IfOk result (λ list. InOrder source.now 0 list) }
     ensures cause { IfErr result (λ fault. IsCause source.now fault) }
 
     // What the source has is given, unless memory runs out.
@@ -313,6 +315,7 @@ pub fn tokens(alloc: Global, source: &Text) -> Result<Tokens, TokenFault>
 pub fn one_reading()
     ensures some { (source : List ℕ) → ((list : List Token) × IsTokens source list) ⊎ ((fault : TokenFault) × HasFault source fault) }
     ensures never_both { (source : List ℕ) (list : List Token) (fault : TokenFault) → IsTokens source list → HasFault source fault → ⊥ }
+    ensures no_mem { (source : List ℕ) → HasFault source TokenFault.NoMem → ⊥ }
     ensures one_list { (source : List ℕ) (a b : List Token) → IsTokens source a → IsTokens source b → a ≡ b }
     ensures one_fault { (source : List ℕ) (a b : TokenFault) → HasFault source a → HasFault source b → a ≡ b }
 {}
