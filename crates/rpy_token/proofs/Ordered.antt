@@ -9,7 +9,8 @@ use Rattle.rpy_token.specs.Bytes.{Bytes, blank_len, is_blank}
 use Rattle.rpy_token.specs.Fault.{Outcome}
 use Rattle.rpy_token.specs.Lines.{Spot, rest_at, skip}
 use Rattle.rpy_token.specs.Order.{IsSpan, InOrder}
-use Rattle.rpy_token.specs.Scan.{token_at, used, with_dedents, wider}
+use Rattle.rpy_token.specs.Indents.{wider}
+use Rattle.rpy_token.specs.Lines.{token_at, used, with_dedents}
 use Rattle.rpy_token.specs.Relation as r
 use Rattle.rpy_token.specs.Relation.{behind, with_token, ended, width_at, text_at, AtLine, InLine, start_of, IsTokens}
 use Rattle.rpy_token.proofs.Outcomes.{OnRead, on_if}

@@ -16,7 +16,7 @@ use Rattle.rpy_token.specs.Number.{digit, digit_len, value_from, word, word_or_f
 use Rattle.rpy_token.specs.Piece.{after_comment, begins_string, is_raw_prefix, name, string_at, integer_at, sign_or_fault, sign_at, lexeme, comment_at, blank_or_fault, joined_at, inner_piece, line_end_or_inner, next_piece}
 use Rattle.rpy_token.specs.Quoted.{after_one, after_three, after_close, simple_escape, hex_escape, octal_escape, other_escape, escape_of, escape_byte, escape_or_joined, escape, raw_backslash, part_of_byte, part_or_close, part_of_line, part_or_newline, next_part, closes, bytes_of, body_from, body, body_by, quoted}
 use Rattle.rpy_token.specs.Words.{first_of_two, and_rest, doubled_assign, before_equals, doubled, operator, punctuation, sign_of_three, sign_of_two, sign_of_one, sign_of}
-use Rattle.rpy_token.specs.Scan.{past_newline, blank_after, blank_line}
+use Rattle.rpy_token.specs.Indents.{past_newline, blank_after, blank_line}
 use Rattle.rpy_token.specs.Relation.{HasMore, HasText, text_at, width_at}
 use Rattle.rpy_token.proofs.Outcomes.{OnRead, on_bind, on_any, on_if, on_weaker, read_is}
 

@@ -15,7 +15,8 @@ use Rattle.rpy_token.specs.Number.{digit_len, value_from, number}
 use Rattle.rpy_token.specs.Piece.{after_comment, name, lexeme, next_piece}
 use Rattle.rpy_token.specs.Quoted.{after_close, hex_escape, octal_escape, escape, part_of_line, next_part, body, quoted}
 use Rattle.rpy_token.specs.Relation.{IsTokens, HasFault}
-use Rattle.rpy_token.specs.Scan.{blank_line, has_tab, wider, kept, set_indent, indent, take_piece, inside, begin, finish, token_list}
+use Rattle.rpy_token.specs.Indents.{blank_line, has_tab, wider, kept}
+use Rattle.rpy_token.specs.Scan.{set_indent, indent, take_piece, inside, begin, finish, token_list}
 use Rattle.rpy_token.specs.Words.{short_keyword, middle_keyword, long_keyword, keyword, sign_of_three, sign_of_two, sign_of_one, sign_of}
 use Rattle.rpy_token.proofs.Whole.{tokens_found, fault_found}
 

@@ -17,7 +17,9 @@ use Rattle.rpy_token.specs.Fault.{Outcome, ◌>>=◌}
 use Rattle.rpy_token.specs.Levels.{role_of, counted}
 use Rattle.rpy_token.specs.Lines.{Spot, size_at, rest_at, skip}
 use Rattle.rpy_token.specs.Piece.{next_piece}
-use Rattle.rpy_token.specs.Scan.{token_at, put, take_token, take_piece, used, inside, innermost, wider, kept, with_dedents, close_indents, open_indent, set_indent, has_tab, indent, blank_line, begin_after, begin, turn, finish, run, token_list}
+use Rattle.rpy_token.specs.Indents.{innermost, wider, kept, has_tab, blank_line}
+use Rattle.rpy_token.specs.Lines.{token_at, used, with_dedents}
+use Rattle.rpy_token.specs.Scan.{put, take_token, take_piece, inside, close_indents, open_indent, set_indent, indent, begin_after, begin, turn, finish, run, token_list}
 use Rattle.rpy_token.specs.Relation as r
 use Rattle.rpy_token.specs.Relation.{HasMore, behind, with_token, ended, no_brackets, width_at, text_at, HasText, HasIndent, AtLine, InLine, start_of}
 use Rattle.rpy_token.proofs.Progress.{piece_shorter, line_shorter, text_more}

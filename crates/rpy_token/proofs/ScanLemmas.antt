@@ -8,7 +8,9 @@ use Rattle.rpy_token.specs.declared.token.Token.{Token}
 use Rattle.rpy_token.specs.Fault.{Outcome, ◌>>=◌, Fails}
 use Rattle.rpy_token.specs.Lines.{Spot, rest_at}
 use Rattle.rpy_token.specs.declared.token.TokenKind.TheVariants as kind
-use Rattle.rpy_token.specs.Scan.{turn, run, finish, put, token_at, has_wider, wider, kept, close_indents}
+use Rattle.rpy_token.specs.Indents.{wider, kept}
+use Rattle.rpy_token.specs.Lines.{token_at}
+use Rattle.rpy_token.specs.Scan.{turn, run, finish, put, has_wider, close_indents}
 use Rattle.rpy_token.proofs.QuotedLemmas.{fails, carry}
 
 pub one_closed : (n : ℕ) (t : Token) (found : List Token) → (found ++ replicate n t) ++ t ∷ [] ≡ found ++ replicate (n + 1) t

@@ -14,7 +14,9 @@ use Rattle.rpy_token.specs.Fault.{Outcome, ◌>>=◌}
 use Rattle.rpy_token.specs.Levels.{role_of, counted}
 use Rattle.rpy_token.specs.Lines.{Spot, rest_at, size_at, skip}
 use Rattle.rpy_token.specs.Piece.{next_piece}
-use Rattle.rpy_token.specs.Scan.{token_at, put, take_token, take_piece, used, inside, innermost, wider, kept, close_indents, open_indent, set_indent, has_tab, indent, blank_line, begin_after, begin, turn, finish, run, token_list, first_scan}
+use Rattle.rpy_token.specs.Indents.{innermost, wider, kept, has_tab, blank_line}
+use Rattle.rpy_token.specs.Lines.{token_at, used}
+use Rattle.rpy_token.specs.Scan.{put, take_token, take_piece, inside, close_indents, open_indent, set_indent, indent, begin_after, begin, turn, finish, run, token_list, first_scan}
 use Rattle.rpy_token.proofs.Outcomes.{OnRead, on_bind, on_any, on_if, on_test, read_is}
 
 -- few indentations are open, and at most k tokens are new

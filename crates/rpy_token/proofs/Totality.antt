@@ -15,7 +15,9 @@ use Rattle.rpy_token.specs.Fault.{Outcome}
 use Rattle.rpy_token.specs.Levels.{role_of, counted}
 use Rattle.rpy_token.specs.Lines.{Spot, size_at, rest_at}
 use Rattle.rpy_token.specs.Piece.{next_piece}
-use Rattle.rpy_token.specs.Scan.{token_at, innermost, wider, kept, with_dedents, has_tab, blank_line, token_list}
+use Rattle.rpy_token.specs.Indents.{innermost, wider, kept, has_tab, blank_line}
+use Rattle.rpy_token.specs.Lines.{token_at, with_dedents}
+use Rattle.rpy_token.specs.Scan.{token_list}
 use Rattle.rpy_token.specs.Relation as r
 use Rattle.rpy_token.specs.Relation.{HasMore, behind, with_token, ended, no_brackets, width_at, text_at, HasText, HasIndent, AtLine, InLine, start_of}
 use Rattle.rpy_token.proofs.Progress.{piece_shorter, line_shorter}

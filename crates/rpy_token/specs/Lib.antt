@@ -1,5 +1,6 @@
 pub mod Bytes
 pub mod Fault
+pub mod Indents
 pub mod Levels
 pub mod Lines
 pub mod Number

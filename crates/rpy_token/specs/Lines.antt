@@ -1,5 +1,8 @@
 -- Places and lines of a source.
-use Rattle.std.specs.Prelude.{ℕ, ◌+◌, ◌==◌, length, take, drop, count_by}
+use Rattle.std.specs.Prelude.{ℕ, ◌+◌, ◌-◌, ◌==◌, List, ◌++◌, length, take, drop, replicate, count_by}
+use Rattle.rpy_token.specs.declared.token.Token.{Token}
+use Rattle.rpy_token.specs.declared.token.TokenKind.{TokenKind}
+use Rattle.rpy_token.specs.declared.token.TokenKind.TheVariants as kind
 use Rattle.rpy_token.specs.Bytes.{Bytes}
 
 -- one more than the newlines before a place
@@ -24,3 +27,17 @@ line_at spot = line_of spot.source spot.at
 -- so many bytes further on
 abbrev pub skip : ℕ → Spot → Spot
 skip n spot = record spot { at = spot.at + n }
+
+-- how many bytes there are before a rest
+abbrev pub used : Bytes → Bytes → ℕ
+used bytes rest = length bytes - length rest
+
+-- ---- tokens at a place
+
+-- a token of so many bytes
+abbrev pub token_at : TokenKind → ℕ → Spot → Token
+token_at kind n spot = record { kind = kind; start = spot.at; end = spot.at + n; line = line_at spot }
+
+-- so many Dedents more
+abbrev pub with_dedents : ℕ → Spot → List Token → List Token
+with_dedents n spot found = found ++ replicate n (token_at kind.Dedent 0 spot)

@@ -14,7 +14,8 @@ use Rattle.rpy_token.specs.Fault.{Outcome}
 use Rattle.rpy_token.specs.Levels.{role_of, counted}
 use Rattle.rpy_token.specs.Lines.{Spot, size_at, rest_at, skip}
 use Rattle.rpy_token.specs.Piece.{next_piece}
-use Rattle.rpy_token.specs.Scan.{token_at, used, blank_line, has_tab, innermost, wider, kept, with_dedents}
+use Rattle.rpy_token.specs.Indents.{blank_line, has_tab, innermost, wider, kept}
+use Rattle.rpy_token.specs.Lines.{token_at, used, with_dedents}
 
 abbrev pub HasMore : Spot → Type 0
 HasMore s = 0 < length (rest_at s)

@@ -1,5 +1,5 @@
 -- The tokens of a source, from left to right.
-use Rattle.std.specs.Prelude.{ℕ, zero, suc, ◌+◌, ◌-◌, Bool, true, false, ◌||◌, nat_lt, ◌==◌, if◌then◌else◌, List, [], ◌∷◌, ◌++◌, length, take, drop, replicate, unwrap_or, Option, Some, None, Ok, Err}
+use Rattle.std.specs.Prelude.{ℕ, zero, suc, Bool, true, false, nat_lt, ◌==◌, if◌then◌else◌, List, [], ◌∷◌, ◌++◌, length, take, Option, Some, None, Ok, Err}
 use Rattle.rpy_token.specs.declared.fault.LimitKind.TheVariants.{Blocks}
 use Rattle.rpy_token.specs.declared.fault.TokenFault.TheVariants as fault
 use Rattle.rpy_token.specs.declared.piece.Piece.{Piece}
@@ -8,62 +8,22 @@ use Rattle.rpy_token.specs.declared.scan.Scan.{Scan}
 use Rattle.rpy_token.specs.declared.token.Token.{Token}
 use Rattle.rpy_token.specs.declared.token.TokenKind.{TokenKind}
 use Rattle.rpy_token.specs.declared.token.TokenKind.TheVariants as kind
-use Rattle.rpy_token.specs.Bytes.{Bytes, blank_len, after_newline}
+use Rattle.rpy_token.specs.Bytes.{Bytes, blank_len}
 use Rattle.rpy_token.specs.Fault.{Outcome, ◌>>=◌}
 use Rattle.rpy_token.specs.Levels.{role_of, counted}
-use Rattle.rpy_token.specs.Lines.{Spot, size_at, rest_at, line_at, skip}
-use Rattle.rpy_token.specs.Piece.{after_comment, next_piece}
-
--- a token of so many bytes
-abbrev pub token_at : TokenKind → ℕ → Spot → Token
-token_at kind n spot = record { kind = kind; start = spot.at; end = spot.at + n; line = line_at spot }
+use Rattle.rpy_token.specs.Indents.{blank_line, has_tab, innermost, wider, kept}
+use Rattle.rpy_token.specs.Lines.{Spot, size_at, rest_at, skip, token_at, used, with_dedents}
+use Rattle.rpy_token.specs.Piece.{next_piece}
 
 abbrev pub put : TokenKind → ℕ → Spot → Scan → Scan
 put kind n spot scan = record scan { found = scan.found ++ token_at kind n spot ∷ [] }
 
 -- ---- where a logical line begins
 
--- a newline at the front is passed over
-abbrev pub past_newline : Bytes → Bytes
-past_newline bytes = unwrap_or (after_newline bytes) bytes
-
-abbrev pub blank_after : ℕ → Bytes → Outcome (Option Bytes)
-blank_after size [] = Ok (Some [])
-blank_after size (b ∷ bs) =
-    if b == 35 then (after_comment size bs >>= λ rest. Ok (Some (past_newline rest)))
-    else Ok (after_newline (b ∷ bs))
-
--- what follows a line of nothing but spaces, tabs and a comment, if that is what stands at the front
-unfoldable pub blank_line : ℕ → Bytes → Outcome (Option Bytes)
-blank_line size bytes = blank_after size (drop (blank_len bytes) bytes)
-
-unfoldable pub has_tab : Bytes → Bool
-has_tab [] = false
-has_tab (b ∷ bs) = b == 9 || has_tab bs
-
--- The open indentations stand with the innermost first. Where none is open, the margin serves.
-abbrev pub innermost : List ℕ → ℕ
-innermost [] = 0
-innermost (i ∷ is) = i
-
 -- is the innermost one wider?
 abbrev pub has_wider : ℕ → List ℕ → Bool
 has_wider width [] = false
 has_wider width (i ∷ is) = nat_lt width i
-
--- how many open indentations are wider, up to one that is not
-unfoldable pub wider : ℕ → List ℕ → ℕ
-wider width [] = 0
-wider width (i ∷ is) = if nat_lt width i then suc (wider width is) else 0
-
--- and which are left without these
-unfoldable pub kept : ℕ → List ℕ → List ℕ
-kept width [] = []
-kept width (i ∷ is) = if nat_lt width i then kept width is else i ∷ is
-
--- so many Dedents more
-abbrev pub with_dedents : ℕ → Spot → List Token → List Token
-with_dedents n spot found = found ++ replicate n (token_at kind.Dedent 0 spot)
 
 -- one Dedent for each open indentation that is wider
 abbrev pub close_indents : ℕ → Spot → Scan → Scan
@@ -102,10 +62,6 @@ take_piece n spot scan (p.Lexeme kind) = take_token n kind spot scan
 take_piece n spot scan p.LineEnd =
     if nat_lt 0 (length scan.levels.outer) then Ok (skip n spot, scan)
     else take_token n kind.Newline spot (record scan { fresh = true })
-
--- how many bytes there are before a rest
-abbrev pub used : Bytes → Bytes → ℕ
-used bytes rest = length bytes - length rest
 
 unfoldable pub inside : Spot → Scan → Outcome (Spot × Scan)
 inside spot scan = next_piece (size_at spot) (rest_at spot) >>= λ x. take_piece (used (rest_at spot) x.1) spot scan x.0

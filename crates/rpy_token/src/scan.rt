@@ -1,5 +1,7 @@
 // The tokens of a source, from left to right.
 ghost use Rattle.std.specs.Prelude.{◌≡◌, ◌≤◌, ◌⊎◌, ℕ, List, length, Ok, IfOk, IfErr, OnOk, MatchResult};
+ghost use Rattle.rpy_token.specs.Indents as line_start;
+ghost use Rattle.rpy_token.specs.Lines as spots;
 ghost use Rattle.rpy_token.specs.Lines.{rest_at};
 ghost use Rattle.rpy_token.specs.declared.fault.TokenFault.{TokenFault};
 ghost use Rattle.rpy_token.specs.declared.token.Token.{Token};
@@ -48,15 +50,15 @@ fn put(place: &Place<'_>, scan: &mut Scan, kind: TokenKind, n: usize) -> Result<
 
 /// What follows a comment line's text, past its newline.
 fn past_newline(bytes: &[u8]) -> &[u8]
-    ensures { result.now ≡ spec.past_newline bytes.entry.now }
+    ensures { result.now ≡ line_start.past_newline bytes.entry.now }
 {
     after_newline(bytes).unwrap_or(bytes)
 }
 
 /// What follows a line of nothing but spaces, tabs and a comment, if that is what stands here.
-#[tactic(auto, unfolding(crate::specs::Scan::blank_line))]
+#[tactic(auto, unfolding(crate::specs::Indents::blank_line))]
 fn blank_line(size: u32, bytes: &[u8]) -> Result<Option<&[u8]>, TokenFault>
-    ensures { Gives (seen (λ x. x.now)) result (spec.blank_line size bytes.entry.now) }
+    ensures { Gives (seen (λ x. x.now)) result (line_start.blank_line size bytes.entry.now) }
 {
     let (_, text) = bytes.split_at(blank_len(bytes));
     let Some((b, rest)) = text.split_first() else {
@@ -69,9 +71,9 @@ fn blank_line(size: u32, bytes: &[u8]) -> Result<Option<&[u8]>, TokenFault>
     Ok(Some(past_newline(end)))
 }
 
-#[tactic(auto, unfolding(crate::specs::Scan::has_tab))]
+#[tactic(auto, unfolding(crate::specs::Indents::has_tab))]
 fn has_tab(bytes: &[u8]) -> bool
-    ensures { result ≡ spec.has_tab bytes.now }
+    ensures { result ≡ line_start.has_tab bytes.now }
 {
     for b in bytes {
         if *b == b'\t' {
@@ -83,7 +85,7 @@ fn has_tab(bytes: &[u8]) -> bool
 
 /// The innermost open indentation; where none is open, the margin.
 fn innermost(indents: &Stack) -> u32
-    ensures { result ≡ spec.innermost indents.now }
+    ensures { result ≡ line_start.innermost indents.now }
 {
     indents.top().unwrap_or(0)
 }
@@ -112,7 +114,7 @@ fn close_indents(width: u32, place: &Place<'_>, scan: &mut Scan) -> Result<(), N
 /// One Dedent for each open indentation.
 #[tactic(auto, using(crate::proofs::ScanLemmas::one_closed))]
 fn close_all(place: &Place<'_>, scan: &mut Scan) -> Result<(), NoMem>
-    ensures { OnOk result (scan.new.found ≡ spec.with_dedents (length scan.old.indents) place.now scan.old.found) }
+    ensures { OnOk result (scan.new.found ≡ spots.with_dedents (length scan.old.indents) place.now scan.old.found) }
 {
     for _turn in 0..scan.indents.len() {
         put(place, scan, TokenKind::Dedent, 0)?;
@@ -205,7 +207,7 @@ fn take_piece(
 
 /// How many bytes there are before a rest.
 fn used(bytes: &[u8], rest: &[u8]) -> usize
-    ensures value { result ≡ spec.used bytes.now rest.now }
+    ensures value { result ≡ spots.used bytes.now rest.now }
     ensures within { result ≤ length bytes.now }
 {
     bytes.len().saturating_sub(rest.len())

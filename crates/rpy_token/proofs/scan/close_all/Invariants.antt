@@ -1,5 +1,5 @@
 use Rattle.std.proofs.Common.{◌≡◌}
-use Rattle.rpy_token.specs.Scan.{with_dedents}
+use Rattle.rpy_token.specs.Lines.{with_dedents}
 use Rattle.rpy_token.proofs.scan.close_all.Given as goal
 
 abbrev pub invariant-loop-turn : goal.invariant-loop-turn

@@ -1,5 +1,5 @@
 use Rattle.std.proofs.Common.{◌≡◌, drop}
-use Rattle.rpy_token.specs.Scan.{has_tab}
+use Rattle.rpy_token.specs.Indents.{has_tab}
 use Rattle.rpy_token.proofs.scan.has_tab.Given as goal
 
 abbrev pub invariant-loop-b : goal.invariant-loop-b
