@@ -10,5 +10,6 @@ pub mod Runs
 pub mod ScanLemmas
 pub mod Sizes
 pub mod StackLemmas
+pub mod Strings
 pub mod Totality
 pub mod Whole

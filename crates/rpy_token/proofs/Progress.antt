@@ -64,7 +64,7 @@ close_shorter form bytes = on_if (Shorter bytes) form.triple (after_three form.q
 abbrev NoLonger : {A : Type 0} → Bytes → A × Bytes → Type 0
 NoLonger bytes x = length x.1 ≤ length bytes
 
-abbrev Less : {A : Type 0} → Bytes → A × Bytes → Type 0
+abbrev pub Less : {A : Type 0} → Bytes → A × Bytes → Type 0
 Less bytes x = length x.1 < length bytes
 
 hex_no_longer : (at : ℕ) (bytes : Bytes) → OnRead (NoLonger bytes) (hex_escape at bytes)
@@ -110,44 +110,44 @@ raw_no_longer : (quote : ℕ) (bytes : Bytes) → NoLonger bytes (raw_backslash 
 raw_no_longer quote [] = omega arith
 raw_no_longer quote (c ∷ cs) = on_if (NoLonger (c ∷ cs)) (eqb c 92 || eqb c quote) (part.Two 92 c, cs) (part.One 92, c ∷ cs) (λ _. omega arith) (λ _. omega arith)
 
-of_byte_no_longer : (form : Form) (size b : ℕ) (bs : Bytes) → OnRead (NoLonger (b ∷ bs)) (part_of_byte form size b bs)
-of_byte_no_longer form size b bs =
-    on_if (OnRead (NoLonger (b ∷ bs))) (eqb b 92) (cond form.raw (Ok (raw_backslash form.quote bs)) (escape (place size (b ∷ bs)) bs)) (Ok (part.One b, bs))
-    (λ _. on_if (OnRead (NoLonger (b ∷ bs))) form.raw (Ok (raw_backslash form.quote bs)) (escape (place size (b ∷ bs)) bs)
+less_room : {A : Type 0} (a b : Bytes) (o : Outcome (A × Bytes)) → length a < length b → OnRead (NoLonger a) o → OnRead (Less b) o
+less_room a b (Ok x) lt h = omega arith
+less_room a b (Err e) lt h = tt
+
+of_byte_less : (form : Form) (size b : ℕ) (bs : Bytes) → OnRead (Less (b ∷ bs)) (part_of_byte form size b bs)
+of_byte_less form size b bs =
+    on_if (OnRead (Less (b ∷ bs))) (eqb b 92) (cond form.raw (Ok (raw_backslash form.quote bs)) (escape (place size (b ∷ bs)) bs)) (Ok (part.One b, bs))
+    (λ _. on_if (OnRead (Less (b ∷ bs))) form.raw (Ok (raw_backslash form.quote bs)) (escape (place size (b ∷ bs)) bs)
     (λ _. omega (arith, raw_no_longer form.quote bs))
-    (λ _. more_room bs (b ∷ bs) (escape (place size (b ∷ bs)) bs) (omega arith) (escape_no_longer (place size (b ∷ bs)) bs)))
+    (λ _. less_room bs (b ∷ bs) (escape (place size (b ∷ bs)) bs) (omega arith) (escape_no_longer (place size (b ∷ bs)) bs)))
     (λ _. omega arith)
 
-or_close_no_longer : (form : Form) (size b : ℕ) (bs : Bytes) (o : Option Bytes) → Shorter (b ∷ bs) o → OnRead (NoLonger (b ∷ bs)) (part_or_close form size b bs o)
-or_close_no_longer form size b bs (Some rest) h = omega arith
-or_close_no_longer form size b bs None h = of_byte_no_longer form size b bs
+or_close_less : (form : Form) (size b : ℕ) (bs : Bytes) (o : Option Bytes) → Shorter (b ∷ bs) o → OnRead (Less (b ∷ bs)) (part_or_close form size b bs o)
+or_close_less form size b bs (Some rest) h = omega arith
+or_close_less form size b bs None h = of_byte_less form size b bs
 
-of_line_no_longer : (form : Form) (size start : ℕ) (bytes : Bytes) → OnRead (NoLonger bytes) (part_of_line form size start bytes)
+of_line_less : (form : Form) (size start : ℕ) (bytes : Bytes) → OnRead (Less bytes) (part_of_line form size start bytes)
 unfolding part_of_line
-of_line_no_longer form size start [] = tt
-of_line_no_longer form size start (b ∷ bs) =
-    on_if (OnRead (NoLonger (b ∷ bs))) (is_text_byte b) (part_or_close form size b bs (after_close form (b ∷ bs))) (Err (fault.BadByte (place size (b ∷ bs))))
-    (λ _. or_close_no_longer form size b bs (after_close form (b ∷ bs)) (close_shorter form (b ∷ bs))) (λ _. tt)
+of_line_less form size start [] = tt
+of_line_less form size start (b ∷ bs) =
+    on_if (OnRead (Less (b ∷ bs))) (is_text_byte b) (part_or_close form size b bs (after_close form (b ∷ bs))) (Err (fault.BadByte (place size (b ∷ bs))))
+    (λ _. or_close_less form size b bs (after_close form (b ∷ bs)) (close_shorter form (b ∷ bs))) (λ _. tt)
 
-or_newline_no_longer : (form : Form) (size start : ℕ) (bytes : Bytes) (o : Option Bytes) → Shorter bytes o → OnRead (NoLonger bytes) (part_or_newline form size start bytes o)
-or_newline_no_longer form size start bytes (Some rest) h =
-    on_if (OnRead (NoLonger bytes)) form.triple (Ok (part.One 10, rest)) (Err (fault.OpenString start)) (λ _. omega arith) (λ _. tt)
-or_newline_no_longer form size start bytes None h = of_line_no_longer form size start bytes
+or_newline_less : (form : Form) (size start : ℕ) (bytes : Bytes) (o : Option Bytes) → Shorter bytes o → OnRead (Less bytes) (part_or_newline form size start bytes o)
+or_newline_less form size start bytes (Some rest) h =
+    on_if (OnRead (Less bytes)) form.triple (Ok (part.One 10, rest)) (Err (fault.OpenString start)) (λ _. omega arith) (λ _. tt)
+or_newline_less form size start bytes None h = of_line_less form size start bytes
 
-part_no_longer : (form : Form) (size start : ℕ) (bytes : Bytes) → OnRead (NoLonger bytes) (next_part form size start bytes)
+pub part_less : (form : Form) (size start : ℕ) (bytes : Bytes) → OnRead (Less bytes) (next_part form size start bytes)
 unfolding next_part
-part_no_longer form size start bytes = or_newline_no_longer form size start bytes (after_newline bytes) (newline_shorter bytes)
+part_less form size start bytes = or_newline_less form size start bytes (after_newline bytes) (newline_shorter bytes)
 
 body_no_longer : (n : ℕ) (form : Form) (size start : ℕ) (found bytes : Bytes) → OnRead (NoLonger bytes) (body_from n form size start found bytes)
 body_no_longer zero form size start found bytes = tt
 body_no_longer (suc n) form size start found bytes =
-    on_bind (NoLonger bytes) (NoLonger bytes) (next_part form size start bytes) (λ x. cond (closes x.0) (Ok (found, x.1)) (body_from n form size start (found ++ bytes_of x.0) x.1)) (part_no_longer form size start bytes)
+    on_bind (NoLonger bytes) (NoLonger bytes) (next_part form size start bytes) (λ x. cond (closes x.0) (Ok (found, x.1)) (body_from n form size start (found ++ bytes_of x.0) x.1)) (on_weaker (Less bytes) (NoLonger bytes) (λ x h. omega arith) (next_part form size start bytes) (part_less form size start bytes))
     (λ x h. on_if (OnRead (NoLonger bytes)) (closes x.0) (Ok (found, x.1)) (body_from n form size start (found ++ bytes_of x.0) x.1) (λ _. h)
     (λ _. more_room x.1 bytes (body_from n form size start (found ++ bytes_of x.0) x.1) h (body_no_longer n form size start (found ++ bytes_of x.0) x.1)))
-
-less_room : {A : Type 0} (a b : Bytes) (o : Outcome (A × Bytes)) → length a < length b → OnRead (NoLonger a) o → OnRead (Less b) o
-less_room a b (Ok x) lt h = omega arith
-less_room a b (Err e) lt h = tt
 
 by_less : (quote : ℕ) (raw : Bool) (size start : ℕ) (bs : Bytes) (o : Option Bytes) → Shorter (quote ∷ bs) o → OnRead (Less (quote ∷ bs)) (body_by quote raw size start bs o)
 unfolding body

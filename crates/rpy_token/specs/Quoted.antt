@@ -117,7 +117,8 @@ abbrev pub closes : Part → Bool
 closes p.Close = true
 closes _ = false
 
--- the rest of a string, in at most so many parts
+-- The rest of a string, in at most so many parts. Each part has a byte, so more parts than bytes
+-- change nothing.
 abbrev pub body_from : ℕ → Form → ℕ → ℕ → Bytes → Bytes → Outcome (Bytes × Bytes)
 body_from zero form size start found bytes = Err (fault.OpenString start)
 body_from (suc n) form size start found bytes =

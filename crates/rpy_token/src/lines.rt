@@ -38,7 +38,9 @@ impl<'a> Model for Place<'a> {
 
     ghost view = { λ p. record { source = p.source.now; at = p.at } };
 
-    ghost invariant = { λ p. (p.at ≤ length p.source.now) × (length p.source.now ≤ 1048576) × (p.line ≡ line_of p.source.now p.at) };
+    ghost invariant = { λ p. (p.at ≤ length p.source.now)
+        × (length p.source.now ≤ 1048576)
+        × (p.line ≡ line_of p.source.now p.at) };
 }
 
 impl<'a> Place<'a> {

@@ -46,7 +46,8 @@ fn with_digit(base: u64, value: u64, b: u8) -> Option<u64>
 #[tactic(auto, using(crate::proofs::NumberLemmas::value_past, crate::proofs::NumberLemmas::value_whole), unfolding(crate::specs::Number::value_from))]
 pub fn value(base: u64, digits: &[u8]) -> Option<u64>
     requires { 0 < base }
-    ensures { SomeIff result (spec.value_from base 0 digits.now < 2 ^ 64) (spec.value_from base 0 digits.now) }
+    ensures { SomeIff result (spec.value_from base 0 digits.now < 2 ^ 64)
+        (spec.value_from base 0 digits.now) }
 {
     let mut value: u64 = 0;
     for b in digits {

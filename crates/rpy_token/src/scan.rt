@@ -114,7 +114,8 @@ fn close_indents(width: u32, place: &Place<'_>, scan: &mut Scan) -> Result<(), N
 /// One Dedent for each open indentation.
 #[tactic(auto, using(crate::proofs::ScanLemmas::one_closed))]
 fn close_all(place: &Place<'_>, scan: &mut Scan) -> Result<(), NoMem>
-    ensures { OnOk result (scan.new.found ≡ spots.with_dedents (length scan.old.indents) place.now scan.old.found) }
+    ensures { OnOk result (scan.new.found
+        ≡ spots.with_dedents (length scan.old.indents) place.now scan.old.found) }
 {
     for _turn in 0..scan.indents.len() {
         put(place, scan, TokenKind::Dedent, 0)?;
@@ -295,7 +296,8 @@ fn read(alloc: Global, source: &[u8]) -> Result<Tokens, TokenFault>
     Ok(Tokens::from_seq(token_list(alloc, source)?))
 }
 
-/// The tokens of a source, or its first fault.
+/// The tokens of a source of at most 1 MiB, or its first fault, whose number is its place in bytes.
+/// The time is linear in the length of the source.
 #[tactic(auto, using(crate::proofs::Whole::tokens_found, crate::proofs::Whole::tokens_only, crate::proofs::Whole::tokens_ordered, crate::proofs::Whole::no_fault, crate::proofs::Whole::fault_cause, crate::proofs::Whole::only_memory, crate::proofs::Whole::only_fault))]
 pub fn tokens(alloc: Global, source: &Text) -> Result<Tokens, TokenFault>
     requires { length source.now ≤ 1048576 }
@@ -308,16 +310,22 @@ pub fn tokens(alloc: Global, source: &Text) -> Result<Tokens, TokenFault>
     ensures tokens { (list : List Token) → IsTokens source.now list
         → MatchResult result (λ got. got ≡ list) (λ fault. fault ≡ TokenFault.NoMem) }
     ensures fault { (want : TokenFault) → HasFault source.now want
-        → MatchResult result (λ _. ⊥) (λ fault. (fault ≡ want) ⊎ (fault ≡ TokenFault.NoMem)) }
+        → MatchResult result (λ _. ⊥)
+        (λ fault. (fault ≡ want) ⊎ (fault ≡ TokenFault.NoMem)) }
 {
     read(alloc, source.bytes())
 }
 
 /// A source has tokens or a fault, never both, and only one list or one fault.
 pub fn one_reading()
-    ensures some { (source : List ℕ) → ((list : List Token) × IsTokens source list) ⊎ ((fault : TokenFault) × HasFault source fault) }
-    ensures never_both { (source : List ℕ) (list : List Token) (fault : TokenFault) → IsTokens source list → HasFault source fault → ⊥ }
+    ensures some { (source : List ℕ)
+        → ((list : List Token) × IsTokens source list)
+        ⊎ ((fault : TokenFault) × HasFault source fault) }
+    ensures never_both { (source : List ℕ) (list : List Token) (fault : TokenFault)
+        → IsTokens source list → HasFault source fault → ⊥ }
     ensures no_mem { (source : List ℕ) → HasFault source TokenFault.NoMem → ⊥ }
-    ensures one_list { (source : List ℕ) (a b : List Token) → IsTokens source a → IsTokens source b → a ≡ b }
-    ensures one_fault { (source : List ℕ) (a b : TokenFault) → HasFault source a → HasFault source b → a ≡ b }
+    ensures one_list { (source : List ℕ) (a b : List Token)
+        → IsTokens source a → IsTokens source b → a ≡ b }
+    ensures one_fault { (source : List ℕ) (a b : TokenFault)
+        → HasFault source a → HasFault source b → a ≡ b }
 {}

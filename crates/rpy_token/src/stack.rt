@@ -46,7 +46,8 @@ impl Stack {
 
     #[tactic(auto, using(crate::proofs::StackLemmas::reverse_push))]
     pub fn pop(&mut self) -> Option<u32>
-        ensures { MatchOption result ((self.old ≡ []) × (self.new ≡ [])) (λ top. self.old ≡ top ∷ self.new) }
+        ensures { MatchOption result ((self.old ≡ []) × (self.new ≡ []))
+            (λ top. self.old ≡ top ∷ self.new) }
     {
         self.items.pop()
     }

@@ -6,7 +6,7 @@ ghost use Rattle.rpy_token.specs.Fault.{Same};
 
 use crate::token::{Keyword, Sign};
 
-fn is(word: &[u8], text: &str) -> bool
+fn equals(word: &[u8], text: &str) -> bool
     ensures { result ≡ bytes_eq word.now text.now }
 {
     word == text.as_bytes()
@@ -16,27 +16,27 @@ fn is(word: &[u8], text: &str) -> bool
 fn short_keyword(word: &[u8]) -> Option<Keyword>
     ensures { result ≡ spec.short_keyword word.now }
 {
-    if is(word, "as") {
+    if equals(word, "as") {
         Some(Keyword::As)
-    } else if is(word, "if") {
+    } else if equals(word, "if") {
         Some(Keyword::If)
-    } else if is(word, "in") {
+    } else if equals(word, "in") {
         Some(Keyword::In)
-    } else if is(word, "is") {
+    } else if equals(word, "is") {
         Some(Keyword::Is)
-    } else if is(word, "or") {
+    } else if equals(word, "or") {
         Some(Keyword::Or)
-    } else if is(word, "and") {
+    } else if equals(word, "and") {
         Some(Keyword::And)
-    } else if is(word, "def") {
+    } else if equals(word, "def") {
         Some(Keyword::Def)
-    } else if is(word, "del") {
+    } else if equals(word, "del") {
         Some(Keyword::Del)
-    } else if is(word, "for") {
+    } else if equals(word, "for") {
         Some(Keyword::For)
-    } else if is(word, "not") {
+    } else if equals(word, "not") {
         Some(Keyword::Not)
-    } else if is(word, "try") {
+    } else if equals(word, "try") {
         Some(Keyword::Try)
     } else {
         None
@@ -47,29 +47,29 @@ fn short_keyword(word: &[u8]) -> Option<Keyword>
 fn middle_keyword(word: &[u8]) -> Option<Keyword>
     ensures { result ≡ spec.middle_keyword word.now }
 {
-    if is(word, "elif") {
+    if equals(word, "elif") {
         Some(Keyword::Elif)
-    } else if is(word, "else") {
+    } else if equals(word, "else") {
         Some(Keyword::Else)
-    } else if is(word, "exec") {
+    } else if equals(word, "exec") {
         Some(Keyword::Exec)
-    } else if is(word, "from") {
+    } else if equals(word, "from") {
         Some(Keyword::From)
-    } else if is(word, "pass") {
+    } else if equals(word, "pass") {
         Some(Keyword::Pass)
-    } else if is(word, "with") {
+    } else if equals(word, "with") {
         Some(Keyword::With)
-    } else if is(word, "break") {
+    } else if equals(word, "break") {
         Some(Keyword::Break)
-    } else if is(word, "class") {
+    } else if equals(word, "class") {
         Some(Keyword::Class)
-    } else if is(word, "print") {
+    } else if equals(word, "print") {
         Some(Keyword::Print)
-    } else if is(word, "raise") {
+    } else if equals(word, "raise") {
         Some(Keyword::Raise)
-    } else if is(word, "while") {
+    } else if equals(word, "while") {
         Some(Keyword::While)
-    } else if is(word, "yield") {
+    } else if equals(word, "yield") {
         Some(Keyword::Yield)
     } else {
         None
@@ -80,21 +80,21 @@ fn middle_keyword(word: &[u8]) -> Option<Keyword>
 fn long_keyword(word: &[u8]) -> Option<Keyword>
     ensures { result ≡ spec.long_keyword word.now }
 {
-    if is(word, "assert") {
+    if equals(word, "assert") {
         Some(Keyword::Assert)
-    } else if is(word, "except") {
+    } else if equals(word, "except") {
         Some(Keyword::Except)
-    } else if is(word, "global") {
+    } else if equals(word, "global") {
         Some(Keyword::Global)
-    } else if is(word, "import") {
+    } else if equals(word, "import") {
         Some(Keyword::Import)
-    } else if is(word, "lambda") {
+    } else if equals(word, "lambda") {
         Some(Keyword::Lambda)
-    } else if is(word, "return") {
+    } else if equals(word, "return") {
         Some(Keyword::Return)
-    } else if is(word, "finally") {
+    } else if equals(word, "finally") {
         Some(Keyword::Finally)
-    } else if is(word, "continue") {
+    } else if equals(word, "continue") {
         Some(Keyword::Continue)
     } else {
         None
