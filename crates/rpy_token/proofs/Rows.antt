@@ -1,10 +1,11 @@
 -- Sources with their tokens and faults, worked out by hand.
-use Rattle.std.proofs.Common.{ℕ, [], ◌∷◌, ◌++◌, replicate, pos, refl}
+use Rattle.std.proofs.Common.{◌≡◌, ℕ, List, [], ◌∷◌, ◌++◌, replicate, map, Some, pos, refl}
 use Rattle.std.specs.Prelude.{codes}
 use Rattle.std.specs.List.{flat_map}
 use Rattle.rpy_token.specs.declared.fault.LimitKind.TheVariants as limit
 use Rattle.rpy_token.specs.declared.fault.TokenFault.TheVariants as fault
 use Rattle.rpy_token.specs.declared.token.Keyword.TheVariants as word
+use Rattle.rpy_token.specs.declared.token.Sign.{Sign}
 use Rattle.rpy_token.specs.declared.token.Sign.TheVariants as sign
 use Rattle.rpy_token.specs.declared.token.Token.{Token}
 use Rattle.rpy_token.specs.declared.token.TokenKind.{TokenKind}
@@ -92,3 +93,58 @@ brackets = fault_found (replicate 17 40) (fault.Limit limit.Brackets 16) refl
 operators : HasFault (codes "1" ++ flat_map (λ (n : ℕ). codes "+1") (replicate 65 0)) (fault.Limit limit.Operators 129)
 unfolding tok token_list begin blank_line blank_len after_comment indent has_tab set_indent kept wider inside next_piece lexeme name name_len keyword short_keyword middle_keyword long_keyword sign_of sign_of_three sign_of_two sign_of_one number digit_len value_from quoted body next_part part_of_line after_close escape hex_escape octal_escape take_piece counted finish
 operators = fault_found (codes "1" ++ flat_map (λ (n : ℕ). codes "+1") (replicate 65 0)) (fault.Limit limit.Operators 129) refl
+
+-- the signs
+abbrev signs : List (List ℕ × Sign)
+signs =
+    (codes "//=", sign.FloorDivAssign) ∷
+    (codes "<<=", sign.ShlAssign) ∷
+    (codes ">>=", sign.ShrAssign) ∷
+    (codes "+=", sign.AddAssign) ∷
+    (codes "-=", sign.SubAssign) ∷
+    (codes "*=", sign.MulAssign) ∷
+    (codes "/=", sign.DivAssign) ∷
+    (codes "%=", sign.ModAssign) ∷
+    (codes "&=", sign.AndAssign) ∷
+    (codes "|=", sign.OrAssign) ∷
+    (codes "^=", sign.XorAssign) ∷
+    (codes "==", sign.EqualEqual) ∷
+    (codes "!=", sign.NotEqual) ∷
+    (codes "<=", sign.LessEqual) ∷
+    (codes ">=", sign.GreaterEqual) ∷
+    (codes "//", sign.FloorDiv) ∷
+    (codes "<<", sign.ShiftLeft) ∷
+    (codes ">>", sign.ShiftRight) ∷
+    (codes "+", sign.Plus) ∷
+    (codes "-", sign.Minus) ∷
+    (codes "*", sign.Star) ∷
+    (codes "/", sign.Slash) ∷
+    (codes "%", sign.Percent) ∷
+    (codes "&", sign.Ampersand) ∷
+    (codes "|", sign.Bar) ∷
+    (codes "^", sign.Caret) ∷
+    (codes "~", sign.Tilde) ∷
+    (codes "<", sign.Less) ∷
+    (codes ">", sign.Greater) ∷
+    (codes "=", sign.Equal) ∷
+    (codes "(", sign.OpenParen) ∷
+    (codes ")", sign.CloseParen) ∷
+    (codes "[", sign.OpenBracket) ∷
+    (codes "]", sign.CloseBracket) ∷
+    (codes "{", sign.OpenBrace) ∷
+    (codes "}", sign.CloseBrace) ∷
+    (codes ",", sign.Comma) ∷
+    (codes ":", sign.Colon) ∷
+    (codes ";", sign.Semicolon) ∷
+    (codes ".", sign.Dot) ∷
+    (codes "@", sign.At) ∷ []
+
+-- each is read whole
+each_sign : map (λ (row : List ℕ × Sign). sign_of row.0) signs ≡ map (λ (row : List ℕ × Sign). Some (row.1, [])) signs
+unfolding sign_of sign_of_three sign_of_two sign_of_one
+each_sign = refl
+
+-- and before a byte that continues none, as a space
+each_sign_apart : map (λ (row : List ℕ × Sign). sign_of (row.0 ++ 32 ∷ [])) signs ≡ map (λ (row : List ℕ × Sign). Some (row.1, 32 ∷ [])) signs
+unfolding sign_of sign_of_three sign_of_two sign_of_one
+each_sign_apart = refl

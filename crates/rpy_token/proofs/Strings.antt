@@ -1,8 +1,7 @@
 -- A string is read in as many parts as it takes, since each has a byte.
-use Rattle.std.proofs.Common.{◌≡◌, ℕ, zero, suc, ◌<◌, ◌≤◌, cond, List, [], ◌∷◌, ◌++◌, length, Ok, Err, refl, sym, ap, arith}
+use Rattle.std.proofs.Common.{◌≡◌, ℕ, zero, suc, ◌≤◌, cond, [], ◌∷◌, ◌++◌, length, Ok, Err, refl, sym, ap, arith}
 use Rattle.rpy_token.specs.declared.fault.TokenFault.TheVariants as fault
 use Rattle.rpy_token.specs.declared.quoted.Form.{Form}
-use Rattle.rpy_token.specs.declared.quoted.Part.{Part}
 use Rattle.rpy_token.specs.Bytes.{Bytes}
 use Rattle.rpy_token.specs.Fault.{Outcome, ◌>>=◌}
 use Rattle.rpy_token.specs.Quoted.{part_of_line, next_part, closes, bytes_of, body_from, body}

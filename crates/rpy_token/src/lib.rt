@@ -17,9 +17,12 @@
 //!   or `0`. One above 9223372036854775807, without digits, or directly followed by a letter, a digit,
 //!   `_` or `.` is `BadNumber` at its first byte.
 //! - **Strings** stand in single or tripled `'` or `"`, behind at most one of `r`, `R`, `b`, `B`. One
-//!   that is not closed, in single quotes on its line, is `OpenString` at its first byte. An octal
-//!   escape above 377 and `\x` without two digits are `BadNumber` at the backslash; an escape that is
-//!   none keeps its backslash. With `r` or `R` each byte stands for itself.
+//!   that is not closed, in single quotes on its line, is `OpenString` at its first byte, its prefix
+//!   counted. The escapes are `\\ \' \" \a \b \f \n \r \t \v`, one to three octal digits, `\x` and two
+//!   hexadecimal digits, and a backslash before a newline, which stands for nothing. Any other keeps
+//!   its backslash. Octal digits above 377, and `\x` without two digits, are `BadNumber` at the
+//!   backslash. With `r` or `R` each byte stands for itself, and a quote directly behind an odd number
+//!   of backslashes does not close.
 //! - **Limits**, each at the token that passes it: 16 open brackets, 32 open indentations, and 64
 //!   operators at one bracket level between two separators. Operators are the operator signs, `and`,
 //!   `or`, `not`, `in`, `is`, the dot and the opening brackets; separators are `,`, `:`, `;`, the
