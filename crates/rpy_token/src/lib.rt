@@ -26,7 +26,9 @@
 //! - **Limits**, each at the token that passes it: 16 open brackets, 32 open indentations, and 64
 //!   operators at one bracket level between two separators. Operators are the operator signs, `and`,
 //!   `or`, `not`, `in`, `is`, the dot and the opening brackets; separators are `,`, `:`, `;`, the
-//!   assignment signs, the end of a logical line, and the opening bracket of the level.
+//!   assignment signs, the end of a logical line, and the opening bracket of the level. A bracket
+//!   that passes two limits passes that of the brackets. A closing bracket at depth zero changes
+//!   nothing.
 //!
 //! Indent, Dedent and End have empty spans: Indent and Dedent at the first byte of the line's text or
 //! at the end of the source, End at the end.

@@ -202,3 +202,12 @@ fn lines_are_counted_from_one(rt: HostRuntime) -> Result<(), Fail> {
     }
     Ok(())
 }
+
+#[test]
+fn tokens_are_found_by_their_number(rt: HostRuntime) -> Result<(), Fail> {
+    let list = read(rt.alloc(), b"a\nbc")?;
+    assert_eq!(rt; list.len(), 5);
+    let token = list.get(2);
+    assert_eq!(rt; (token.start, token.end, token.line), (2, 4, 2));
+    Ok(())
+}
