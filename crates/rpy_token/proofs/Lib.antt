@@ -1,0 +1,15 @@
+pub mod Causes
+pub mod LinesLemmas
+pub mod NumberLemmas
+pub mod Ordered
+pub mod Outcomes
+pub mod Progress
+pub mod QuotedLemmas
+pub mod Rows
+pub mod Runs
+pub mod ScanLemmas
+pub mod Sizes
+pub mod StackLemmas
+pub mod Strings
+pub mod Totality
+pub mod Whole

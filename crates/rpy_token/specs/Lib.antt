@@ -1,0 +1,13 @@
+pub mod Bytes
+pub mod Fault
+pub mod Indents
+pub mod Levels
+pub mod Lines
+pub mod Number
+pub mod Order
+pub mod Piece
+pub mod Quoted
+pub mod Relation
+pub mod Scan
+pub mod Stack
+pub mod Words
