@@ -280,6 +280,7 @@ mutual
   pub data Cell : Type 0 where
     Plain : CConst → Cell
     Braced : Cells → Cell
+
   pub data Cells : Type 0 where
     end : Cells
     then_cell : Cell → Cells → Cells

@@ -44,7 +44,7 @@ wraps = refl
 
 -- a name that is bound again, and a product of two differences
 sums : mean (program (line (Assign (Name 1) (Binary Sub (Int (pos 2)) (Int (pos 5)))) (line (Assign (Name 1) (Binary Mul (Local 1) (Local 1)))
-        (line (Print (more (Local 1) (more (Int (pos 7)) none))) (line (Return (Local 1)) done))))) args 1
+    (line (Print (more (Local 1) (more (Int (pos 7)) none))) (line (Return (Local 1)) done))))) args 1
     ≡ record { outcome = Some (Returned (pos 9)); output = codes "9 7\n"; roots = []; heap = objects }
 unfolding digits int_wrap
 sums = refl

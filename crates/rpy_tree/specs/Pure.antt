@@ -7,6 +7,7 @@ mutual
     Int : ℤ → Expr
     Local : ℕ → Expr
     Binary : BinOp → Expr → Expr → Expr
+
   pub data Exprs : Type 0 where
     none : Exprs
     more : Expr → Exprs → Exprs
@@ -20,6 +21,7 @@ mutual
     Assign : Target → Expr → Stmt
     Print : Exprs → Stmt
     Return : Expr → Stmt
+
   pub data Block : Type 0 where
     done : Block
     line : Stmt → Block → Block

@@ -10,6 +10,7 @@ mutual
     Tuple : Values → Value
     Fun : ℕ → Value
     Ref : ℕ → Value
+
   pub data Values : Type 0 where
     none : Values
     more : Value → Values → Values
