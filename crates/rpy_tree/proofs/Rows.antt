@@ -49,6 +49,17 @@ sums : mean (program (line (Assign (Name 1) (Binary Sub (Int (pos 2)) (Int (pos 
 unfolding digits int_wrap
 sums = refl
 
+-- below the smallest word, and past the greatest
+wraps_down : mean (program (line (Return (Binary Sub (Binary Sub (Int (pos 0)) (Int (pos 9223372036854775807))) (Int (pos 2)))) done)) args 1
+    ≡ record { outcome = Some (Returned (pos 9223372036854775807)); output = []; roots = []; heap = objects }
+unfolding int_wrap
+wraps_down = refl
+
+wraps_up : mean (program (line (Return (Binary Mul (Int (pos 9223372036854775807)) (Int (pos 2)))) done)) args 1
+    ≡ record { outcome = Some (Returned (negsuc 1)); output = []; roots = []; heap = objects }
+unfolding int_wrap
+wraps_up = refl
+
 -- a local that is not bound
 unbound : mean (program (line (Return (Local 1)) done)) args 1 ≡ record { outcome = None; output = []; roots = []; heap = [] }
 unbound = refl
