@@ -131,3 +131,35 @@ sign_of_one (a ∷ rest) = and_rest (first_of_two (operator a) (punctuation a)) 
 
 unfoldable pub sign_of : Bytes → Option (Sign × Bytes)
 sign_of bytes = first_of_two (sign_of_three bytes) (first_of_two (sign_of_two bytes) (sign_of_one bytes))
+
+-- ---- the table of signs
+
+-- what follows a text at the front
+abbrev pub after_text : Bytes → Bytes → Option Bytes
+after_text [] bytes = Some bytes
+after_text (t ∷ ts) [] = None
+after_text (t ∷ ts) (b ∷ bs) = if b == t then after_text ts bs else None
+
+abbrev pub row_or : {A : Type 0} → A → Option Bytes → Option (A × Bytes) → Option (A × Bytes)
+row_or x (Some rest) other = Some (x, rest)
+row_or x None other = other
+
+-- the first row whose text stands at the front, and what follows it
+abbrev pub first_row : {A : Type 0} → List (Bytes × A) → Bytes → Option (A × Bytes)
+first_row [] bytes = None
+first_row (row ∷ rows) bytes = row_or row.1 (after_text row.0 bytes) (first_row rows bytes)
+
+-- the longest first
+abbrev pub signs : List (Bytes × Sign)
+signs =
+    (codes "//=", s.FloorDivAssign) ∷ (codes "<<=", s.ShlAssign) ∷ (codes ">>=", s.ShrAssign)
+    ∷ (codes "+=", s.AddAssign) ∷ (codes "-=", s.SubAssign) ∷ (codes "*=", s.MulAssign) ∷ (codes "/=", s.DivAssign) ∷ (codes "%=", s.ModAssign) ∷ (codes "&=", s.AndAssign)
+    ∷ (codes "|=", s.OrAssign) ∷ (codes "^=", s.XorAssign) ∷ (codes "==", s.EqualEqual) ∷ (codes "!=", s.NotEqual) ∷ (codes "<=", s.LessEqual) ∷ (codes ">=", s.GreaterEqual)
+    ∷ (codes "//", s.FloorDiv) ∷ (codes "<<", s.ShiftLeft) ∷ (codes ">>", s.ShiftRight)
+    ∷ (codes "+", s.Plus) ∷ (codes "-", s.Minus) ∷ (codes "*", s.Star) ∷ (codes "/", s.Slash) ∷ (codes "%", s.Percent) ∷ (codes "&", s.Ampersand)
+    ∷ (codes "|", s.Bar) ∷ (codes "^", s.Caret) ∷ (codes "~", s.Tilde) ∷ (codes "<", s.Less) ∷ (codes ">", s.Greater) ∷ (codes "=", s.Equal)
+    ∷ (codes "(", s.OpenParen) ∷ (codes ")", s.CloseParen) ∷ (codes "[", s.OpenBracket) ∷ (codes "]", s.CloseBracket) ∷ (codes "{", s.OpenBrace) ∷ (codes "}", s.CloseBrace)
+    ∷ (codes ",", s.Comma) ∷ (codes ":", s.Colon) ∷ (codes ";", s.Semicolon) ∷ (codes ".", s.Dot) ∷ (codes "@", s.At) ∷ []
+
+unfoldable pub longest_sign : Bytes → Option (Sign × Bytes)
+longest_sign bytes = first_row signs bytes
