@@ -1,11 +1,13 @@
--- The code's families of signs are the table.
+-- The code's families of keywords and signs are the tables.
 use Rattle.std.proofs.Common.{◌≡◌, ℕ, ◌&&◌, Bool, true, false, cond, eqb, List, [], ◌∷◌, ◌++◌, map, Option, Some, None, refl, sym, ap, ◌∙◌, arith}
+use Rattle.std.specs.Str.{bytes_eq}
 use Rattle.std.proofs.lemmas.Bool.{eqb-true, eqb-false}
 use Rattle.std.proofs.lemmas.Bool.Decides.{nat_tests}
 use Rattle.rpy_token.specs.declared.token.Sign.{Sign}
 use Rattle.rpy_token.specs.declared.token.Sign.TheVariants as s
 use Rattle.rpy_token.specs.Bytes.{Bytes}
-use Rattle.rpy_token.specs.Words.{first_of_two, and_rest, doubled_assign, before_equals, doubled, operator, punctuation, sign_of_three, sign_of_two, sign_of_one, sign_of, after_text, row_or, first_row, signs, longest_sign}
+use Rattle.rpy_token.specs.Families.{first_of_two, and_rest, doubled_assign, before_equals, doubled, operator, punctuation, sign_of_three, sign_of_two, sign_of_one, sign_of, short_keyword, middle_keyword, long_keyword, keyword_by_length}
+use Rattle.rpy_token.specs.Words.{look_up, short_keywords, middle_keywords, long_keywords, keyword, after_text, row_or, first_row, signs, longest_sign}
 use Rattle.rpy_token.proofs.Outcomes.{on_test}
 
 -- ---- families
@@ -158,7 +160,7 @@ families : (bytes : Bytes) → first_row signs bytes
 families bytes =
     first_row-append (map three threes) (map equal equals ++ (map double doubles ++ map one (operators ++ marks))) bytes
     ∙ ap (first_of_two (first_row (map three threes) bytes)) (first_row-append (map equal equals) (map double doubles ++ map one (operators ++ marks)) bytes
-      ∙ ap (first_of_two (first_row (map equal equals) bytes)) (first_row-append (map double doubles) (map one (operators ++ marks)) bytes))
+    ∙ ap (first_of_two (first_row (map equal equals) bytes)) (first_row-append (map double doubles) (map one (operators ++ marks)) bytes))
 
 single : (a : ℕ) (rest : Bytes) → first_row (map one (operators ++ marks)) (a ∷ rest) ≡ and_rest (first_of_two (operator a) (punctuation a)) rest
 single a rest = one_rows (operators ++ marks) a rest ∙ ap (λ o. and_rest o rest) (chain-append operators marks a)
@@ -213,3 +215,15 @@ sign_is (a ∷ b ∷ c ∷ rest) =
     sym (families (a ∷ b ∷ c ∷ rest)
     ∙ ap (λ o. first_of_two o (first_of_two (first_row (map equal equals) (a ∷ b ∷ c ∷ rest)) (first_of_two (first_row (map double doubles) (a ∷ b ∷ c ∷ rest)) (first_row (map one (operators ++ marks)) (a ∷ b ∷ c ∷ rest))))) (three_rows threes a b c rest)
     ∙ ap (first_of_two (cond (eqb a b && eqb c 61) (and_rest (doubled_assign a) rest) None)) (shorter a b (c ∷ rest)))
+
+-- ---- keywords
+
+look_up-append : {A : Type 0} (text : Bytes) (xs ys : List (Bytes × A)) → look_up text (xs ++ ys) ≡ first_of_two (look_up text xs) (look_up text ys)
+look_up-append text [] ys = refl
+look_up-append text (row ∷ rows) ys =
+    on_test (λ b. cond b (Some row.1) (look_up text (rows ++ ys)) ≡ first_of_two (cond b (Some row.1) (look_up text rows)) (look_up text ys)) (bytes_eq text row.0) (λ _. refl) (λ _. look_up-append text rows ys)
+
+pub keyword_is : (text : Bytes) → keyword_by_length text ≡ keyword text
+unfolding keyword_by_length keyword short_keyword middle_keyword long_keyword
+keyword_is text =
+    sym (look_up-append text short_keywords (middle_keywords ++ long_keywords) ∙ ap (first_of_two (look_up text short_keywords)) (look_up-append text middle_keywords long_keywords))
