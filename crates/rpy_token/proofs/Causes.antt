@@ -19,7 +19,7 @@ use Rattle.rpy_token.specs.Lines.{Spot}
 use Rattle.rpy_token.specs.Number.{digit, digit_len, value_from, word, word_or_fault, radix, goes_on, digits_at, number}
 use Rattle.rpy_token.specs.Piece.{after_comment, begins_string, is_raw_prefix, name, string_at, integer_at, sign_or_fault, sign_at, lexeme, comment_at, blank_or_fault, joined_at, inner_piece, line_end_or_inner, next_piece}
 use Rattle.rpy_token.specs.Quoted.{after_three, after_close, simple_escape, hex_escape, octal_escape, escape_of, escape_byte, escape_or_joined, escape, raw_backslash, part_or_close, part_of_line, part_or_newline, next_part, closes, bytes_of, body_from, body, body_by, quoted}
-use Rattle.rpy_token.specs.Words.{sign_of}
+use Rattle.rpy_token.specs.Words.{longest_sign}
 use Rattle.rpy_token.specs.Indents.{past_newline, blank_after, blank_line}
 use Rattle.rpy_token.specs.Relation as r
 use Rattle.rpy_token.specs.Relation.{AtLine, InLine, start_of, HasFault}
@@ -149,7 +149,7 @@ lexeme_clean size (b ∷ bs) =
     (string_clean (is_raw_prefix b) size at bs)
     (if_clean (is_letter b) (Ok (name (b ∷ bs))) (cond (is_digit b) (integer_at size (b ∷ bs)) (cond (is_quote b) (string_at false size at (b ∷ bs)) (sign_at at (b ∷ bs)))) tt
     (if_clean (is_digit b) (integer_at size (b ∷ bs)) (cond (is_quote b) (string_at false size at (b ∷ bs)) (sign_at at (b ∷ bs))) (integer_clean size (b ∷ bs))
-    (if_clean (is_quote b) (string_at false size at (b ∷ bs)) (sign_at at (b ∷ bs)) (string_clean false size at (b ∷ bs)) (or_fault_clean at (sign_of (b ∷ bs))))))
+    (if_clean (is_quote b) (string_at false size at (b ∷ bs)) (sign_at at (b ∷ bs)) (string_clean false size at (b ∷ bs)) (or_fault_clean at (longest_sign (b ∷ bs))))))
 
 blank_clean : (at : ℕ) (o : Option Bytes) → Clean (blank_or_fault at o)
 unfolding NotMem

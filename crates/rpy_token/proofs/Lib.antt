@@ -8,6 +8,7 @@ pub mod QuotedLemmas
 pub mod Rows
 pub mod Runs
 pub mod ScanLemmas
+pub mod SignTable
 pub mod Sizes
 pub mod StackLemmas
 pub mod Strings

@@ -15,9 +15,11 @@ use Rattle.rpy_token.specs.Lines.{Spot, size_at, rest_at}
 use Rattle.rpy_token.specs.Number.{digit, digit_len, value_from, word, word_or_fault, radix, goes_on, digits_at, number}
 use Rattle.rpy_token.specs.Piece.{after_comment, begins_string, is_raw_prefix, name, string_at, integer_at, sign_or_fault, sign_at, lexeme, comment_at, blank_or_fault, joined_at, inner_piece, line_end_or_inner, next_piece}
 use Rattle.rpy_token.specs.Quoted.{after_one, after_three, after_close, simple_escape, hex_escape, octal_escape, other_escape, escape_of, escape_byte, escape_or_joined, escape, raw_backslash, part_of_byte, part_or_close, part_of_line, part_or_newline, next_part, closes, bytes_of, body_from, body, body_by, quoted}
-use Rattle.rpy_token.specs.Words.{first_of_two, and_rest, doubled_assign, before_equals, doubled, operator, punctuation, sign_of_three, sign_of_two, sign_of_one, sign_of}
+use Rattle.rpy_token.specs.Families.{first_of_two, and_rest, doubled_assign, before_equals, doubled, operator, punctuation, sign_of_three, sign_of_two, sign_of_one, sign_of}
 use Rattle.rpy_token.specs.Indents.{past_newline, blank_after, blank_line}
 use Rattle.rpy_token.specs.Relation.{HasMore, HasText, text_at, width_at}
+use Rattle.rpy_token.specs.Words.{longest_sign}
+use Rattle.rpy_token.proofs.SignTable.{sign_is}
 use Rattle.rpy_token.proofs.Outcomes.{OnRead, on_bind, on_any, on_if, on_weaker, read_is}
 
 -- ---- what follows is shorter
@@ -264,7 +266,7 @@ unfolding lexeme
 lexeme_less size [] = tt
 lexeme_less size (b ∷ bs) =
     let at : ℕ = place size (b ∷ bs) in
-    let signs = sign_or_less at (b ∷ bs) (sign_of (b ∷ bs)) (sign_less (b ∷ bs)) in
+    let signs = sign_or_less at (b ∷ bs) (longest_sign (b ∷ bs)) (subst (SignLess (b ∷ bs)) (sign_is (b ∷ bs)) (sign_less (b ∷ bs))) in
     on_if (OnRead (Less (b ∷ bs))) (begins_string (b ∷ bs)) (string_at (is_raw_prefix b) size at bs) (cond (is_letter b) (Ok (name (b ∷ bs))) (cond (is_digit b) (integer_at size (b ∷ bs)) (cond (is_quote b) (string_at false size at (b ∷ bs)) (sign_at at (b ∷ bs)))))
     (λ _. less_than bs (b ∷ bs) (string_at (is_raw_prefix b) size at bs) (omega arith) (string_less (is_raw_prefix b) size at bs))
     (λ _. on_if (OnRead (Less (b ∷ bs))) (is_letter b) (Ok (name (b ∷ bs))) (cond (is_digit b) (integer_at size (b ∷ bs)) (cond (is_quote b) (string_at false size at (b ∷ bs)) (sign_at at (b ∷ bs)))) (λ e. name_less b bs e)

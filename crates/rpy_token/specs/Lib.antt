@@ -1,4 +1,5 @@
 pub mod Bytes
+pub mod Families
 pub mod Fault
 pub mod Indents
 pub mod Levels

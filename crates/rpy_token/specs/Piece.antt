@@ -11,7 +11,7 @@ use Rattle.rpy_token.specs.Bytes.{Bytes, is_letter, is_digit, is_blank, is_quote
 use Rattle.rpy_token.specs.Fault.{Outcome, ◌>>=◌, place}
 use Rattle.rpy_token.specs.Number.{number}
 use Rattle.rpy_token.specs.Quoted.{quoted}
-use Rattle.rpy_token.specs.Words.{keyword, sign_of}
+use Rattle.rpy_token.specs.Words.{keyword, longest_sign}
 
 -- what follows a comment, which runs to the end of its line
 unfoldable pub after_comment : ℕ → Bytes → Outcome Bytes
@@ -56,7 +56,7 @@ sign_or_fault at (Some x) = Ok (p.Lexeme (kind.Sign x.0), x.1)
 sign_or_fault at None = Err (fault.BadByte at)
 
 abbrev pub sign_at : ℕ → Bytes → Outcome (Piece × Bytes)
-sign_at at bytes = sign_or_fault at (sign_of bytes)
+sign_at at bytes = sign_or_fault at (longest_sign bytes)
 
 -- a token: a string, a name or a keyword, a number or a sign
 unfoldable pub lexeme : ℕ → Bytes → Outcome (Piece × Bytes)

@@ -9,7 +9,7 @@ use crate::bytes::{
 use crate::number::number;
 use crate::place::place;
 use crate::quoted::quoted;
-use crate::words::{keyword, sign_of};
+use crate::words::{keyword, longest_sign};
 use crate::{TokenFault, TokenKind};
 use rpy_base::Text;
 use std::alloc::Global;
@@ -90,7 +90,7 @@ fn string(
 fn sign(at: u32, bytes: &[u8]) -> Result<(Piece, &[u8]), TokenFault>
     ensures { Gives (λ x. (x.0, x.1.now)) result (spec.sign_at at bytes.entry.now) }
 {
-    match sign_of(bytes) {
+    match longest_sign(bytes) {
         Some((sign, rest)) => Ok((Piece::Lexeme(TokenKind::Sign(sign)), rest)),
         None => Err(TokenFault::BadByte(at)),
     }

@@ -1,7 +1,8 @@
 // Keywords and signs.
 ghost use Rattle.std.specs.Prelude.{◌≡◌};
 ghost use Rattle.std.specs.Str.{bytes_eq};
-ghost use Rattle.rpy_token.specs.Words as spec;
+ghost use Rattle.rpy_token.specs.Families as spec;
+ghost use Rattle.rpy_token.specs.Words as table;
 ghost use Rattle.rpy_token.specs.Fault.{Same};
 
 use crate::token::{Keyword, Sign};
@@ -12,7 +13,7 @@ fn equals(word: &[u8], text: &str) -> bool
     word == text.as_bytes()
 }
 
-#[tactic(auto, unfolding(crate::specs::Words::short_keyword))]
+#[tactic(auto, unfolding(crate::specs::Families::short_keyword))]
 fn short_keyword(word: &[u8]) -> Option<Keyword>
     ensures { result ≡ spec.short_keyword word.now }
 {
@@ -43,7 +44,7 @@ fn short_keyword(word: &[u8]) -> Option<Keyword>
     }
 }
 
-#[tactic(auto, unfolding(crate::specs::Words::middle_keyword))]
+#[tactic(auto, unfolding(crate::specs::Families::middle_keyword))]
 fn middle_keyword(word: &[u8]) -> Option<Keyword>
     ensures { result ≡ spec.middle_keyword word.now }
 {
@@ -76,7 +77,7 @@ fn middle_keyword(word: &[u8]) -> Option<Keyword>
     }
 }
 
-#[tactic(auto, unfolding(crate::specs::Words::long_keyword))]
+#[tactic(auto, unfolding(crate::specs::Families::long_keyword))]
 fn long_keyword(word: &[u8]) -> Option<Keyword>
     ensures { result ≡ spec.long_keyword word.now }
 {
@@ -101,9 +102,9 @@ fn long_keyword(word: &[u8]) -> Option<Keyword>
     }
 }
 
-#[tactic(auto, unfolding(crate::specs::Words::keyword))]
-pub fn keyword(word: &[u8]) -> Option<Keyword>
-    ensures { result ≡ spec.keyword word.now }
+#[tactic(auto, unfolding(crate::specs::Families::keyword_by_length))]
+fn keyword_by_length(word: &[u8]) -> Option<Keyword>
+    ensures { result ≡ spec.keyword_by_length word.now }
 {
     if let Some(found) = short_keyword(word) {
         return Some(found);
@@ -112,6 +113,13 @@ pub fn keyword(word: &[u8]) -> Option<Keyword>
         return Some(found);
     }
     long_keyword(word)
+}
+
+#[tactic(auto, using(crate::proofs::SignTable::keyword_is))]
+pub fn keyword(word: &[u8]) -> Option<Keyword>
+    ensures { result ≡ table.keyword word.now }
+{
+    keyword_by_length(word)
 }
 
 /// `//`, `<<` and `>>`, by their byte, with `=` after them.
@@ -216,7 +224,7 @@ fn and_rest(sign: Option<Sign>, rest: &[u8]) -> Option<(Sign, &[u8])>
     }
 }
 
-#[tactic(auto, unfolding(crate::specs::Words::sign_of_three))]
+#[tactic(auto, unfolding(crate::specs::Families::sign_of_three))]
 fn sign_of_three(bytes: &[u8]) -> Option<(Sign, &[u8])>
     ensures { Same (λ x. (x.0, x.1.now)) result (spec.sign_of_three bytes.entry.now) }
 {
@@ -226,7 +234,7 @@ fn sign_of_three(bytes: &[u8]) -> Option<(Sign, &[u8])>
     }
 }
 
-#[tactic(auto, unfolding(crate::specs::Words::sign_of_two))]
+#[tactic(auto, unfolding(crate::specs::Families::sign_of_two))]
 fn sign_of_two(bytes: &[u8]) -> Option<(Sign, &[u8])>
     ensures { Same (λ x. (x.0, x.1.now)) result (spec.sign_of_two bytes.entry.now) }
 {
@@ -237,7 +245,7 @@ fn sign_of_two(bytes: &[u8]) -> Option<(Sign, &[u8])>
     }
 }
 
-#[tactic(auto, unfolding(crate::specs::Words::sign_of_one))]
+#[tactic(auto, unfolding(crate::specs::Families::sign_of_one))]
 fn sign_of_one(bytes: &[u8]) -> Option<(Sign, &[u8])>
     ensures { Same (λ x. (x.0, x.1.now)) result (spec.sign_of_one bytes.entry.now) }
 {
@@ -247,9 +255,8 @@ fn sign_of_one(bytes: &[u8]) -> Option<(Sign, &[u8])>
     }
 }
 
-/// The longest sign at the front, and what follows it.
-#[tactic(auto, unfolding(crate::specs::Words::sign_of))]
-pub fn sign_of(bytes: &[u8]) -> Option<(Sign, &[u8])>
+#[tactic(auto, unfolding(crate::specs::Families::sign_of))]
+fn sign_of(bytes: &[u8]) -> Option<(Sign, &[u8])>
     ensures { Same (λ x. (x.0, x.1.now)) result (spec.sign_of bytes.entry.now) }
 {
     if let Some(found) = sign_of_three(bytes) {
@@ -259,4 +266,12 @@ pub fn sign_of(bytes: &[u8]) -> Option<(Sign, &[u8])>
         return Some(found);
     }
     sign_of_one(bytes)
+}
+
+/// The longest sign at the front, and what follows it.
+#[tactic(auto, using(crate::proofs::SignTable::sign_is))]
+pub fn longest_sign(bytes: &[u8]) -> Option<(Sign, &[u8])>
+    ensures { Same (λ x. (x.0, x.1.now)) result (table.longest_sign bytes.entry.now) }
+{
+    sign_of(bytes)
 }
