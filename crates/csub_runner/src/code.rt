@@ -13,6 +13,7 @@ pub fn function_at(file: &CFile, number: u64) -> Option<&CFunction>
 }
 
 /// The statement at a place.
+#[inline(always)]
 pub fn statement(file: &CFile, function: u64, block: u64, at: u64) -> Option<&CStmt>
     ensures is { option_copied result ≡ stmt_in (block_in (slice_get file.now.functions function) block) at }
     ensures within { OnSome result (at + 1 < 2 ^ 64) }

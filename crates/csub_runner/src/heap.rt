@@ -161,6 +161,7 @@ pub fn unset_values(alloc: Global, count: u64) -> Result<Vec<Val>, NoMem>
 }
 
 /// Writes the value at a place, where there is one.
+#[inline(always)]
 pub fn put(values: &mut Vec<Val>, at: u64, value: Val)
     ensures { values.new.items ≡ slice_set values.old.items at value }
 {

@@ -187,6 +187,7 @@ impl Machine {
         }
     }
 
+    #[inline(always)]
     pub fn goes_to(&mut self, block: u64) -> Next
         requires ok { MachineOk self.old }
         ensures ok { MachineOk self.new }
@@ -197,6 +198,7 @@ impl Machine {
         Next::Goes
     }
 
+    #[inline(always)]
     pub fn branch(&mut self, test: Val, there: u64, elsewhere: u64) -> Next
         requires ok { MachineOk self.old }
         ensures ok { MachineOk self.new }

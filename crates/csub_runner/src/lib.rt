@@ -18,3 +18,9 @@ mod start;
 mod statics;
 mod step;
 mod val;
+
+pub use csub_tree::StuckReason;
+pub use run::{CRan, RunFault, run_c};
+
+#[cfg(test)]
+mod tests;

@@ -71,6 +71,7 @@ impl Machine {
         })
     }
 
+    #[inline(always)]
     pub fn variable(&self, a: u64) -> Val
         requires ok { MachineOk self.now }
         ensures is { erase result ≡ read_value (core_of self.now).vars a }
@@ -79,6 +80,7 @@ impl Machine {
         read(&self.vars, a)
     }
 
+    #[inline(always)]
     pub fn value(&self, x: &COperand) -> Val
         requires ok { MachineOk self.now }
         ensures is { erase result ≡ operand_value (core_of self.now).vars x.now }
@@ -130,6 +132,7 @@ impl Machine {
         }
     }
 
+    #[inline(always)]
     pub fn assign(&mut self, a: u64, value: Val) -> Next
         requires at { self.old.at + 1 < 2 ^ 64 }
         requires ok { MachineOk self.old }

@@ -53,6 +53,7 @@ impl Model for Frame {
     ghost view = { λ f. record { function = f.function; block = f.block; at = f.at; vars = f.vars.items; into = f.into } };
 }
 
+#[inline(always)]
 pub fn is_unset(value: Val) -> bool
     ensures { result ≡ is_unset_value (erase value) }
 {
@@ -68,6 +69,7 @@ pub fn is_unset(value: Val) -> bool
     }
 }
 
+#[inline(always)]
 pub fn word_in(value: Val) -> Option<i64>
     ensures { result ≡ word_of (erase value) }
 {
@@ -83,6 +85,7 @@ pub fn word_in(value: Val) -> Option<i64>
     }
 }
 
+#[inline(always)]
 pub fn flag_in(value: Val) -> Option<bool>
     ensures { result ≡ flag_of (erase value) }
 {
@@ -128,6 +131,7 @@ pub fn fun_in(value: Val) -> Option<u64>
     }
 }
 
+#[inline(always)]
 pub fn constant(what: CConst) -> Val
     ensures { result ≡ raw_constant what }
 {
@@ -142,6 +146,7 @@ pub fn constant(what: CConst) -> Val
 }
 
 /// The value at a place; unset where there is none.
+#[inline(always)]
 pub fn read(values: &Vec<Val>, at: u64) -> Val
     ensures { result ≡ slice_index_or values.now.items at Val.Unset }
 {
@@ -151,6 +156,7 @@ pub fn read(values: &Vec<Val>, at: u64) -> Val
     }
 }
 
+#[inline(always)]
 pub fn operand(vars: &Vec<Val>, what: &COperand) -> Val
     ensures { result ≡ raw_operand vars.now.items what.now }
 {
