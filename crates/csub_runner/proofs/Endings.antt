@@ -13,7 +13,7 @@ use Rattle.csub_runner.specs.declared.run.RunFault.TheVariants.{Stuck as FaultSt
 use Rattle.csub_runner.specs.declared.run.Stop.{Stop}
 use Rattle.csub_runner.specs.declared.run.Stop.TheVariants.{Ended as StopEnded, Stuck as StopStuck, Spent}
 use Rattle.csub_runner.specs.Run.{told_all, put_by, HasTaken, HasTakenSome, RanTo, Finished, Broken, Stands, PutsSoFar, StandsAfter, EndsSo, Runs, Concludes, IsOwnFault}
-use Rattle.csub_runner.proofs.Runs.{run_suc, run_zero}
+use Rattle.csub_runner.proofs.Runs.{run_suc, run_zero, made_grown, gone_grown}
 use Rattle.csub_runner.proofs.Output.{taken_more, nothing_of, some_behind}
 
 -- before the first statement
@@ -59,7 +59,7 @@ module _ (file : CFile) (args : List (List ℕ)) (steps : ℕ) where
     ends_by : (ending given : Ending) (core : Core) (text : List ℕ) (events : List Event) (after : Option (List ℕ)) (now : List Seen) (k : ℕ) → k ≤ 2 ^ 63 → run file args k (start file steps) [] [] ≡ Ended ending core text events
         → ending ≡ given → HasTaken before after text → now ≡ map (told_all events) seen → EndsSo given file args steps before after seen now (meant_of ending core text events)
     unfolding meant_of
-    ends_by ending given core text events after now k le ran same h t = ((k, le, ap (meant_by steps) ran), same, h, (events, refl, refl, t))
+    ends_by ending given core text events after now k le ran same h t = ((k, le, ap (meant_by steps) ran), same, h, (events, refl, refl, t, made_grown events seen now t, gone_grown events seen now t))
 
     conclude_by : (stop : Stop) (core : Core) (mid after : Option (List ℕ)) (held : List ℕ) (made gone : ℕ) (now : List Seen) (result : Result CRan RunFault)
         → Finished (2 ^ 63) file args (start file steps) stop core before mid held made gone seen now → HasTaken mid after held → Concludes file steps core made gone stop result → Runs file args steps before after seen now result

@@ -173,3 +173,28 @@ at_start file args start before held seen made gone e m g synced = (
     goes_on = λ k. ap (λ n. run file args n start [] []) (omega arith);
   },
 )
+
+told_made : (events : List Event) (s : Seen) → (told_all events s).made ≡ s.made + length (made_in events)
+told_made [] s = omega arith
+told_made (Made n k c ∷ events) s = let h = told_made events (told (Made n k c) s) in omega (arith, h)
+told_made (Freed n ∷ events) s = told_made events (told (Freed n) s)
+
+told_gone : (events : List Event) (s : Seen) → (told_all events s).gone ≡ s.gone + length (gone_in events)
+told_gone [] s = omega arith
+told_gone (Made n k c ∷ events) s = told_gone events (told (Made n k c) s)
+told_gone (Freed n ∷ events) s = let h = told_gone events (told (Freed n) s) in omega (arith, h)
+
+-- in each watcher the two numbers grew
+pub made_grown : (events : List Event) (seen now : List Seen) → now ≡ map (told_all events) seen → map (λ s. s.made) now ≡ map (λ s. s.made + length (made_in events)) seen
+made_grown events seen now e = ap (map (λ s. s.made)) e ∙ by seen
+  where
+    by : (seen : List Seen) → map (λ s. s.made) (map (told_all events) seen) ≡ map (λ s. s.made + length (made_in events)) seen
+    by [] = refl
+    by (s ∷ seen) = ap (λ n. n ∷ map (λ x. x.made) (map (told_all events) seen)) (told_made events s) ∙ ap (λ ns. (s.made + length (made_in events)) ∷ ns) (by seen)
+
+pub gone_grown : (events : List Event) (seen now : List Seen) → now ≡ map (told_all events) seen → map (λ s. s.gone) now ≡ map (λ s. s.gone + length (gone_in events)) seen
+gone_grown events seen now e = ap (map (λ s. s.gone)) e ∙ by seen
+  where
+    by : (seen : List Seen) → map (λ s. s.gone) (map (told_all events) seen) ≡ map (λ s. s.gone + length (gone_in events)) seen
+    by [] = refl
+    by (s ∷ seen) = ap (λ n. n ∷ map (λ x. x.gone) (map (told_all events) seen)) (told_gone events s) ∙ ap (λ ns. (s.gone + length (gone_in events)) ∷ ns) (by seen)

@@ -67,9 +67,11 @@ abbrev pub WatchersAfter : RunFault → List Seen → List Seen → Type 0
 WatchersAfter NoMem before after = SomeTold before after
 WatchersAfter fault before after = after ≡ before
 
--- the watchers were told of blocks made and gone, in order, and these are those of the meaning
+-- the watchers were told of blocks made and gone, in order, and these are those of the meaning; so in each watcher the two numbers grew
+-- by their counts
 abbrev pub ToldOf : Meant → List Seen → List Seen → Type 0
 ToldOf meant before after = (events : List Event) × (meant.made ≡ made_in events) × (meant.gone ≡ gone_in events) × (after ≡ map (told_all events) before)
+    × (map (λ s. s.made) after ≡ map (λ s. s.made + length meant.made) before) × (map (λ s. s.gone) after ≡ map (λ s. s.gone + length meant.gone) before)
 
 -- one statement more: the state goes on, what is put is held or taken, each watcher is told, and the blocks are counted
 pub record Advances (after : After) (new : Core) (before now : Option (List ℕ)) (held held_now : List ℕ) (made made_now gone gone_now : ℕ) (seen seen_now : List Seen) : Type 0 where
