@@ -11,3 +11,6 @@ pub use tree::{
     CBinary, CCell, CConst, CFile, CFunction, COperand, CPrototype, CStatic, CStmt, CStruct, CType,
     CUnary,
 };
+
+#[cfg(test)]
+mod tests;
