@@ -10,4 +10,7 @@ mod read;
 mod statements;
 
 pub use fault::CFault;
-pub use read::read_text;
+pub use read::{read_c, read_text};
+
+#[cfg(test)]
+mod tests;

@@ -1,6 +1,8 @@
 // Statics, functions and files.
-ghost use Rattle.std.specs.Prelude.{◌≡◌, ◌+◌, ◌++◌, ◌<◌, ◌^◌, OnOk, IfOk, codes, [], ◌∷◌, length, true};
+ghost use Rattle.std.specs.Prelude.{◌≡◌, ◌+◌, ◌++◌, ◌<◌, ◌^◌, OnOk, IfOk, IfErr, codes, [], ◌∷◌, length, true};
 ghost use Rattle.std.specs.Fmt.{decimal};
+ghost use Rattle.csub_tree.specs.Checked.{IsChecked, first_unchecked};
+ghost use Rattle.csub_reader.specs.Refused.{IsRefused};
 ghost use Rattle.csub_tree.specs.Spelling.{numbered, local_line, block_text, function_start, function_body, function_text, struct_text, prototype_text, static_text, cell_text, cells_text, file_text, head, line};
 
 use crate::cells::cells;
@@ -9,7 +11,7 @@ use crate::fault::{CFault, Stop};
 use crate::names::{expect_name, name};
 use crate::parts::{head, parameter, prototype, struct_text};
 use crate::statements::statements;
-use csub_tree::{CFile, CFunction, CPrototype, CStatic, CStmt, CStruct, CType};
+use csub_tree::{CFile, CFunction, CPrototype, CStatic, CStmt, CStruct, CType, checked};
 use rpy_base::{Seq, Text};
 use std::alloc::Global;
 
@@ -293,12 +295,26 @@ fn line_of(text: &Text, rest: &[u8]) -> u64 {
 
 /// The file that a text spells, whether or not it keeps the further rules of a C file.
 pub fn read_text(alloc: Global, text: &Text) -> Result<CFile, CFault>
-    ensures { IfOk result (λ file. text.now ≡ file_text file) }
+    ensures spelled { IfOk result (λ file. text.now ≡ file_text file) }
+    ensures refused { IfErr result (λ fault. IsRefused text.now fault) }
 {
     let mut bytes = Cursor::new(text.bytes());
     match whole(alloc, &mut bytes) {
         Ok(file) => Ok(file),
         Err(Stop::NoText) => Err(CFault::NotText(line_of(text, bytes.rest()))),
         Err(Stop::NoMem) => Err(CFault::NoMem),
+    }
+}
+
+/// The file that a text spells, which keeps the rules of a C file.
+pub fn read_c(alloc: Global, text: &Text) -> Result<CFile, CFault>
+    ensures spelled { IfOk result (λ file. text.now ≡ file_text file) }
+    ensures checked { IfOk result (λ file. IsChecked file) }
+    ensures refused { IfErr result (λ fault. IsRefused text.now fault) }
+{
+    let file = read_text(alloc, text)?;
+    match checked(&file) {
+        Ok(()) => Ok(file),
+        Err(declaration) => Err(CFault::NotChecked(declaration)),
     }
 }
