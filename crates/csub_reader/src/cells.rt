@@ -12,7 +12,7 @@ use std::alloc::Global;
 
 // A cell is let go by a call for each level within it. Deeper cells than this would want more
 // stack than there may be, and so are refused for want of memory.
-const MOST_LEVELS: usize = 10_000;
+const MOST_LEVELS: usize = 2_000;
 
 fn empty_braces(alloc: Global, bytes: &mut Cursor<'_>) -> Result<Option<CCell>, Stop>
     ensures { IfOk result (λ cell. bytes.old ≡ pending_text cell ++ bytes.new) }

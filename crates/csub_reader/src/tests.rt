@@ -198,18 +198,31 @@ fn cells_are_read_or_refused(rt: HostRuntime) -> Result<(), Fail> {
     Ok(())
 }
 
-#[test]
-fn cells_nested_too_deep_want_memory(rt: HostRuntime) -> Result<(), Fail> {
-    let alloc = rt.alloc();
+// A file whose one static has cells nested this deep.
+fn nested(alloc: Global, levels: usize) -> Result<Text, NoMem> {
+    let head = "/* C-sub 1 */\n#include \"rpy_prim.h\"\n";
     let mut text = text_of(
         alloc,
-        "/* C-sub 1 */\n#include \"rpy_prim.h\"\n",
-        "static struct s0 g0 = ",
-        "",
+        head,
+        "static Signed f0(void);\n",
+        "static struct s0 g0 =",
     )?;
-    for _ in 0..10_001 {
-        text.append(b"{ ")?;
+    for _ in 0..levels {
+        text.append(b" {")?;
     }
-    assert_eq!(rt; line_of(alloc, &text), Err(CFault::NoMem));
+    for _ in 0..levels {
+        text.append(b" }")?;
+    }
+    text.append(b";\n/* main */\nstatic Signed f0(void)\n{\nb0:\n    return 0L;\n}\n")?;
+    Ok(text)
+}
+
+#[test]
+fn cells_nest_so_deep(rt: HostRuntime) -> Result<(), Fail> {
+    let alloc = rt.alloc();
+    let text = nested(alloc, 2_000)?;
+    assert_eq!(rt; line_of(alloc, &text), Ok(0));
+    let deeper = nested(alloc, 2_002)?;
+    assert_eq!(rt; line_of(alloc, &deeper), Err(CFault::NoMem));
     Ok(())
 }
