@@ -18,3 +18,5 @@ mod start;
 mod statics;
 mod step;
 mod val;
+
+pub use run::{CRan, RunFault, run_c};

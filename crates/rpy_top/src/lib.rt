@@ -2,7 +2,9 @@
 #![tactic(auto)]
 
 mod bound;
+mod crun;
 mod cursor;
+mod edge;
 mod fault;
 mod first_path;
 mod job;
@@ -13,8 +15,11 @@ mod top;
 mod words;
 
 pub use fault::TranslateFault;
+pub use crun::C_LIMIT;
 pub use top::{LIMIT, rpyc, translate};
 pub use words::{Command, RunWords, WordsFault, are_module_names, read_words};
 
+#[cfg(test)]
+mod run_tests;
 #[cfg(test)]
 mod tests;
