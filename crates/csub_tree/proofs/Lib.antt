@@ -1,1 +1,3 @@
 mod Runs
+pub mod Walks
+pub mod Levels

@@ -1,5 +1,5 @@
 -- The rules that a C file keeps, declaration by declaration: structs, prototypes, statics and functions, in the order of the text.
-use Rattle.std.specs.Prelude.{◌≡◌, ℕ, zero, suc, ◌+◌, ◌-◌, ◌==◌, ◌||◌, ◌&&◌, not, nat_lt, nat_le, Bool, true, false, List, [], ◌∷◌, ◌++◌, length, map, slice_get, Option, Some, None, is_some, is_none, if◌then◌else◌}
+use Rattle.std.specs.Prelude.{◌≡◌, ℕ, zero, suc, ◌+◌, ◌==◌, ◌||◌, ◌&&◌, not, nat_lt, nat_le, Bool, true, false, List, [], ◌∷◌, ◌++◌, length, map, slice_get, Option, Some, None, is_some, is_none, if◌then◌else◌, Result, Ok, Err}
 use Rattle.csub_tree.specs.Statement.{same_type, same_types, same_result}
 use Rattle.csub_tree.specs.declared.tree.CFile.{CFile}
 use Rattle.csub_tree.specs.declared.tree.CStruct.{CStruct}
@@ -94,13 +94,21 @@ is_of file below (type.Ptr n) constant.Null = true
 is_of file below (type.Ptr n) (constant.Static s g) = n == s && nat_lt g below && is_cast file.structs (kind_of (slice_get file.statics g)) s
 is_of file below t other = false
 
+-- of a type, where any static may be named
+abbrev pub is_of_any : CFile → CType → CConst → Bool
+is_of_any file t c = is_of file (length file.statics) t c
+
+-- the variables of a function
+abbrev pub variables : CFunction → List CType
+variables f = f.params ++ f.locals
+
 abbrev pub has_type : CType → Option CType → Bool
 has_type t None = false
 has_type t (Some u) = same_type t u
 
 abbrev pub takes : CFile → List CType → CType → COperand → Bool
 takes file vars t (Var v) = has_type t (slice_get vars v)
-takes file vars t (Const c) = is_of file (length file.statics) t c
+takes file vars t (Const c) = is_of_any file t c
 
 abbrev pub all_taken : CFile → List CType → List CType → List COperand → Bool
 all_taken file vars [] [] = true
@@ -120,7 +128,7 @@ pointer_type other = None
 abbrev pub pointed : CFile → List CType → COperand → Option (Option ℕ)
 pointed file vars (Var v) = pointer_type (slice_get vars v)
 pointed file vars (Const constant.Null) = Some None
-pointed file vars (Const (constant.Static s g)) = if is_of file (length file.statics) (type.Ptr s) (constant.Static s g) then Some (Some s) else None
+pointed file vars (Const (constant.Static s g)) = if is_of_any file (type.Ptr s) (constant.Static s g) then Some (Some s) else None
 pointed file vars other = None
 
 abbrev pub same_pointers : Option (Option ℕ) → Option (Option ℕ) → Bool
@@ -200,6 +208,14 @@ abbrev pub names_chars : List CStruct → Option CType → Bool
 names_chars structs (Some (type.Ptr n)) = is_char (items_of (slice_get structs n))
 names_chars structs other = false
 
+abbrev pub ends_block : CStmt → Bool
+ends_block (stmt.Goto b) = true
+ends_block (stmt.If a b c) = true
+ends_block (stmt.Return x) = true
+ends_block (stmt.Fail n) = true
+ends_block (stmt.Raised a) = true
+ends_block other = false
+
 module _ (file : CFile) (vars : List CType) (result : Option CType) (blocks : ℕ) where
   abbrev pub statement_ok : CStmt → Bool
   statement_ok (stmt.Set a x) = given_takes file vars (slice_get vars a) x
@@ -231,12 +247,7 @@ module _ (file : CFile) (vars : List CType) (result : Option CType) (blocks : �
   statement_ok (stmt.Raised a) = names_chars file.structs (slice_get vars a)
 
   abbrev pub is_end : CStmt → Bool
-  is_end (stmt.Goto b) = true
-  is_end (stmt.If a b c) = true
-  is_end (stmt.Return x) = true
-  is_end (stmt.Fail n) = true
-  is_end (stmt.Raised a) = true
-  is_end other = false
+  is_end s = ends_block s
 
   -- the last statement of a block, and no other, ends it
   abbrev pub block_ok : List CStmt → Bool
@@ -247,6 +258,17 @@ module _ (file : CFile) (vars : List CType) (result : Option CType) (blocks : �
   abbrev pub blocks_ok : List (List CStmt) → Bool
   blocks_ok [] = true
   blocks_ok (b ∷ bs) = block_ok b && blocks_ok bs
+
+-- a statement of a function
+abbrev pub keeps : CFile → CFunction → CStmt → Bool
+keeps file f s = statement_ok file (variables f) f.result (length f.blocks) s
+
+-- a block of a function
+abbrev pub keeps_block : CFile → CFunction → List CStmt → Bool
+keeps_block file f ss = block_ok file (variables f) f.result (length f.blocks) ss
+
+abbrev pub keeps_blocks : CFile → CFunction → List (List CStmt) → Bool
+keeps_blocks file f bs = blocks_ok file (variables f) f.result (length f.blocks) bs
 
 -- ---- functions and prototypes
 
@@ -265,10 +287,14 @@ is_declared f (Some p) = same_result f.result p.result && same_types f.params p.
 abbrev pub begins_run : CFunction → Bool
 begins_run f = same_types f.params [] && same_result f.result (Some type.Signed)
 
+-- another function follows, or the run may begin here
+abbrev pub may_stand : CFile → ℕ → CFunction → Bool
+may_stand file n f = begins_run f || nat_lt (n + 1) (length file.functions)
+
 abbrev pub function_ok : CFile → ℕ → CFunction → Bool
 function_ok file n f =
-    is_name f.name && is_declared f (slice_get file.prototypes n) && are_types file.structs (f.params ++ f.locals) && is_type_if_any file.structs f.result
-    && (begins_run f || nat_lt (n + 1) (length file.functions)) && nat_lt 0 (length f.blocks) && blocks_ok file (f.params ++ f.locals) f.result (length f.blocks) f.blocks
+    is_name f.name && is_declared f (slice_get file.prototypes n) && are_types file.structs (variables f) && is_type_if_any file.structs f.result
+    && may_stand file n f && nat_lt 0 (length f.blocks) && keeps_blocks file f f.blocks
 
 abbrev pub prototype_ok : CFile → ℕ → CPrototype → Bool
 prototype_ok file n p = nat_lt n (length file.functions) && are_types file.structs p.params && is_type_if_any file.structs p.result
@@ -280,6 +306,7 @@ mutual
   pub data Cell : Type 0 where
     Plain : CConst → Cell
     Braced : Cells → Cell
+
   pub data Cells : Type 0 where
     end : Cells
     then_cell : Cell → Cells → Cells
@@ -294,6 +321,9 @@ cell_step (CCell-F.Braces cells) = Braced (cells_of cells)
 
 abbrev pub plain_cell : CCell → Cell
 plain_cell = fold-CCell Cell cell_step
+
+abbrev pub plain_cells : List CCell → Cells
+plain_cells cells = cells_of (map plain_cell cells)
 
 abbrev pub is_plain : CFile → ℕ → CType → Cell → Bool
 is_plain file n t (Plain c) = is_of file n t c
@@ -331,7 +361,7 @@ cells_within file n (suc k) kind cells = shaped_ok file n (cells_within file n k
 
 -- a static names earlier statics alone
 abbrev pub static_ok : CFile → ℕ → CStatic → Bool
-static_ok file n g = cells_within file n (suc g.kind) g.kind (cells_of (map plain_cell g.cells))
+static_ok file n g = cells_within file n (suc g.kind) g.kind (plain_cells g.cells)
 
 -- ---- the file
 
@@ -356,6 +386,11 @@ first_unchecked file =
     (or_else (1 + length file.structs + length file.prototypes) (first_bad (static_ok file) 0 file.statics)
     (or_else (1 + length file.structs + length file.prototypes + length file.statics) (first_bad (function_ok file) 0 file.functions)
     (no_functions (length file.structs + length file.prototypes + length file.statics) file.functions))))
+
+-- nothing, where every declaration keeps the rules, and otherwise the number of the first that does not
+abbrev pub Answers : Result Unit ℕ → Option ℕ → Type 0
+Answers (Ok done) first = first ≡ None
+Answers (Err number) first = first ≡ Some number
 
 -- every declaration keeps the rules
 abbrev pub IsChecked : CFile → Type 0

@@ -1,6 +1,7 @@
 pub mod Checked
 pub mod Counting
 pub mod Layout
+pub mod Levels
 pub mod Machine
 pub mod Meaning
 pub mod Operation

@@ -1,0 +1,6 @@
+use Rattle.std.proofs.Common.{◌≡◌, ◌++◌}
+use Rattle.csub_tree.specs.Spelling.{numbered, prototype_text}
+use Rattle.csub_reader.proofs.read.prototypes.Given as goal
+
+abbrev pub invariant-loop-turn : goal.invariant-loop-turn
+invariant-loop-turn l = l.initial.bytes ≡ numbered prototype_text 0 l.items ++ l.bytes

@@ -1,0 +1,2 @@
+pub mod OpenCells
+pub mod Refused

@@ -1,0 +1,142 @@
+// The cells of a static, which may be nested without bound: a loop with the open lists beside it.
+ghost use Rattle.std.specs.Prelude.{◌≡◌, ◌++◌, OnOk, IfOk, codes, [], ◌∷◌, map};
+ghost use Rattle.csub_tree.specs.Spelling.{constant_text, cell_text, cells_text};
+ghost use Rattle.csub_reader.specs.OpenCells.{open_text, pending_text};
+
+use crate::cursor::Cursor;
+use crate::fault::Stop;
+use crate::names::constant;
+use csub_tree::CCell;
+use rpy_base::Seq;
+use std::alloc::Global;
+
+// A cell is let go by a call for each level within it. Deeper cells than this would want more
+// stack than there may be, and so are refused for want of memory.
+const MOST_LEVELS: usize = 10_000;
+
+fn empty_braces(alloc: Global, bytes: &mut Cursor<'_>) -> Result<Option<CCell>, Stop>
+    ensures { IfOk result (λ cell. bytes.old ≡ pending_text cell ++ bytes.new) }
+{
+    bytes.expect(b"{ }")?;
+    Ok(Some(CCell::Braces(Seq::new(alloc))))
+}
+
+fn constant_cell(bytes: &mut Cursor<'_>) -> Result<Option<CCell>, Stop>
+    ensures { IfOk result (λ cell. bytes.old ≡ pending_text cell ++ bytes.new) }
+{
+    Ok(Some(CCell::Const(constant(bytes)?)))
+}
+
+// A list of cells begins.
+fn open_list(
+    alloc: Global,
+    bytes: &mut Cursor<'_>,
+    lists: &mut Seq<Seq<CCell>>,
+) -> Result<Option<CCell>, Stop>
+    ensures { IfOk result (λ cell. open_text lists.old ++ bytes.old ≡ open_text lists.new ++ (pending_text cell ++ bytes.new)) }
+{
+    if lists.len() >= MOST_LEVELS {
+        return Err(Stop::NoMem);
+    }
+    bytes.expect(b"{ ")?;
+    lists.push(Seq::new(alloc))?;
+    Ok(None)
+}
+
+// What comes where a cell may begin: a cell, or the start of a list of cells.
+fn begin(
+    alloc: Global,
+    bytes: &mut Cursor<'_>,
+    lists: &mut Seq<Seq<CCell>>,
+) -> Result<Option<CCell>, Stop>
+    ensures { IfOk result (λ cell. open_text lists.old ++ bytes.old ≡ open_text lists.new ++ (pending_text cell ++ bytes.new)) }
+{
+    if bytes.sees(b"{ }") {
+        empty_braces(alloc, bytes)
+    } else if bytes.sees(b"{") {
+        open_list(alloc, bytes, lists)
+    } else {
+        constant_cell(bytes)
+    }
+}
+
+fn braces(cells: Seq<CCell>) -> CCell
+    ensures { cell_text result ≡ cells_text (map cell_text cells) }
+{
+    CCell::Braces(cells)
+}
+
+// A cell of this list, which another one follows.
+fn go_on(
+    bytes: &mut Cursor<'_>,
+    lists: &mut Seq<Seq<CCell>>,
+    cells: Seq<CCell>,
+    cell: CCell,
+) -> Result<Option<CCell>, Stop>
+    ensures { IfOk result (λ next. open_text (lists.old ++ cells ∷ []) ++ (cell_text cell ++ bytes.old) ≡ open_text lists.new ++ (pending_text next ++ bytes.new)) }
+{
+    let mut more = cells;
+    more.push(cell)?;
+    bytes.expect(b", ")?;
+    lists.push(more)?;
+    Ok(None)
+}
+
+// The last cell of this list, which thereby is a cell of the list around it.
+fn end_list(
+    bytes: &mut Cursor<'_>,
+    lists: &Seq<Seq<CCell>>,
+    cells: Seq<CCell>,
+    cell: CCell,
+) -> Result<CCell, Stop>
+    ensures { IfOk result (λ whole. open_text (lists.now ++ cells ∷ []) ++ (cell_text cell ++ bytes.old) ≡ open_text lists.now ++ (cell_text whole ++ bytes.new)) }
+{
+    let mut more = cells;
+    more.push(cell)?;
+    bytes.expect(b" }")?;
+    Ok(braces(more))
+}
+
+// What comes after a cell of this list: another cell of it, or its end.
+fn follow(
+    bytes: &mut Cursor<'_>,
+    lists: &mut Seq<Seq<CCell>>,
+    cells: Seq<CCell>,
+    cell: CCell,
+) -> Result<Option<CCell>, Stop>
+    ensures { IfOk result (λ next. open_text (lists.old ++ cells ∷ []) ++ (cell_text cell ++ bytes.old) ≡ open_text lists.new ++ (pending_text next ++ bytes.new)) }
+{
+    if bytes.sees(b", ") {
+        go_on(bytes, lists, cells, cell)
+    } else {
+        Ok(Some(end_list(bytes, lists, cells, cell)?))
+    }
+}
+
+/// The cells of a static, with their braces.
+pub fn cells(alloc: Global, bytes: &mut Cursor<'_>) -> Result<Seq<CCell>, Stop>
+    ensures { IfOk result (λ cells. bytes.old ≡ cells_text (map cell_text cells) ++ bytes.new) }
+{
+    let mut lists = Seq::new(alloc);
+    let mut pending = None;
+    for _turn in 0..bytes.rest().len() {
+        pending = match pending {
+            None => begin(alloc, bytes, &mut lists)?,
+            Some(cell) => match lists.pop() {
+                None => return whole(cell),
+                Some(cells) => follow(bytes, &mut lists, cells, cell)?,
+            },
+        };
+    }
+    Err(Stop::NoText)
+}
+
+// The outermost cell has to be a list.
+fn whole(cell: CCell) -> Result<Seq<CCell>, Stop>
+    ensures { IfOk result (λ cells. cell_text cell ≡ cells_text (map cell_text cells)) }
+{
+    match cell {
+        CCell::Braces(cells) => Ok(cells),
+        CCell::Const(_) => Err(Stop::NoText),
+    }
+}

@@ -1,0 +1,6 @@
+use Rattle.std.proofs.Common.{◌≡◌, drop}
+use Rattle.csub_tree.specs.Checked.{first_bad, function_ok}
+use Rattle.csub_tree.proofs.check.bad_function.Given as goal
+
+abbrev pub invariant-loop-i : goal.invariant-loop-i
+invariant-loop-i l = first_bad (function_ok l.file) l.i (drop l.i l.functions) ≡ first_bad (function_ok l.file) 0 l.functions

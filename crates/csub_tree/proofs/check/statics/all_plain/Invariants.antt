@@ -1,0 +1,6 @@
+use Rattle.std.proofs.Common.{◌≡◌, drop}
+use Rattle.csub_tree.specs.Checked.{all_plain, plain_cells}
+use Rattle.csub_tree.proofs.check.statics.all_plain.Given as goal
+
+abbrev pub invariant-loop-cell : goal.invariant-loop-cell
+invariant-loop-cell l = all_plain l.file l.n l.kind (plain_cells (drop l.cell-index l.cells)) ≡ all_plain l.file l.n l.kind (plain_cells l.cells)
