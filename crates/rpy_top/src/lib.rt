@@ -14,8 +14,8 @@ mod status;
 mod top;
 mod words;
 
-pub use fault::TranslateFault;
 pub use crun::C_LIMIT;
+pub use fault::TranslateFault;
 pub use top::{LIMIT, rpyc, translate};
 pub use words::{Command, RunWords, WordsFault, are_module_names, read_words};
 

@@ -9,13 +9,16 @@ use std::alloc::Global;
 use std::test::Fail;
 
 // Frees a block twice.
-const TWICE: &str = "/* C-sub 1 */\n#include \"rpy_prim.h\"\nstruct s0 {\n    Signed a0;\n};\nstatic Signed f0(void);\n/* main */\nstatic Signed f0(void)\n{\n    struct s0 *v0;\nb0:\n    v0 = (struct s0 *)RPY_NEW(struct s0);\n    RPY_FREE(v0);\n    RPY_FREE(v0);\n    return 0L;\n}\n";
+const TWICE: &str =
+    "/* C-sub 1 */\n#include \"rpy_prim.h\"\nstruct s0 {\n    Signed a0;\n};\nstatic Signed f0(void);\n/* main */\nstatic Signed f0(void)\n{\n    struct s0 *v0;\nb0:\n    v0 = (struct s0 *)RPY_NEW(struct s0);\n    RPY_FREE(v0);\n    RPY_FREE(v0);\n    return 0L;\n}\n";
 
 // Frees it once.
-const ONCE: &str = "/* C-sub 1 */\n#include \"rpy_prim.h\"\nstruct s0 {\n    Signed a0;\n};\nstatic Signed f0(void);\n/* main */\nstatic Signed f0(void)\n{\n    struct s0 *v0;\nb0:\n    v0 = (struct s0 *)RPY_NEW(struct s0);\n    RPY_FREE(v0);\n    return 0L;\n}\n";
+const ONCE: &str =
+    "/* C-sub 1 */\n#include \"rpy_prim.h\"\nstruct s0 {\n    Signed a0;\n};\nstatic Signed f0(void);\n/* main */\nstatic Signed f0(void)\n{\n    struct s0 *v0;\nb0:\n    v0 = (struct s0 *)RPY_NEW(struct s0);\n    RPY_FREE(v0);\n    return 0L;\n}\n";
 
 // Prints a byte, makes a block, and pays a step.
-const PAYS: &str = "/* C-sub 1 */\n#include \"rpy_prim.h\"\nstruct s0 {\n    Signed a0;\n};\nstatic Signed f0(void);\n/* main */\nstatic Signed f0(void)\n{\n    struct s0 *v0;\nb0:\n    RPY_PUT(65L);\n    v0 = (struct s0 *)RPY_NEW(struct s0);\n    RPY_STEP(1L);\n    return -7L;\n}\n";
+const PAYS: &str =
+    "/* C-sub 1 */\n#include \"rpy_prim.h\"\nstruct s0 {\n    Signed a0;\n};\nstatic Signed f0(void);\n/* main */\nstatic Signed f0(void)\n{\n    struct s0 *v0;\nb0:\n    RPY_PUT(65L);\n    v0 = (struct s0 *)RPY_NEW(struct s0);\n    RPY_STEP(1L);\n    return -7L;\n}\n";
 
 const HEAD: &str = "/* C-sub 1 */\n#include \"rpy_prim.h\"\nstruct s0 {\n";
 
@@ -81,7 +84,13 @@ fn c_files_run(rt: HostRuntime) -> Result<(), Fail> {
     let alloc = rt.alloc();
     for (line, text, status, printed, said) in [
         ("crun c.c", TWICE, 7, "", "stuck 5 at statement 3\n"),
-        ("crun --tally --leaks c.c", TWICE, 7, "", "stuck 5 at statement 3\n"),
+        (
+            "crun --tally --leaks c.c",
+            TWICE,
+            7,
+            "",
+            "stuck 5 at statement 3\n",
+        ),
         ("crun c.c", ONCE, 0, "", "returned 0\n"),
         (
             "crun --leaks --steps 0 --tally c.c -- x",
@@ -90,7 +99,13 @@ fn c_files_run(rt: HostRuntime) -> Result<(), Fail> {
             "",
             "returned 0\ntally: made 1, gone 1, left 0\nleaks: none\n",
         ),
-        ("crun --leaks c.c", PAYS, 0, "A", "returned -7\nleak 0 s0 1\n"),
+        (
+            "crun --leaks c.c",
+            PAYS,
+            0,
+            "A",
+            "returned -7\nleak 0 s0 1\n",
+        ),
         (
             "crun --steps 0 --tally c.c",
             PAYS,
