@@ -7,6 +7,7 @@ mod Options
 mod Printing
 mod Quotients
 mod Read
+mod Reports
 mod Rules
 mod Translation
 mod Whole

@@ -9,24 +9,34 @@ use Rattle.rpy_top.specs.Program.{program_of}
 use Rattle.rpy_top.specs.Built.{Built}
 use Rattle.rpy_top.specs.declared.fault.TranslateFault.{TranslateFault}
 use Rattle.rpy_top.specs.declared.fault.TranslateFault.TheVariants.{NotYet as Unready, NoMem as NoMemory}
-use Rattle.rpy_top.specs.Command.{Brought, Building, NotThere}
+use Rattle.rpy_top.specs.Command.{Brought, Building, Running as RunningFile, NotThere}
 use Rattle.rpy_top.specs.declared.first_path.Body.{Body}
 use Rattle.rpy_top.specs.declared.status.Status.{Status}
-use Rattle.rpy_top.specs.declared.status.Status.TheVariants.{Done, Usage, NoFile, NotRead, WriteFault, NoMem, TooLong, NotYet}
+use Rattle.rpy_top.specs.declared.status.Status.TheVariants.{Done, Usage, NotC, Stuck, NoFile, NotRead, WriteFault, Raised, Failed, Running, NoMem, WorkSpent, TooLong, NotYet}
 
 abbrev pub code : Status → ℕ
 code Done = 0
 code Usage = 1
+code NotC = 6
+code Stuck = 7
 code NoFile = 8
 code NotRead = 8
 code WriteFault = 9
+code Raised = 10
+code Failed = 11
+code Running = 12
 code NoMem = 13
+code WorkSpent = 14
 code TooLong = 15
 code NotYet = 16
 
 -- how many bytes a source may have
 abbrev pub limit : ℕ
 limit = 1048576
+
+-- how many bytes a C file may have
+abbrev pub c_limit : ℕ
+c_limit = 67108864
 
 -- a sink before and after a call: its count of faults, and what it took where it tells that
 pub record Sunk : Type 0 where
@@ -63,16 +73,16 @@ IsQuiet sink = (sink.faults ≡ sink.faults_before) × (sink.taken ≡ sink.take
 abbrev pub AllRead : Filed → Type 0
 AllRead files = files.faults ≡ files.faults_before
 
--- these are the file's bytes, where the files tell what they hold
-abbrev pub AreBytes : Filed → List ℕ → List ℕ → Type 0
-AreBytes files file bytes = (length bytes ≤ limit) × IfSome files.held (λ disk. disk file ≡ Some bytes)
+-- these are the file's bytes, at most so many, where the files tell what they hold
+abbrev pub AreBytes : ℕ → Filed → List ℕ → List ℕ → Type 0
+AreBytes most files file bytes = (length bytes ≤ most) × IfSome files.held (λ disk. disk file ≡ Some bytes)
 
--- there is no file of this name, or it has more bytes than a source may have, where the files tell it
+-- there is no file of this name, or it has more bytes than these, where the files tell it
 abbrev pub IsMissing : Filed → List ℕ → Type 0
 IsMissing files file = IfSome files.held (λ disk. disk file ≡ None)
 
-abbrev pub IsTooLong : Filed → List ℕ → Type 0
-IsTooLong files file = IfSome files.held (λ disk. IfSome (disk file) (λ bytes. limit < length bytes))
+abbrev pub IsTooLong : ℕ → Filed → List ℕ → Type 0
+IsTooLong most files file = IfSome files.held (λ disk. IfSome (disk file) (λ bytes. most < length bytes))
 
 -- the C text of a program
 abbrev pub text_of : List ℕ → Body → List ℕ
@@ -98,45 +108,48 @@ AllTranslateTo sources (Err fault) = Unit {0}
 
 -- when the work on a file ends with each status
 abbrev pub BuildsTo : Status → List ℕ → Filed → Sunk → Type 0
-BuildsTo Done file files out = (bytes : List ℕ) × AreBytes files file bytes × ((text : List ℕ) × Translates bytes text × Took out text) × AllRead files
-BuildsTo Usage file files out = ⊥
+BuildsTo Done file files out = (bytes : List ℕ) × AreBytes limit files file bytes × ((text : List ℕ) × Translates bytes text × Took out text) × AllRead files
 BuildsTo NoFile file files out = IsMissing files file × IsQuiet out × AllRead files
 BuildsTo NotRead file files out = Rose files.faults_before files.faults × IsQuiet out
-BuildsTo WriteFault file files out = (bytes : List ℕ) × AreBytes files file bytes × ((text : List ℕ) × Translates bytes text × TookPart out text) × AllRead files
+BuildsTo WriteFault file files out = (bytes : List ℕ) × AreBytes limit files file bytes × ((text : List ℕ) × Translates bytes text × TookPart out text) × AllRead files
 BuildsTo NoMem file files out = IsQuiet out × AllRead files
-BuildsTo TooLong file files out = IsTooLong files file × IsQuiet out × AllRead files
-BuildsTo NotYet file files out = (bytes : List ℕ) × AreBytes files file bytes × (first_path bytes ≡ None) × IsQuiet out × AllRead files
+BuildsTo TooLong file files out = IsTooLong limit files file × IsQuiet out × AllRead files
+BuildsTo NotYet file files out = (bytes : List ℕ) × AreBytes limit files file bytes × (first_path bytes ≡ None) × IsQuiet out × AllRead files
+BuildsTo status file files out = ⊥
 
 -- when the work of a call ends with each status
 abbrev pub Works : Status → Brought → Filed → Sunk → Type 0
 Works status NotThere files out = (status ≡ Usage) × IsQuiet out × AllRead files
 Works status (Building file) files out = BuildsTo status file files out
+Works status (RunningFile file words) files out = ⊥
 
 -- the first file that the words name
 abbrev pub first_file : Brought → List ℕ
 first_file NotThere = []
 first_file (Building file) = file
+first_file (RunningFile file words) = file
 
 abbrev pub usage_line : List ℕ
 usage_line = codes "usage: rpy COMMAND [OPTION..] FILE.. [-- ARG..]\n"
 
--- the line for a status; none where nothing is to be written
-abbrev pub line : Status → Brought → List ℕ
-line Done what = []
-line Usage what = usage_line
-line NoFile what = first_file what ++ codes ": no such file\n"
-line NotRead what = first_file what ++ codes ": not read\n"
-line WriteFault what = []
-line NoMem what = []
-line TooLong what = first_file what ++ codes ": too long\n"
-line NotYet what = first_file what ++ codes ": not yet\n"
+-- the line for a status, of this file; none where nothing is to be written, and where it tells more than the status
+abbrev pub line : Status → List ℕ → List ℕ
+line Usage file = usage_line
+line NoFile file = file ++ codes ": no such file\n"
+line NotRead file = file ++ codes ": not read\n"
+line TooLong file = file ++ codes ": too long\n"
+line NotYet file = file ++ codes ": not yet\n"
+line other file = []
 
 -- a call answers the status of its work once the line for it is written to err; else a fault of err, or want of memory
-abbrev pub Said : Status → Status → Brought → Sunk → Type 0
-Said worked answered what err =
-    ((answered ≡ worked) × Took err (line worked what))
-    ⊎ ((answered ≡ WriteFault) × TookPart err (line worked what))
+abbrev pub Says : Status → Status → List ℕ → Sunk → Type 0
+Says worked answered text err =
+    ((answered ≡ worked) × Took err text)
+    ⊎ ((answered ≡ WriteFault) × TookPart err text)
     ⊎ ((answered ≡ NoMem) × IsQuiet err)
+
+abbrev pub Said : Status → Status → Brought → Sunk → Type 0
+Said worked answered what err = Says worked answered (line worked (first_file what)) err
 
 -- the whole call
 abbrev pub Answers : Status → Brought → Filed → Sunk → Sunk → Type 0
@@ -149,10 +162,10 @@ PutEnds (Err WriteFault) text sink = TookPart sink text
 PutEnds (Err NoMem) text sink = IsQuiet sink
 PutEnds (Err status) text sink = ⊥
 
-abbrev pub Loads : Result (List ℕ) Status → List ℕ → Filed → Type 0
-Loads (Ok bytes) file files = AreBytes files file bytes × AllRead files
-Loads (Err NoFile) file files = IsMissing files file × AllRead files
-Loads (Err NotRead) file files = Rose files.faults_before files.faults
-Loads (Err TooLong) file files = IsTooLong files file × AllRead files
-Loads (Err NoMem) file files = AllRead files
-Loads (Err status) file files = ⊥
+abbrev pub Loads : ℕ → Result (List ℕ) Status → List ℕ → Filed → Type 0
+Loads most (Ok bytes) file files = AreBytes most files file bytes × AllRead files
+Loads most (Err NoFile) file files = IsMissing files file × AllRead files
+Loads most (Err NotRead) file files = Rose files.faults_before files.faults
+Loads most (Err TooLong) file files = IsTooLong most files file × AllRead files
+Loads most (Err NoMem) file files = AllRead files
+Loads most (Err status) file files = ⊥

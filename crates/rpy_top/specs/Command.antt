@@ -8,7 +8,7 @@ use Rattle.rpy_top.specs.declared.words.RunWords.{RunWords}
 use Rattle.rpy_top.specs.declared.words.RunAsked.{RunAsked}
 use Rattle.rpy_top.specs.declared.words.Opted.{Opted as CodeOpted}
 use Rattle.rpy_top.specs.declared.job.Job.{Job}
-use Rattle.rpy_top.specs.declared.job.Job.TheVariants.{Build as JobBuild, Nothing as NoJob}
+use Rattle.rpy_top.specs.declared.job.Job.TheVariants.{Build as JobBuild, CRun as JobCRun, Nothing as NoJob}
 use Rattle.rpy_top.specs.declared.words.Options.{Options as CodeOptions}
 use Rattle.rpy_top.specs.declared.words.Options.TheVariants.{Read as OptionsRead, Bad as OptionsBad}
 use Rattle.rpy_top.specs.declared.words.RunOf.{RunOf}
@@ -278,16 +278,24 @@ RunIs RunBad what = what ≡ None
 
 pub data Brought : Type 0 where
   Building : (file : List ℕ) → Brought
+  Running : (file : List ℕ) → (words : RunWords) → Brought
   NotThere : Brought
 
 abbrev pub built_file : List (List ℕ) → Brought
 built_file (file ∷ []) = Building file
 built_file other = NotThere
 
+-- a run of the one C file that its words name
+abbrev pub run_file : List (List ℕ) → RunWords → Brought
+run_file (file ∷ []) words = Running file words
+run_file other words = NotThere
+
 abbrev pub brought : Option Command → Brought
 brought (Some (Build files)) = built_file files
+brought (Some (CRun words)) = run_file words.files words
 brought other = NotThere
 
 abbrev pub JobIs : Job → Brought → Type 0
 JobIs (JobBuild file) what = (what ≡ Building file.now) × (is_file file.now ≡ true)
+JobIs (JobCRun file asked) what = what ≡ Running file.now (words_of asked)
 JobIs NoJob what = what ≡ NotThere

@@ -5,3 +5,4 @@ pub mod Command
 pub mod FirstPath
 pub mod Lower
 pub mod Program
+pub mod Running

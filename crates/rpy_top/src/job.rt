@@ -3,13 +3,15 @@ ghost use Rattle.std.specs.Prelude.{◌≡◌, ◌∷◌, [], true, Some};
 ghost use Rattle.rpy_top.specs.Command as spec;
 ghost use Rattle.rpy_top.specs.Command.{JobIs, brought, command};
 
-use crate::words::{Asked, what_words_ask};
+use crate::words::{Asked, RunAsked, what_words_ask};
 use rpy_base::Text;
 
 /// What there is to do for a command that is there.
 #[derive(Clone, Copy)]
 pub enum Job<'a> {
     Build(&'a Text),
+    /// The C file, and the words of its run.
+    CRun(&'a Text, RunAsked<'a>),
     Nothing,
 }
 
@@ -19,6 +21,15 @@ fn build_of(files: &[Text]) -> Job<'_>
 {
     match files {
         [file] => Job::Build(file),
+        _ => Job::Nothing,
+    }
+}
+
+fn c_run_of(asked: RunAsked<'_>) -> Job<'_>
+    ensures { JobIs result (spec.run_file (spec.words_of asked.entry).files (spec.words_of asked.entry)) }
+{
+    match asked.files {
+        [file] => Job::CRun(file, asked),
         _ => Job::Nothing,
     }
 }
@@ -34,7 +45,7 @@ pub fn job_of(words: &[Text]) -> Job<'_>
         Asked::Flow(_) => Job::Nothing,
         Asked::Run(_) => Job::Nothing,
         Asked::LlRun(_) => Job::Nothing,
-        Asked::CRun(_) => Job::Nothing,
+        Asked::CRun(asked) => c_run_of(asked),
         Asked::Sample(_) => Job::Nothing,
         Asked::Nothing => Job::Nothing,
     }

@@ -6,10 +6,16 @@ ghost use Rattle.rpy_top.specs.Answer.{code};
 pub enum Status {
     Done,
     Usage,
+    NotC,
+    Stuck,
     NoFile,
     NotRead,
     WriteFault,
+    Raised,
+    Failed,
+    Running,
     NoMem,
+    WorkSpent,
     TooLong,
     NotYet,
 }
@@ -22,9 +28,15 @@ impl Status {
         match self {
             Status::Done => 0,
             Status::Usage => 1,
+            Status::NotC => 6,
+            Status::Stuck => 7,
             Status::NoFile | Status::NotRead => 8,
             Status::WriteFault => 9,
+            Status::Raised => 10,
+            Status::Failed => 11,
+            Status::Running => 12,
             Status::NoMem => 13,
+            Status::WorkSpent => 14,
             Status::TooLong => 15,
             Status::NotYet => 16,
         }

@@ -11,7 +11,7 @@ const WRAPS: &str = "def entry_point(argv):\n    print 9223372036854775807 + 1\n
 const SUMS: &str =
     "def entry_point(argv):\n    x = 2 * 3 - 10\n    y = x * x\n    print y\n    x = y - x\n    return x\n";
 
-fn words_of(alloc: Global, line: &str) -> Result<Vec<Text>, NoMem> {
+pub fn words_of(alloc: Global, line: &str) -> Result<Vec<Text>, NoMem> {
     let mut words = Vec::new(alloc);
     for word in line.split_whitespace() {
         words.push(Text::from_bytes(alloc, word.as_bytes())?)?;
@@ -19,7 +19,7 @@ fn words_of(alloc: Global, line: &str) -> Result<Vec<Text>, NoMem> {
     Ok(words)
 }
 
-fn files_of(alloc: Global, name: &str, source: &[u8]) -> Result<MemFiles, NoMem> {
+pub fn files_of(alloc: Global, name: &str, source: &[u8]) -> Result<MemFiles, NoMem> {
     let mut files = MemFiles::new(alloc);
     files.add(
         Text::from_bytes(alloc, name.as_bytes())?,

@@ -1,0 +1,79 @@
+#!/usr/bin/env python3
+"""Runs C texts with the program's command crun, and compares what each run prints, how it ends and its status.
+
+The cases lie in ../shared beside the checkout, with what they must answer; where they are missing the check is
+skipped. Only those that are marked 'sure' count: of the others the rules can be read in more than one way. Each
+run is bounded in time. The last line is 'N passed, M failed'."""
+import os
+import subprocess
+import sys
+from concurrent.futures import ThreadPoolExecutor
+
+TOP = os.path.dirname(os.path.dirname(os.path.abspath(__file__)))
+CASES = os.path.join(os.path.dirname(TOP), 'shared', 'csub', 'examples')
+PROGRAM = os.path.join(TOP, 'crates', 'rpy', 'out', 'rpy')
+SECONDS = 60
+
+# options of the reference alone
+OWN = {b'--counted', b'--counted-every', b'--peak', b'--paid', b'--check', b'--slow', b'--work'}
+
+
+def plain(field):
+    """A field without its escapes: \\n, \\\\, \\xNN, and \\e for nothing."""
+    out, i = bytearray(), 0
+    while i < len(field):
+        if field[i] != '\\':
+            out += field[i].encode()
+            i += 1
+            continue
+        kind = field[i + 1]
+        if kind == 'x':
+            out.append(int(field[i + 2:i + 4], 16))
+            i += 4
+            continue
+        out += {'n': b'\n', '\\': b'\\', 't': b'\t', 'e': b''}[kind]
+        i += 2
+    return bytes(out)
+
+
+def cases():
+    with open(os.path.join(CASES, 'cases.tsv'), encoding='utf-8') as f:
+        next(f)
+        for line in f:
+            name, words, status, out, err, mark = line.rstrip('\n').split('\t')
+            words = [plain(w) for w in words.split(' ')] if words else []
+            if mark == 'sure' and not OWN.intersection(words):
+                yield name, words, int(status), plain(out), plain(err)
+
+
+def verdict(case):
+    name, words, status, out, err = case
+    try:
+        done = subprocess.run([PROGRAM.encode(), b'crun'] + words, cwd=CASES, capture_output=True, timeout=SECONDS)
+    except subprocess.TimeoutExpired:
+        return '%s: no end within %d seconds' % (name, SECONDS)
+    for what, got, wanted in [('status', done.returncode, status), ('out', done.stdout, out), ('err', done.stderr, err)]:
+        if got != wanted:
+            return '%s: %s is %.200r, not %.200r' % (name, what, got, wanted)
+    return None
+
+
+def main():
+    if not os.path.exists(os.path.join(CASES, 'cases.tsv')):
+        print('C texts: skipped, the cases in ../shared are not here')
+        return 0
+    if not os.path.exists(PROGRAM):
+        print('C texts: the program is not built')
+        return 1
+    with ThreadPoolExecutor(max_workers=2) as pool:
+        faults = list(pool.map(verdict, cases()))
+    for fault in faults:
+        if fault:
+            print(fault)
+    failed = sum(1 for fault in faults if fault)
+    print('%d passed, %d failed' % (len(faults) - failed, failed))
+    return 1 if failed else 0
+
+
+if __name__ == '__main__':
+    sys.exit(main())
