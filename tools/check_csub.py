@@ -2,9 +2,11 @@
 """Runs C texts with the program's command crun, and compares what each run prints, how it ends and its status.
 
 The cases lie in ../shared beside the checkout, with what they must answer; where they are missing the check is
-skipped. Only those that are marked 'sure' count: of the others the rules can be read in more than one way. Each
-run is bounded in time. The last line is 'N passed, M failed'."""
+skipped. Only those that are marked 'sure' count: of the others the rules can be read in more than one way. Texts
+with forms that the subset here does not have yet (version 2, operations on unsigned words) are left out, and
+counted in a line of their own. Each run is bounded in time. The last line is 'N passed, M failed'."""
 import os
+import re
 import subprocess
 import sys
 from concurrent.futures import ThreadPoolExecutor
@@ -13,6 +15,9 @@ TOP = os.path.dirname(os.path.dirname(os.path.abspath(__file__)))
 CASES = os.path.join(os.path.dirname(TOP), 'shared', 'csub', 'examples')
 PROGRAM = os.path.join(TOP, 'crates', 'rpy', 'out', 'rpy')
 SECONDS = 60
+
+# forms that are not there yet
+LATER = re.compile(rb'\A/\* C-sub 2 \*/\n|\bRPY_U(DIV|MOD|SHR|LT|LE)\(')
 
 # options of the reference alone
 OWN = {b'--counted', b'--counted-every', b'--peak', b'--paid', b'--check', b'--slow', b'--work'}
@@ -46,6 +51,17 @@ def cases():
                 yield name, words, int(status), plain(out), plain(err)
 
 
+def is_later(words):
+    """Whether a file that is named has a form that is not there yet."""
+    for word in words:
+        path = os.path.join(CASES.encode(), word)
+        if word and os.path.isfile(path):
+            with open(path, 'rb') as f:
+                if LATER.search(f.read()):
+                    return True
+    return False
+
+
 def verdict(case):
     name, words, status, out, err = case
     try:
@@ -65,8 +81,11 @@ def main():
     if not os.path.exists(PROGRAM):
         print('C texts: the program is not built')
         return 1
+    every = list(cases())
+    here = [case for case in every if not is_later(case[1])]
+    print('C texts: %d cases left out, with forms that are not there yet' % (len(every) - len(here)))
     with ThreadPoolExecutor(max_workers=2) as pool:
-        faults = list(pool.map(verdict, cases()))
+        faults = list(pool.map(verdict, here))
     for fault in faults:
         if fault:
             print(fault)
