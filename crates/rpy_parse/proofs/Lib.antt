@@ -1,0 +1,15 @@
+pub mod OneToken
+pub mod Laws
+pub mod Viable
+pub mod Depth
+pub mod Dead
+pub mod Fits
+pub mod Hand
+pub mod Whole
+pub mod Look
+pub mod Unroll
+pub mod UnrollRest
+pub mod Exact
+pub mod Turned
+pub mod Goals
+pub mod Runs

@@ -1,0 +1,10 @@
+pub mod Kind
+pub mod Input
+pub mod Shape
+pub mod Rule
+pub mod Build
+pub mod Shapes
+pub mod Rows
+pub mod Ops
+pub mod Modules
+pub mod Target
