@@ -29,15 +29,27 @@ BODIES = [
     ['big = 9223372036854775807', 'small = 0 - big - 1', 'print small', 'print small - 1', 'print small * small', 'print big * 2', 'return small'],
 ]
 
+# Other spellings of such programs.
+SPELLED = [
+    'def entry_point(a):  # one line\n\n  x=(2*(3))-10;y = x*x\n  print y\n\n  return 0x10+007+y',
+    'def entry_point(argv):\r\n    x = 1 + \\\r\n      2\r\n    print(x)\r\n    return x\r\n',
+    'def entry_point(argv): return (1 +\n2 # two\n)',
+]
+
 REFUSED = [
-    (['return x'], 16), (['x = 1'], 16), (['return 007'], 16), (['return 9223372036854775808'], 16),
-    (['print 1' + ' + 1' * 65, 'return 0'], 16), (['None = 1', 'return 0'], 16), (['return 0', 'return 0'], 16),
+    (['return x'], 16), (['x = 1'], 16), (['return argv'], 16), (['return 9223372036854775808'], 2),
+    (['print 1' + ' + 1' * 65, 'return 0'], 2), (['None = 1', 'return 0'], 16), (['return 0', 'return 0'], 16),
+    (['return 1 +'], 2), (['x += 1', 'return 0'], 16), (['return -1'], 16), (['print 1, 2', 'return 0'], 16),
 ]
 
 
 def run(words):
     done = subprocess.run(words, capture_output=True, timeout=60)
     return done.stdout, done.stderr, done.returncode
+
+
+def written(body):
+    return 'def entry_point(argv):\n' + ''.join('    %s\n' % line for line in body)
 
 
 def main():
@@ -50,9 +62,9 @@ def main():
     passed = failed = 0
     with tempfile.TemporaryDirectory() as folder:
         source, text = os.path.join(folder, 'a.py'), os.path.join(folder, 'a.c')
-        for body in BODIES:
-            with open(source, 'w') as f:
-                f.write('def entry_point(argv):\n' + ''.join('    %s\n' % line for line in body))
+        for body in [written(body) for body in BODIES] + SPELLED:
+            with open(source, 'w', newline='') as f:
+                f.write(body)
             out, err, status = run([PROGRAM, 'build', source])
             with open(text, 'wb') as f:
                 f.write(out)
@@ -66,7 +78,7 @@ def main():
                     print('differs at --steps %s: %r\n  got  %r\n  want %r' % (bound, body, got, want))
         for body, wanted in REFUSED:
             with open(source, 'w') as f:
-                f.write('def entry_point(argv):\n' + ''.join('    %s\n' % line for line in body))
+                f.write(written(body))
             out, err, status = run([PROGRAM, 'build', source])
             if (out, status) == (b'', wanted):
                 passed += 1

@@ -1,4 +1,4 @@
 mod Arithmetic
 mod Ascii
-mod Lines
+pub mod Marking
 mod Told

@@ -1,5 +1,6 @@
 pub mod formers
 pub mod Causes
+pub mod Entries
 pub mod Memory
 pub mod Number
 pub mod Outcomes

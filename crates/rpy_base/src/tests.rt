@@ -98,5 +98,11 @@ fn watchers_report(rt: HostRuntime) -> Result<(), Fail> {
         leaks.report(alloc)?.bytes(),
         b"leak 7 s3 2\nleak 9 s1 1\n".as_slice()
     );
+    leaks.made(alloc, 4, 0, 0)?;
+    leaks.gone(7);
+    leaks.gone(4);
+    assert_eq!(rt; leaks.report(alloc)?.bytes(), b"leak 9 s1 1\n".as_slice());
+    leaks.gone(9);
+    assert_eq!(rt; leaks.report(alloc)?.bytes(), b"leaks: none\n".as_slice());
     Ok(())
 }

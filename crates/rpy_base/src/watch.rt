@@ -1,7 +1,8 @@
 // Watchers, which are told of each block that is made and of each that is gone.
-ghost use Rattle.std.specs.Prelude.{◌≡◌, ◌≤◌, ℕ, ◌++◌, map, length, All, IfOk, OnOk, OnErr};
+ghost use Rattle.std.specs.Prelude.{◌≡◌, ◌≤◌, ℕ, [], ◌∷◌, ◌++◌, map, length, All, IfOk, OnOk, OnErr, IsTrue, IsFalse, ◌<◌, ◌+◌, take, true, false};
 ghost use Rattle.std.specs.Fmt.{decimal};
-ghost use Rattle.rpy_base.specs.Watching.{Seen, IsFresh, CanMake, CanGo, after_made, after_gone, Reports, first_told, without, leak_line, leak_lines};
+ghost use Rattle.rpy_base.specs.Watching.{Seen, IsFresh, CanMake, CanGo, after_made, after_gone, Reports, first_told, without, leak_line, leak_lines, leak_lines_of, is_live};
+ghost use Rattle.rpy_base.specs.Entries.{is_distinct, IsEntryAt, live_blocks};
 
 use crate::{NoMem, Text};
 use itoa::Buffer;
@@ -151,37 +152,105 @@ impl HeapWatch for Tally {
     }
 }
 
-/// Keeps the live blocks, in order of making.
-#[derive(Drop)]
-pub struct Leaks {
-    live: Vec<(u64, u64, u64)>,
-    made: u64,
-    gone: u64,
+/// A block, and whether it is live.
+#[derive(Clone, Copy, Drop)]
+struct Entry {
+    number: u64,
+    kind: u64,
+    cells: u64,
+    live: bool,
 }
 
-// Takes out the block of a number.
-fn take_out(live: &mut Vec<(u64, u64, u64)>, number: u64)
-    ensures { live.new.items ≡ without number live.old.items }
+/// Keeps the live blocks, in order of making. Blocks that are gone stay as marked entries until
+/// they outnumber the live ones, so that a block whose number is above those before it costs only
+/// a binary search.
+#[derive(Drop)]
+pub struct Leaks {
+    entries: Vec<Entry>,
+    made: u64,
+    gone: u64,
+    ghost distinct: { is_distinct (live_blocks entries.items) ≡ true },
+}
+
+// Whether the entry at this place is the live block of a number.
+#[tactic(auto, using(crate::proofs::Marking::entry_stands, crate::proofs::Marking::live_more))]
+fn stands_at(entries: &[Entry], at: usize, number: u64) -> bool
+    ensures stands { IsTrue result → IsEntryAt number entries.now at }
+    ensures next { at < length entries.now → is_live number (live_blocks (take at entries.now)) ≡ false → IsFalse result → is_live number (live_blocks (take (at + 1) entries.now)) ≡ false }
 {
-    for i in 0..live.len() {
-        if live[i].0 == number {
-            live.remove(i);
+    if at < entries.len() {
+        let entry = entries[at];
+        entry.live && entry.number == number
+    } else {
+        false
+    }
+}
+
+// Marks the entry at this place as gone.
+fn mark(entries: &mut Vec<Entry>, at: usize, number: u64)
+    requires distinct { is_distinct (live_blocks entries.old.items) ≡ true }
+    requires stands { IsEntryAt number entries.old.items at }
+    ensures { live_blocks entries.new.items ≡ without number (live_blocks entries.old.items) }
+{
+    entries[at].live = false;
+}
+
+// Marks the entry of a number, wherever it is.
+fn find_and_mark(entries: &mut Vec<Entry>, number: u64)
+    requires { is_distinct (live_blocks entries.old.items) ≡ true }
+    ensures { live_blocks entries.new.items ≡ without number (live_blocks entries.old.items) }
+{
+    for i in 0..entries.len() {
+        if stands_at(entries, i, number) {
+            mark(entries, i, number);
             return;
         }
     }
 }
 
-fn leak_report(alloc: Global, live: &[(u64, u64, u64)]) -> Result<Text, NoMem>
-    ensures { IfOk result (λ text. text ≡ leak_lines live.now) }
+// Takes out the block of a number. In order of their numbers it is found by halves.
+fn take_out(entries: &mut Vec<Entry>, number: u64)
+    requires { is_distinct (live_blocks entries.old.items) ≡ true }
+    ensures { live_blocks entries.new.items ≡ without number (live_blocks entries.old.items) }
 {
-    if live.is_empty() {
+    let at = entries.partition_point(|entry| entry.number < number);
+    if stands_at(entries, at, number) {
+        mark(entries, at, number);
+    } else {
+        find_and_mark(entries, number);
+    }
+}
+
+// Drops the marked entries once they outnumber the live ones.
+fn sweep(entries: &mut Vec<Entry>, live: u64)
+    ensures { live_blocks entries.new.items ≡ live_blocks entries.old.items }
+{
+    if entries.len() as u64 / 2 > live {
+        entries.retain(|entry| entry.live);
+    }
+}
+
+#[tactic(auto, using(crate::proofs::Marking::no_lines, crate::proofs::Marking::some_lines))]
+fn leak_report(alloc: Global, entries: &[Entry]) -> Result<Text, NoMem>
+    ensures { IfOk result (λ text. text ≡ leak_lines (live_blocks entries.now)) }
+{
+    let mut text = Text::new(alloc);
+    for entry in entries {
+        push_entry(&mut text, entry)?;
+    }
+    if text.bytes().is_empty() {
         return Text::from_bytes(alloc, b"leaks: none\n");
     }
-    let mut text = Text::new(alloc);
-    for block in live {
-        push_leak(&mut text, block.0, block.1, block.2)?;
-    }
     Ok(text)
+}
+
+fn push_entry(text: &mut Text, entry: &Entry) -> Result<(), NoMem>
+    ensures { OnOk result (text.new ≡ text.old ++ leak_lines_of (live_blocks (entry.now ∷ []))) }
+{
+    if entry.live {
+        push_leak(text, entry.number, entry.kind, entry.cells)?;
+    }
+    Ok(())
 }
 
 fn push_leak(text: &mut Text, number: u64, kind: u64, cells: u64) -> Result<(), NoMem>
@@ -204,7 +273,7 @@ impl Leaks {
         ensures fresh { IsFresh (leaks_seen result) }
     {
         Leaks {
-            live: Vec::new(alloc),
+            entries: Vec::new(alloc),
             made: 0,
             gone: 0,
         }
@@ -221,17 +290,23 @@ impl HeapWatch for Leaks {
     }
 
     fn made(&mut self, _alloc: Global, block: u64, kind: u64, cells: u64) -> Result<(), NoMem> {
-        self.live.push((block, kind, cells))?;
+        self.entries.push(Entry {
+            number: block,
+            kind,
+            cells,
+            live: true,
+        })?;
         self.made += 1;
         Ok(())
     }
 
     fn gone(&mut self, block: u64) {
-        take_out(&mut self.live, block);
+        take_out(&mut self.entries, block);
         self.gone += 1;
+        sweep(&mut self.entries, self.made.saturating_sub(self.gone));
     }
 
     fn report(&self, alloc: Global) -> Result<Text, NoMem> {
-        leak_report(alloc, &self.live)
+        leak_report(alloc, &self.entries)
     }
 }

@@ -13,3 +13,7 @@ pub mod Exact
 pub mod Turned
 pub mod Goals
 pub mod Runs
+pub mod UnrollSkips
+pub mod Answered
+pub mod Shorter
+pub mod Untaken

@@ -1,5 +1,5 @@
 -- What a rule of statements or members reads is what its parts read.
-use Rattle.std.proofs.Common.{◌≡◌, ℕ, not, cond, List, [], ◌∷◌, ◌++◌, length, Option, Some, None, Result, Ok, Err, sym, subst}
+use Rattle.std.proofs.Common.{◌≡◌, ℕ, ◌≤◌, arith, not, cond, List, [], ◌∷◌, ◌++◌, length, Option, Some, None, Result, Ok, Err, sym, subst}
 use Rattle.rpy_token.specs.declared.token.Token.{Token}
 use Rattle.rpy_token.specs.declared.token.TokenKind.{TokenKind}
 use Rattle.rpy_token.specs.declared.token.TokenKind.TheVariants as k
@@ -597,3 +597,237 @@ common_member_is c (t ∷ i) = common_member_at c t.kind t.start t.end t.line i
 
 pub common_member_reads : (c : Lines) (i : Input) (r : Result (Grown) Stop) (j : Input) → Reads (common_member_on c i) r j → Reads (reading CommonMember c i) r j
 common_member_reads c i r j h = subst (λ o. Reads o r j) (sym (common_member_is c i)) h
+
+-- ---- the same as equations
+
+pub next_shorter : (i : Input) → length (next i) ≤ length i
+next_shorter [] = omega arith
+next_shorter (t ∷ i) = omega arith
+
+pub prints_is : (c : Listed) (i : Input) → reading Prints c i ≡ look tables reading (rule Prints c) i
+prints_is c i = by_looks Prints c i
+
+pub simples_is : (c : Place × Body) (i : Input) → reading Simples c i ≡ look tables reading (rule Simples c) i
+simples_is c i = by_looks Simples c i
+
+pub simples_rest_is : (c : Place × Body) (i : Input) → reading SimplesRest c i ≡ look tables reading (rule SimplesRest c) i
+simples_rest_is c i = by_looks SimplesRest c i
+
+pub simples_more_is : (c : Place × Body) (i : Input) → reading SimplesMore c i ≡ look tables reading (rule SimplesMore c) i
+simples_more_is c i = by_looks SimplesMore c i
+
+pub dots_is : (c : List (List ℕ)) (i : Input) → reading Dots c i ≡ look tables reading (rule Dots c) i
+dots_is c i = by_looks Dots c i
+
+pub classes_is : (c : List (List (List ℕ))) (i : Input) → reading Classes c i ≡ look tables reading (rule Classes c) i
+classes_is c i = by_looks Classes c i
+
+pub pass_word_is : (c : Lines) (i : Input) → reading PassWord c i ≡ look tables reading (rule PassWord c) i
+pass_word_is c i = by_looks PassWord c i
+
+pub break_word_is : (c : Lines) (i : Input) → reading BreakWord c i ≡ look tables reading (rule BreakWord c) i
+break_word_is c i = by_looks BreakWord c i
+
+pub continue_word_is : (c : Lines) (i : Input) → reading ContinueWord c i ≡ look tables reading (rule ContinueWord c) i
+continue_word_is c i = by_looks ContinueWord c i
+
+pub return_is : (c : Lines) (i : Input) → reading Return c i ≡ look tables reading (rule Return c) i
+return_is c i = by_looks Return c i
+
+pub raise_is : (c : Lines) (i : Input) → reading Raise c i ≡ look tables reading (rule Raise c) i
+raise_is c i = by_looks Raise c i
+
+pub assert_is : (c : Lines) (i : Input) → reading Assert c i ≡ look tables reading (rule Assert c) i
+assert_is c i = by_looks Assert c i
+
+pub assert_rest_is : (c : ℕ × Got) (i : Input) → reading AssertRest c i ≡ look tables reading (rule AssertRest c) i
+assert_rest_is c i = by_looks AssertRest c i
+
+pub strings_alone_is : (c : Unit {0}) (i : Input) → reading StringsAlone c i ≡ look tables reading (rule StringsAlone c) i
+strings_alone_is c i = by_looks StringsAlone c i
+
+pub del_is : (c : Lines) (i : Input) → reading Del c i ≡ look tables reading (rule Del c) i
+del_is c i = by_looks Del c i
+
+pub del_other_is : (c : ℕ × Got) (i : Input) → reading DelOther c i ≡ look tables reading (rule DelOther c) i
+del_other_is c i = by_looks DelOther c i
+
+pub del_index_is : (c : ℕ × Indexed) (i : Input) → reading DelIndex c i ≡ look tables reading (rule DelIndex c) i
+del_index_is c i = by_looks DelIndex c i
+
+pub del_subscript_is : (c : ℕ × Got) (i : Input) → reading DelSubscript c i ≡ look tables reading (rule DelSubscript c) i
+del_subscript_is c i = by_looks DelSubscript c i
+
+pub del_subscript_rest_is : (c : ℕ × Expr × ℕ × Got) (i : Input) → reading DelSubscriptRest c i ≡ look tables reading (rule DelSubscriptRest c) i
+del_subscript_rest_is c i = by_looks DelSubscriptRest c i
+
+pub print_is : (c : Lines) (i : Input) → reading Print c i ≡ look tables reading (rule Print c) i
+print_is c i = by_looks Print c i
+
+pub valued_is : (c : Lines) (i : Input) → reading Valued c i ≡ look tables reading (rule Valued c) i
+valued_is c i = by_looks Valued c i
+
+pub assign_first_is : (c : Got) (i : Input) → reading AssignFirst c i ≡ look tables reading (rule AssignFirst c) i
+assign_first_is c i = by_looks AssignFirst c i
+
+pub assign_is : (c : Assigned) (i : Input) → reading Assign c i ≡ look tables reading (rule Assign c) i
+assign_is c i = by_looks Assign c i
+
+pub one_simple_is : (c : Place × Body) (i : Input) → reading OneSimple c i ≡ look tables reading (rule OneSimple c) i
+one_simple_is c i = by_looks OneSimple c i
+
+pub block_is : (c : Place × Lines) (i : Input) → reading Block c i ≡ look tables reading (rule Block c) i
+block_is c i = by_looks Block c i
+
+pub statements_is : (c : Place × Body) (i : Input) → reading Statements c i ≡ look tables reading (rule Statements c) i
+statements_is c i = by_looks Statements c i
+
+pub if_is : (c : Place × Lines) (i : Input) → reading If c i ≡ look tables reading (rule If c) i
+if_is c i = by_looks If c i
+
+pub if_then_is : (c : Place × ℕ × Got) (i : Input) → reading IfThen c i ≡ look tables reading (rule IfThen c) i
+if_then_is c i = by_looks IfThen c i
+
+pub first_arm_is : (c : Place × Headed) (i : Input) → reading FirstArm c i ≡ look tables reading (rule FirstArm c) i
+first_arm_is c i = by_looks FirstArm c i
+
+pub elifs_is : (c : Place × Arms) (i : Input) → reading Elifs c i ≡ look tables reading (rule Elifs c) i
+elifs_is c i = by_looks Elifs c i
+
+pub else_body_is : (c : Place × Lines) (i : Input) → reading ElseBody c i ≡ look tables reading (rule ElseBody c) i
+else_body_is c i = by_looks ElseBody c i
+
+pub elif_is : (c : Place × Arms) (i : Input) → reading Elif c i ≡ look tables reading (rule Elif c) i
+elif_is c i = by_looks Elif c i
+
+pub elif_arm_is : (c : Place × Lines) (i : Input) → reading ElifArm c i ≡ look tables reading (rule ElifArm c) i
+elif_arm_is c i = by_looks ElifArm c i
+
+pub elif_body_is : (c : Place × Got) (i : Input) → reading ElifBody c i ≡ look tables reading (rule ElifBody c) i
+elif_body_is c i = by_looks ElifBody c i
+
+pub while_is : (c : Place × Lines) (i : Input) → reading While c i ≡ look tables reading (rule While c) i
+while_is c i = by_looks While c i
+
+pub while_body_is : (c : Place × ℕ × Got) (i : Input) → reading WhileBody c i ≡ look tables reading (rule WhileBody c) i
+while_body_is c i = by_looks WhileBody c i
+
+pub for_is : (c : Place × Lines) (i : Input) → reading For c i ≡ look tables reading (rule For c) i
+for_is c i = by_looks For c i
+
+pub for_in_is : (c : Place × ℕ × Aimed) (i : Input) → reading ForIn c i ≡ look tables reading (rule ForIn c) i
+for_in_is c i = by_looks ForIn c i
+
+pub for_body_is : (c : Place × ℕ × Target × Got) (i : Input) → reading ForBody c i ≡ look tables reading (rule ForBody c) i
+for_body_is c i = by_looks ForBody c i
+
+pub try_is : (c : Place × Lines) (i : Input) → reading Try c i ≡ look tables reading (rule Try c) i
+try_is c i = by_looks Try c i
+
+pub finish_is : (c : Tried × List Stmt) (i : Input) → reading Finish c i ≡ look tables reading (rule Finish c) i
+finish_is c i = by_looks Finish c i
+
+pub next_clause_is : (c : Place × Tried) (i : Input) → reading NextClause c i ≡ look tables reading (rule NextClause c) i
+next_clause_is c i = by_looks NextClause c i
+
+pub one_clause_is : (c : Place × Lines) (i : Input) → reading OneClause c i ≡ look tables reading (rule OneClause c) i
+one_clause_is c i = by_looks OneClause c i
+
+pub handler_is : (c : Place × ℕ × Lines × Head) (i : Input) → reading Handler c i ≡ look tables reading (rule Handler c) i
+handler_is c i = by_looks Handler c i
+
+pub bracketed_classes_is : (c : Unit {0}) (i : Input) → reading BracketedClasses c i ≡ look tables reading (rule BracketedClasses c) i
+bracketed_classes_is c i = by_looks BracketedClasses c i
+
+pub bound_is : (c : List (List (List ℕ))) (i : Input) → reading Bound c i ≡ look tables reading (rule Bound c) i
+bound_is c i = by_looks Bound c i
+
+pub bind_is : (c : List (List (List ℕ))) (i : Input) → reading Bind c i ≡ look tables reading (rule Bind c) i
+bind_is c i = by_looks Bind c i
+
+pub dotted_is : (c : Unit {0}) (i : Input) → reading Dotted c i ≡ look tables reading (rule Dotted c) i
+dotted_is c i = by_looks Dotted c i
+
+pub try_end_is : (c : Place × Tried) (i : Input) → reading TryEnd c i ≡ look tables reading (rule TryEnd c) i
+try_end_is c i = by_looks TryEnd c i
+
+pub try_finally_is : (c : Place × Tried × List Stmt) (i : Input) → reading TryFinally c i ≡ look tables reading (rule TryFinally c) i
+try_finally_is c i = by_looks TryFinally c i
+
+pub whole_is : (c : Unit {0}) (i : Input) → reading Whole c i ≡ look tables reading (rule Whole c) i
+whole_is c i = by_looks Whole c i
+
+pub member_list_is : (c : Members) (i : Input) → reading MemberList c i ≡ look tables reading (rule MemberList c) i
+member_list_is c i = by_looks MemberList c i
+
+pub constant_is : (c : Lines) (i : Input) → reading Constant c i ≡ look tables reading (rule Constant c) i
+constant_is c i = by_looks Constant c i
+
+pub import_line_is : (c : Lines) (i : Input) → reading ImportLine c i ≡ look tables reading (rule ImportLine c) i
+import_line_is c i = by_looks ImportLine c i
+
+pub names_is : (c : Unit {0}) (i : Input) → reading Names c i ≡ look tables reading (rule Names c) i
+names_is c i = by_looks Names c i
+
+pub more_names_is : (c : List (List ℕ)) (i : Input) → reading MoreNames c i ≡ look tables reading (rule MoreNames c) i
+more_names_is c i = by_looks MoreNames c i
+
+pub from_line_is : (c : Lines) (i : Input) → reading FromLine c i ≡ look tables reading (rule FromLine c) i
+from_line_is c i = by_looks FromLine c i
+
+pub from_names_is : (c : Lines × ℕ × List (List ℕ)) (i : Input) → reading FromNames c i ≡ look tables reading (rule FromNames c) i
+from_names_is c i = by_looks FromNames c i
+
+pub imported_is : (c : Unit {0}) (i : Input) → reading Imported c i ≡ look tables reading (rule Imported c) i
+imported_is c i = by_looks Imported c i
+
+pub bracketed_names_is : (c : List (List ℕ)) (i : Input) → reading BracketedNames c i ≡ look tables reading (rule BracketedNames c) i
+bracketed_names_is c i = by_looks BracketedNames c i
+
+pub def_text_is : (c : Lines) (i : Input) → reading DefText c i ≡ look tables reading (rule DefText c) i
+def_text_is c i = by_looks DefText c i
+
+pub def_params_is : (c : Numbered × List ℕ) (i : Input) → reading DefParams c i ≡ look tables reading (rule DefParams c) i
+def_params_is c i = by_looks DefParams c i
+
+pub def_body_is : (c : ℕ × List ℕ × Params) (i : Input) → reading DefBody c i ≡ look tables reading (rule DefBody c) i
+def_body_is c i = by_looks DefBody c i
+
+pub param_list_rest_is : (c : Params) (i : Input) → reading ParamListRest c i ≡ look tables reading (rule ParamListRest c) i
+param_list_rest_is c i = by_looks ParamListRest c i
+
+pub one_param_is : (c : Params) (i : Input) → reading OneParam c i ≡ look tables reading (rule OneParam c) i
+one_param_is c i = by_looks OneParam c i
+
+pub param_rest_is : (c : Params × ℕ × List ℕ) (i : Input) → reading ParamRest c i ≡ look tables reading (rule ParamRest c) i
+param_rest_is c i = by_looks ParamRest c i
+
+pub star_param_is : (c : ℕ × Params) (i : Input) → reading StarParam c i ≡ look tables reading (rule StarParam c) i
+star_param_is c i = by_looks StarParam c i
+
+pub comma_maybe_is : (c : Unit {0}) (i : Input) → reading CommaMaybe c i ≡ look tables reading (rule CommaMaybe c) i
+comma_maybe_is c i = by_looks CommaMaybe c i
+
+pub class_text_is : (c : Lines) (i : Input) → reading ClassText c i ≡ look tables reading (rule ClassText c) i
+class_text_is c i = by_looks ClassText c i
+
+pub class_rest_is : (c : Numbered × List ℕ) (i : Input) → reading ClassRest c i ≡ look tables reading (rule ClassRest c) i
+class_rest_is c i = by_looks ClassRest c i
+
+pub class_body_is : (c : Numbered × List ℕ × List (List ℕ)) (i : Input) → reading ClassBody c i ≡ look tables reading (rule ClassBody c) i
+class_body_is c i = by_looks ClassBody c i
+
+pub base_is : (c : Unit {0}) (i : Input) → reading Base c i ≡ look tables reading (rule Base c) i
+base_is c i = by_looks Base c i
+
+pub class_block_is : (c : Members) (i : Input) → reading ClassBlock c i ≡ look tables reading (rule ClassBlock c) i
+class_block_is c i = by_looks ClassBlock c i
+
+pub class_members_is : (c : Members) (i : Input) → reading ClassMembers c i ≡ look tables reading (rule ClassMembers c) i
+class_members_is c i = by_looks ClassMembers c i
+
+pub main_is : (c : Unit {0}) (i : Input) → reading Main c i ≡ look tables reading (rule Main c) i
+main_is c i = by_looks Main c i
+
+pub skipped_is : (c : Unit {0}) (i : Input) → reading Skipped c i ≡ look tables reading (rule Skipped c) i
+skipped_is c i = by_looks Skipped c i

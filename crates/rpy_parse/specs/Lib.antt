@@ -8,3 +8,4 @@ pub mod Rows
 pub mod Ops
 pub mod Modules
 pub mod Target
+pub mod Skips

@@ -13,10 +13,10 @@ use Rattle.rpy_base.specs.Word.{Fits, wrap}
 use Rattle.rpy_tree.specs.Pure.{Expr, Int, Local, Binary}
 use Rattle.rpy_tree.specs.declared.syntax.BinOp.{BinOp}
 use Rattle.rpy_tree.specs.declared.syntax.BinOp.TheVariants.{Add, Sub, Mul, Div, FloorDiv, Mod, Shl, Shr, BitAnd, BitOr, BitXor}
-use Rattle.rpy_top.specs.declared.first_path.Sum.{Sum}
-use Rattle.rpy_top.specs.declared.first_path.Line.{Line}
-use Rattle.rpy_top.specs.declared.first_path.Line.TheVariants.{Assign, Print}
-use Rattle.rpy_top.specs.Program.{expr_of, reads_bound, is_bound_local, is_literal, is_arithmetic, line_ok, lines_ok, bound_by}
+use Rattle.rpy_first.specs.declared.body.Sum.{Sum}
+use Rattle.rpy_first.specs.declared.body.Line.{Line}
+use Rattle.rpy_first.specs.declared.body.Line.TheVariants.{Assign, Print}
+use Rattle.rpy_first.specs.Program.{expr_of, reads_bound, is_bound_local, is_literal, is_arithmetic, line_ok, lines_ok, bound_by}
 use Rattle.rpy_top.proofs.Printing.{IsWord}
 
 abbrev pub apply : BinOp → ℤ → ℤ → ℤ

@@ -16,10 +16,10 @@ use Rattle.csub_tree.specs.Statement.{operand, answered, set as set_var, call}
 use Rattle.rpy_tree.specs.Pure.{Expr, Int, Local, Binary}
 use Rattle.rpy_tree.specs.declared.syntax.BinOp.{BinOp}
 use Rattle.rpy_tree.specs.declared.syntax.BinOp.TheVariants.{Add, Sub, Mul}
-use Rattle.rpy_top.specs.declared.first_path.Sum.{Sum}
-use Rattle.rpy_top.specs.declared.first_path.Line.{Line}
-use Rattle.rpy_top.specs.declared.first_path.Line.TheVariants.{Assign, Print}
-use Rattle.rpy_top.specs.Program.{expr_of, reads_bound, is_bound_local, is_arithmetic, line_ok, lines_ok}
+use Rattle.rpy_first.specs.declared.body.Sum.{Sum}
+use Rattle.rpy_first.specs.declared.body.Line.{Line}
+use Rattle.rpy_first.specs.declared.body.Line.TheVariants.{Assign, Print}
+use Rattle.rpy_first.specs.Program.{expr_of, reads_bound, is_bound_local, is_arithmetic, line_ok, lines_ok}
 use Rattle.rpy_top.specs.Lower.{Code, operation, expr_code, use_of, sum_of, lines_code, entry_block, print_word, file_of, number}
 use Rattle.rpy_top.proofs.Abstract.{apply, eval, bind_at, after_line, line_out, lines_out, lines_result, and_left, and_right, lt_of, le_of, Shows, length_bind, shows_bind, at_most, AreWords, eval_is_word, words_bind, first_ok, rest_ok}
 use Rattle.rpy_top.proofs.Printing.{IsWord, frame, waiting, file, word_goes}

@@ -11,11 +11,11 @@ use Rattle.rpy_tree.specs.declared.syntax.BinOp.{BinOp}
 use Rattle.rpy_tree.specs.declared.syntax.BinOp.TheVariants.{Add, Sub, Mul}
 use Rattle.rpy_tree.specs.Value.{Value, Word, Ref, State}
 use Rattle.rpy_tree.specs.Meaning.{Ending, Done, Eval, Running, then_go, add_roots, with_locals, value, values, binary, bound, set_local, put_if_any, print_line, block, Flow, Next, Returned, next_or, pure, ◌>>◌, result_of, Meant, mean, start, meant_by}
-use Rattle.rpy_top.specs.declared.first_path.Sum.{Sum}
-use Rattle.rpy_top.specs.declared.first_path.Line.{Line}
-use Rattle.rpy_top.specs.declared.first_path.Line.TheVariants.{Assign, Print}
-use Rattle.rpy_top.specs.declared.first_path.Body.{Body}
-use Rattle.rpy_top.specs.Program.{expr_of, reads_bound, is_bound_local, is_arithmetic, block_of, line_ok, lines_ok, is_bound, program_of}
+use Rattle.rpy_first.specs.declared.body.Sum.{Sum}
+use Rattle.rpy_first.specs.declared.body.Line.{Line}
+use Rattle.rpy_first.specs.declared.body.Line.TheVariants.{Assign, Print}
+use Rattle.rpy_first.specs.declared.body.Body.{Body}
+use Rattle.rpy_first.specs.Program.{expr_of, reads_bound, is_bound_local, is_arithmetic, block_of, line_ok, lines_ok, is_bound, program_of}
 use Rattle.rpy_top.proofs.Abstract.{apply, eval, bind_at, after_line, line_out, lines_out, lines_result, and_left, and_right, lt_of, le_of, Shows, length_bind, shows_bind, at_most, eq_cases}
 
 -- a local as it is once a word is bound to it

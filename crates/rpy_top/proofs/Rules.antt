@@ -13,11 +13,11 @@ use Rattle.csub_tree.specs.Checked.{are_types, has_type, takes, given_takes, bot
 use Rattle.rpy_tree.specs.Pure.{Expr, Int, Local, Binary}
 use Rattle.rpy_tree.specs.declared.syntax.BinOp.{BinOp}
 use Rattle.rpy_tree.specs.declared.syntax.BinOp.TheVariants.{Add, Sub, Mul}
-use Rattle.rpy_top.specs.declared.first_path.Sum.{Sum}
-use Rattle.rpy_top.specs.declared.first_path.Line.{Line}
-use Rattle.rpy_top.specs.declared.first_path.Line.TheVariants.{Assign, Print}
-use Rattle.rpy_top.specs.declared.first_path.Body.{Body}
-use Rattle.rpy_top.specs.Program.{expr_of, reads_bound, is_bound_local, is_arithmetic, line_ok, lines_ok, bound_by, is_bound}
+use Rattle.rpy_first.specs.declared.body.Sum.{Sum}
+use Rattle.rpy_first.specs.declared.body.Line.{Line}
+use Rattle.rpy_first.specs.declared.body.Line.TheVariants.{Assign, Print}
+use Rattle.rpy_first.specs.declared.body.Body.{Body}
+use Rattle.rpy_first.specs.Program.{expr_of, reads_bound, is_bound_local, is_arithmetic, line_ok, lines_ok, bound_by, is_bound}
 use Rattle.rpy_top.specs.Lower.{Code, operation, expr_code, use_of, sum_of, lines_code, entry_block, entry_of, file_of, lowered, number, printer}
 use Rattle.rpy_top.proofs.Abstract.{and_left, and_right, lt_of, le_of, first_ok, rest_ok, at_most, eq_cases, eq_of}
 use Rattle.rpy_top.proofs.MeanSide.{differs}

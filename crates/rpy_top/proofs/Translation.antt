@@ -1,18 +1,22 @@
 -- The text of a first-path source is a translation of its program.
-use Rattle.std.proofs.Common.{◌≡◌, ℕ, zero, suc, ◌+◌, ◌<◌, ◌≤◌, ◌⊎◌, Bool, true, false, cond, List, [], ◌∷◌, ◌++◌, length, get_or, Option, Some, None, codes, refl, sym, ap, subst, ◌∙◌, arith, inl, inr}
+use Rattle.std.proofs.Common.{◌≡◌, ℕ, zero, suc, ◌+◌, ◌<◌, ◌≤◌, ◌⊎◌, Bool, true, false, cond, List, [], ◌∷◌, ◌++◌, length, get_or, Option, Some, None, Result, Ok, Err, codes, refl, sym, ap, subst, ◌∙◌, arith, inl, inr}
 use Rattle.std.specs.Prelude.{◌&&◌, ◌||◌, ◌==◌, not, nat_le}
 use Rattle.std.proofs.lemmas.Bool.Decides.{nat_tests}
 use Rattle.csub_tree.specs.Checked as checked
 use Rattle.csub_tree.specs.Spelling.{file_text}
-use Rattle.rpy_top.specs.Bytes.{is_name_byte, name_len, is_keyword}
+use Rattle.rpy_top.specs.Names.{is_name_byte, name_len, is_keyword}
 use Rattle.rpy_top.specs.Command.{is_name, begins_with_letter, is_file, begins_as_file, is_module_name, are_module_names, module_name, are_sources, names_module, built_file, Building}
-use Rattle.rpy_top.specs.FirstPath.{first_path, if_bound, spelled_by}
-use Rattle.rpy_top.specs.Program.{is_bound, program_of}
+use Rattle.rpy_tree.specs.declared.syntax.Module.{Module}
+use Rattle.rpy_first.specs.FirstPath.{first_path, if_bound, members_body}
+use Rattle.rpy_first.specs.Program.{is_bound, program_of}
 use Rattle.rpy_top.specs.Lower.{lowered}
 use Rattle.rpy_top.specs.Built.{Built}
-use Rattle.rpy_top.specs.Answer.{text_of, Translates}
-use Rattle.rpy_top.specs.declared.first_path.Body.{Body}
-use Rattle.rpy_top.proofs.Abstract.{and_left, and_right, eq_of}
+use Rattle.rpy_first.specs.Source.{HasModule}
+use Rattle.rpy_first.specs.declared.fault.TranslateFault.{TranslateFault}
+use Rattle.rpy_first.specs.declared.fault.TranslateFault.TheVariants.{Source, NotYet, NoMem}
+use Rattle.rpy_top.specs.Answer.{are_short, text_of, TranslatesModule, TranslatesTo}
+use Rattle.rpy_first.specs.declared.body.Body.{Body}
+use Rattle.rpy_top.proofs.Abstract.{and_left, and_right, eq_of, le_of}
 use Rattle.rpy_top.proofs.Rules.{and_both, keeps_rules}
 use Rattle.rpy_top.proofs.Whole.{meets_always}
 
@@ -49,17 +53,20 @@ bound_of (Some whole) body e = elim (bool_cases (is_bound whole)) [
   | inr f ↦ absurd (none_some body (sym (ap (λ x. cond x (Some whole) None) f) ∙ e))
 ]
 
-pub built : (name bytes : List ℕ) (body : Body) (text : List ℕ) → is_name name ≡ true → first_path bytes ≡ Some body → text ≡ text_of name body → Built (program_of body) text
-unfolding first_path
-built name bytes body text named spelled is = record {
+pub built : (name : List ℕ) (m : Module) (body : Body) (text : List ℕ) → is_name name ≡ true → first_path m ≡ Some body → text ≡ text_of name body → Built (program_of body) text
+built name m body text named is_path is = record {
   file = lowered (name ++ codes ".entry_point") body;
   spells = is;
-  checked = keeps_rules (name ++ codes ".entry_point") body (name_ok name (eq_of _ _ (and_right (begins_with_letter name) _ named))) (bound_of (spelled_by bytes) body spelled);
-  meets = λ args steps. meets_always args (name ++ codes ".entry_point") body (bound_of (spelled_by bytes) body spelled) steps;
+  checked = keeps_rules (name ++ codes ".entry_point") body (name_ok name (eq_of _ _ (and_right (begins_with_letter name) _ named))) (bound_of (members_body m.members) body is_path);
+  meets = λ args steps. meets_always args (name ++ codes ".entry_point") body (bound_of (members_body m.members) body is_path) steps;
 }
 
-pub translates : (name bytes : List ℕ) (body : Body) (text : List ℕ) → is_name name ≡ true → first_path bytes ≡ Some body → text ≡ text_of name body → Translates bytes text
-translates name bytes body text named spelled is = record { body = body; spells = spelled; built = built name bytes body text named spelled is }
+-- what becomes of a source is what becomes of its module
+pub translated : (source : List ℕ) (m : Module) (r : Result (List ℕ) TranslateFault) → HasModule source m → TranslatesModule m r → TranslatesTo source r
+translated source m (Ok text) h t = record { tree = m; body = t.0; has = h; is = t.1; built = t.2 }
+translated source m (Err (Source file line kind)) h t = absurd t
+translated source m (Err NotYet) h t = record { tree = m; has = h; is_none = t }
+translated source m (Err NoMem) h t = tt
 
 pub module_named : (name : List ℕ) → is_module_name name ≡ true → is_name name ≡ true
 module_named name h = and_left (is_name name) _ (and_left (is_name name && not (is_keyword name)) _ h)
@@ -70,6 +77,9 @@ file_named word h = module_named (module_name word) (and_right (begins_as_file w
 
 pub first_named : (name : List ℕ) (names : List (List ℕ)) → are_module_names (name ∷ names) ≡ true → is_name name ≡ true
 first_named name names h = module_named name (and_left (is_module_name name) _ h)
+
+pub first_short : (source : List ℕ) (sources : List (List ℕ)) → are_short (source ∷ sources) ≡ true → length source ≤ 1048576
+first_short source sources h = le_of (length source) 1048576 (and_left (nat_le (length source) 1048576) _ h)
 
 -- the one source file that there is
 pub one_file : (files : List (List ℕ)) (file : List ℕ) → length files < 2 → 0 < length files → file ≡ get_or files 0 file → are_sources files ≡ true

@@ -16,8 +16,8 @@ use Rattle.csub_tree.specs.Statement.{back_with}
 use Rattle.csub_tree.specs.Meaning as c
 use Rattle.csub_tree.specs.Meaning.{Ended, Came, run, meant_by, CMeans}
 use Rattle.rpy_tree.specs.Meaning.{mean}
-use Rattle.rpy_top.specs.declared.first_path.Body.{Body}
-use Rattle.rpy_top.specs.Program.{is_bound, program_of}
+use Rattle.rpy_first.specs.declared.body.Body.{Body}
+use Rattle.rpy_first.specs.Program.{is_bound, program_of}
 use Rattle.rpy_top.specs.Lower.{Code, lines_code, entry_block, file_of, lowered}
 use Rattle.rpy_top.specs.Built.{Meets}
 use Rattle.rpy_top.proofs.Abstract.{lines_out, lines_result, AreWords, Shows}

@@ -1,22 +1,27 @@
 -- When a call answers each status, and what then stands in the sinks.
-use Rattle.std.specs.Prelude.{◌≡◌, ◌⊎◌, ℕ, ◌+◌, ◌<◌, ◌≤◌, List, [], ◌∷◌, ◌++◌, length, take, codes, Option, Some, None, IfSome, option_map, Result, Ok, Err}
+use Rattle.std.specs.Prelude.{◌≡◌, ◌⊎◌, ◌&&◌, nat_le, Bool, true, ℕ, ◌+◌, ◌<◌, ◌≤◌, List, [], ◌∷◌, ◌++◌, length, take, codes, Option, Some, None, IfSome, option_map, Result, Ok, Err}
 use Rattle.rpy_base.specs.Causes.{Rose}
 use Rattle.rpy_base.specs.Reading.{Disk}
 use Rattle.csub_tree.specs.Spelling.{file_text}
-use Rattle.rpy_top.specs.FirstPath.{first_path}
+use Rattle.rpy_first.specs.FirstPath.{first_path}
 use Rattle.rpy_top.specs.Lower.{lowered}
-use Rattle.rpy_top.specs.Program.{program_of}
+use Rattle.rpy_first.specs.Program.{program_of}
 use Rattle.rpy_top.specs.Built.{Built}
-use Rattle.rpy_top.specs.declared.fault.TranslateFault.{TranslateFault}
-use Rattle.rpy_top.specs.declared.fault.TranslateFault.TheVariants.{NotYet as Unready, NoMem as NoMemory}
+use Rattle.rpy_first.specs.declared.fault.TranslateFault.{TranslateFault}
+use Rattle.rpy_first.specs.declared.fault.TranslateFault.TheVariants.{Source as Refused, NotYet as Unready, NoMem as NoMemory}
+use Rattle.rpy_top.specs.declared.top.BuildWork.{BuildWork}
+use Rattle.rpy_top.specs.declared.top.BuildWork.TheVariants.{Ended, Refused as RefusedAt}
+use Rattle.rpy_first.specs.Source.{HasModule, IsRefused, refusal}
+use Rattle.rpy_tree.specs.declared.syntax.Module.{Module}
 use Rattle.rpy_top.specs.Command.{Brought, Building, Running as RunningFile, NotThere}
-use Rattle.rpy_top.specs.declared.first_path.Body.{Body}
+use Rattle.rpy_first.specs.declared.body.Body.{Body}
 use Rattle.rpy_top.specs.declared.status.Status.{Status}
-use Rattle.rpy_top.specs.declared.status.Status.TheVariants.{Done, Usage, NotC, Stuck, NoFile, NotRead, WriteFault, Raised, Failed, Running, NoMem, WorkSpent, TooLong, NotYet}
+use Rattle.rpy_top.specs.declared.status.Status.TheVariants.{Done, Usage, NotSource, NotC, Stuck, NoFile, NotRead, WriteFault, Raised, Failed, Running, NoMem, WorkSpent, TooLong, NotYet}
 
 abbrev pub code : Status → ℕ
 code Done = 0
 code Usage = 1
+code NotSource = 2
 code NotC = 6
 code Stuck = 7
 code NoFile = 8
@@ -33,6 +38,11 @@ code NotYet = 16
 -- how many bytes a source may have
 abbrev pub limit : ℕ
 limit = 1048576
+
+-- whether each source has at most as many
+abbrev pub are_short : List (List ℕ) → Bool
+are_short [] = true
+are_short (source ∷ sources) = nat_le (length source) limit && are_short sources
 
 -- how many bytes a C file may have
 abbrev pub c_limit : ℕ
@@ -88,16 +98,32 @@ IsTooLong most files file = IfSome files.held (λ disk. IfSome (disk file) (λ b
 abbrev pub text_of : List ℕ → Body → List ℕ
 text_of name body = file_text (lowered (name ++ codes ".entry_point") body)
 
--- the text is a translation of the program that the source spells
+-- the text is a translation of the program that the source's module is
 pub record Translates (source text : List ℕ) : Type 0 where
+  pub tree : Module
   pub body : Body
-  pub spells : first_path source ≡ Some body
+  pub has : HasModule source tree
+  pub is : first_path tree ≡ Some body
   pub built : Built (program_of body) text
+
+-- the source has a module, which is none of the first path
+pub record IsNotYet (source : List ℕ) : Type 0 where
+  pub tree : Module
+  pub has : HasModule source tree
+  pub is_none : first_path tree ≡ None
+
+-- what a call that translates one module answers
+abbrev pub TranslatesModule : Module → Result (List ℕ) TranslateFault → Type 0
+TranslatesModule m (Ok text) = (body : Body) × (first_path m ≡ Some body) × Built (program_of body) text
+TranslatesModule m (Err (Refused file line kind)) = ⊥
+TranslatesModule m (Err Unready) = first_path m ≡ None
+TranslatesModule m (Err NoMemory) = Unit {0}
 
 -- what a call that translates one source answers
 abbrev pub TranslatesTo : List ℕ → Result (List ℕ) TranslateFault → Type 0
 TranslatesTo source (Ok text) = Translates source text
-TranslatesTo source (Err Unready) = first_path source ≡ None
+TranslatesTo source (Err (Refused file line kind)) = (file ≡ 0) × IsRefused source line kind
+TranslatesTo source (Err Unready) = IsNotYet source
 TranslatesTo source (Err NoMemory) = Unit {0}
 
 -- the same of several sources, of which only one alone is translated
@@ -106,22 +132,23 @@ AllTranslateTo (source ∷ []) result = TranslatesTo source result
 AllTranslateTo sources (Ok text) = ⊥
 AllTranslateTo sources (Err fault) = Unit {0}
 
--- when the work on a file ends with each status
-abbrev pub BuildsTo : Status → List ℕ → Filed → Sunk → Type 0
-BuildsTo Done file files out = (bytes : List ℕ) × AreBytes limit files file bytes × ((text : List ℕ) × Translates bytes text × Took out text) × AllRead files
-BuildsTo NoFile file files out = IsMissing files file × IsQuiet out × AllRead files
-BuildsTo NotRead file files out = Rose files.faults_before files.faults × IsQuiet out
-BuildsTo WriteFault file files out = (bytes : List ℕ) × AreBytes limit files file bytes × ((text : List ℕ) × Translates bytes text × TookPart out text) × AllRead files
-BuildsTo NoMem file files out = IsQuiet out × AllRead files
-BuildsTo TooLong file files out = IsTooLong limit files file × IsQuiet out × AllRead files
-BuildsTo NotYet file files out = (bytes : List ℕ) × AreBytes limit files file bytes × (first_path bytes ≡ None) × IsQuiet out × AllRead files
-BuildsTo status file files out = ⊥
+-- when the work on a file ends in each way
+abbrev pub BuildsTo : BuildWork → List ℕ → Filed → Sunk → Type 0
+BuildsTo (Ended Done) file files out = (bytes : List ℕ) × AreBytes limit files file bytes × ((text : List ℕ) × Translates bytes text × Took out text) × AllRead files
+BuildsTo (Ended NoFile) file files out = IsMissing files file × IsQuiet out × AllRead files
+BuildsTo (Ended NotRead) file files out = Rose files.faults_before files.faults × IsQuiet out
+BuildsTo (Ended WriteFault) file files out = (bytes : List ℕ) × AreBytes limit files file bytes × ((text : List ℕ) × Translates bytes text × TookPart out text) × AllRead files
+BuildsTo (Ended NoMem) file files out = IsQuiet out × AllRead files
+BuildsTo (Ended TooLong) file files out = IsTooLong limit files file × IsQuiet out × AllRead files
+BuildsTo (Ended NotYet) file files out = (bytes : List ℕ) × AreBytes limit files file bytes × IsNotYet bytes × IsQuiet out × AllRead files
+BuildsTo (Ended status) file files out = ⊥
+BuildsTo (RefusedAt line kind) file files out = (bytes : List ℕ) × AreBytes limit files file bytes × IsRefused bytes line kind × IsQuiet out × AllRead files
 
--- when the work of a call ends with each status
-abbrev pub Works : Status → Brought → Filed → Sunk → Type 0
-Works status NotThere files out = (status ≡ Usage) × IsQuiet out × AllRead files
-Works status (Building file) files out = BuildsTo status file files out
-Works status (RunningFile file words) files out = ⊥
+-- when the work of a call ends in each way
+abbrev pub Works : BuildWork → Brought → Filed → Sunk → Type 0
+Works work NotThere files out = (work ≡ Ended Usage) × IsQuiet out × AllRead files
+Works work (Building file) files out = BuildsTo work file files out
+Works work (RunningFile file words) files out = ⊥
 
 -- the first file that the words name
 abbrev pub first_file : Brought → List ℕ
@@ -148,12 +175,13 @@ Says worked answered text err =
     ⊎ ((answered ≡ WriteFault) × TookPart err text)
     ⊎ ((answered ≡ NoMem) × IsQuiet err)
 
-abbrev pub Said : Status → Status → Brought → Sunk → Type 0
-Said worked answered what err = Says worked answered (line worked (first_file what)) err
+abbrev pub Said : BuildWork → Status → List ℕ → Sunk → Type 0
+Said (Ended worked) answered file err = Says worked answered (line worked file) err
+Said (RefusedAt at kind) answered file err = Says NotSource answered (refusal file at kind) err
 
 -- the whole call
 abbrev pub Answers : Status → Brought → Filed → Sunk → Sunk → Type 0
-Answers answered what files out err = (worked : Status) × Works worked what files out × Said worked answered what err
+Answers answered what files out err = (work : BuildWork) × Works work what files out × Said work answered (first_file what) err
 
 -- why a put or a read stopped, and what the sink and the files are then
 abbrev pub PutEnds : Result (Unit {0}) Status → List ℕ → Sunk → Type 0

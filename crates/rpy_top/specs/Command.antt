@@ -1,7 +1,7 @@
 -- What the words of a call ask for.
 use Rattle.std.specs.Prelude.{◌≡◌, ◌<◌, ◌≤◌, ℕ, zero, suc, ◌+◌, ◌-◌, ◌*◌, nat_le, unwrap_or, is_none, option_map, ◌==◌, ◌||◌, ◌&&◌, not, Bool, true, false, cond, if◌then◌else◌, List, [], ◌∷◌, ◌++◌, length, take, drop, Option, Some, None, Result, Ok, Err, codes}
 use Rattle.std.specs.Str.{bytes_eq}
-use Rattle.rpy_top.specs.Bytes.{is_letter, is_digit, name_len, among, is_keyword}
+use Rattle.rpy_top.specs.Names.{is_letter, is_digit, name_len, among, is_keyword}
 use Rattle.rpy_top.specs.declared.words.Command.{Command}
 use Rattle.rpy_top.specs.declared.words.Command.TheVariants.{Build, Check, Annotate, Flow, Run, LlRun, CRun, Sample}
 use Rattle.rpy_top.specs.declared.words.RunWords.{RunWords}

@@ -3,11 +3,11 @@ use Rattle.std.specs.Prelude.{ℕ, ◌+◌, ◌-◌, ℤ, pos, negsuc, List, [],
 use Rattle.rpy_tree.specs.Pure.{Expr, Int, Local, Binary}
 use Rattle.rpy_tree.specs.declared.syntax.BinOp.{BinOp}
 use Rattle.rpy_tree.specs.declared.syntax.BinOp.TheVariants as binop
-use Rattle.rpy_top.specs.Program.{expr_of}
-use Rattle.rpy_top.specs.declared.first_path.Sum.{Sum}
-use Rattle.rpy_top.specs.declared.first_path.Line.{Line}
-use Rattle.rpy_top.specs.declared.first_path.Line.TheVariants as line
-use Rattle.rpy_top.specs.declared.first_path.Body.{Body}
+use Rattle.rpy_first.specs.Program.{expr_of}
+use Rattle.rpy_first.specs.declared.body.Sum.{Sum}
+use Rattle.rpy_first.specs.declared.body.Line.{Line}
+use Rattle.rpy_first.specs.declared.body.Line.TheVariants as line
+use Rattle.rpy_first.specs.declared.body.Body.{Body}
 use Rattle.rpy_top.specs.declared.lower.Place.{Place}
 use Rattle.csub_tree.specs.declared.tree.CFile.{CFile}
 use Rattle.csub_tree.specs.declared.tree.CType.{CType}

@@ -55,6 +55,7 @@ fn line_of(alloc: Global, status: Status, file: &[u8]) -> Result<Text, NoMem>
         Status::TooLong => joined(alloc, file, b": too long\n"),
         Status::NotYet => joined(alloc, file, b": not yet\n"),
         Status::Done
+        | Status::NotSource
         | Status::NotC
         | Status::Stuck
         | Status::WriteFault

@@ -1,11 +1,11 @@
 // A program of the first path to a C file.
 ghost use Rattle.std.specs.Prelude.{◌≡◌, ◌++◌, ◌∷◌, [], ◌+◌, Some, None, OnOk, IfOk, pos, negsuc, drop, codes, replicate};
 ghost use Rattle.rpy_top.specs.Lower as spec;
-ghost use Rattle.rpy_top.specs.Program.{expr_of, operator};
+ghost use Rattle.rpy_first.specs.Program.{expr_of, operator};
 
-use crate::first_path::{Arith, Body, Line, Sum};
 use csub_tree::{CBinary, CConst, CFile, CFunction, COperand, CPrototype, CStmt, CType};
 use rpy_base::{NoMem, Seq, Text};
+use rpy_first::{Arith, Body, Line, Sum};
 use std::alloc::Global;
 
 fn operation(op: Arith) -> CBinary

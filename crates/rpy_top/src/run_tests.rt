@@ -1,6 +1,5 @@
 // Whole calls that run C files in memory.
-ghost use Rattle.std.specs.Prelude.{◌≡◌, ◌≤◌, All, IfOk, map};
-ghost use Rattle.rpy_base.specs.Watching.{IsFresh};
+ghost use Rattle.std.specs.Prelude.{◌≡◌, ◌≤◌};
 
 use crate::rpyc;
 use crate::tests::{files_of, words_of};
@@ -71,14 +70,6 @@ impl HeapWatch for Refuses {
     }
 }
 
-fn tally_and_leaks(alloc: Global) -> Result<Vec<Box<dyn HeapWatch>>, NoMem>
-    ensures { IfOk result (λ all. All IsFresh (map (λ w. seen w) all.items)) }
-{
-    let tally = Box::new(alloc, Tally::new())?;
-    let leaks = Box::new(alloc, Leaks::new(alloc))?;
-    pair_of(alloc, tally, leaks)
-}
-
 #[test]
 fn c_files_run(rt: HostRuntime) -> Result<(), Fail> {
     let alloc = rt.alloc();
@@ -121,7 +112,9 @@ fn c_files_run(rt: HostRuntime) -> Result<(), Fail> {
         let mut files = files_of(alloc, "c.c", text.as_bytes())?;
         let mut out = MemSink::new(alloc);
         let mut err = MemSink::new(alloc);
-        let mut watch = tally_and_leaks(alloc)?;
+        let tally = Box::new(alloc, Tally::new())?;
+        let leaks = Box::new(alloc, Leaks::new(alloc))?;
+        let mut watch = pair_of(alloc, tally, leaks)?;
         let answered = rpyc(alloc, &words, &mut files, &mut out, &mut err, &mut watch);
         assert_eq!(rt; err.taken(), said.as_bytes(), "{line:?} on {text:?}");
         assert_eq!(rt; answered, status, "{line:?} on {text:?}");
@@ -163,7 +156,9 @@ fn sinks_of_a_run_fail(rt: HostRuntime) -> Result<(), Fail> {
         } else {
             err.fail_at(0, 14);
         }
-        let mut watch = tally_and_leaks(alloc)?;
+        let tally = Box::new(alloc, Tally::new())?;
+        let leaks = Box::new(alloc, Leaks::new(alloc))?;
+        let mut watch = pair_of(alloc, tally, leaks)?;
         let answered = rpyc(alloc, &words, &mut files, &mut out, &mut err, &mut watch);
         assert_eq!(rt; answered, 9, "{fails_out}");
         assert_eq!(rt; out.taken(), printed.as_bytes(), "{fails_out}");

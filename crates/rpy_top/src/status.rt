@@ -6,6 +6,7 @@ ghost use Rattle.rpy_top.specs.Answer.{code};
 pub enum Status {
     Done,
     Usage,
+    NotSource,
     NotC,
     Stuck,
     NoFile,
@@ -28,6 +29,7 @@ impl Status {
         match self {
             Status::Done => 0,
             Status::Usage => 1,
+            Status::NotSource => 2,
             Status::NotC => 6,
             Status::Stuck => 7,
             Status::NoFile | Status::NotRead => 8,

@@ -1,5 +1,5 @@
 // Whole calls over files and sinks in memory.
-use crate::{TranslateFault, are_module_names, rpyc, translate};
+use crate::{TranslateFault, are_module_names, are_short, rpyc, translate};
 use rpy_base::{HeapWatch, Leaks, MemFiles, MemSink, NoMem, Seq, Tally, Text, pair_of};
 use std::alloc::Global;
 use std::test::Fail;
@@ -54,6 +54,24 @@ fn words_and_sources_have_statuses(rt: HostRuntime) -> Result<(), Fail> {
         (
             "build a.py",
             "def entry_point(argv)\n    return 0\n",
+            2,
+            "a.py:1: syntax\n",
+        ),
+        (
+            "build a.py",
+            "def entry_point(x):\r\n    return (1 + 2)",
+            0,
+            "",
+        ),
+        (
+            "build a.py",
+            "def entry_point(x):\n    return x\n",
+            16,
+            "a.py: not yet\n",
+        ),
+        (
+            "build a.py",
+            "def entry_point(argv):\n    return\n",
             16,
             "a.py: not yet\n",
         ),
@@ -72,8 +90,8 @@ fn words_and_sources_have_statuses(rt: HostRuntime) -> Result<(), Fail> {
         (
             "build a.py",
             "def entry_point(argv):\n    return 007\n",
-            16,
-            "a.py: not yet\n",
+            0,
+            "",
         ),
         ("build a.py", "", 16, "a.py: not yet\n"),
     ] {
@@ -201,6 +219,7 @@ fn translate_answers_the_text_of_build(rt: HostRuntime) -> Result<(), Fail> {
     let mut sources = Seq::new(alloc);
     sources.push(Text::from_bytes(alloc, SUMS.as_bytes())?)?;
     assert!(rt; are_module_names(names.as_slice()));
+    assert!(rt; are_short(sources.as_slice()));
     let text = translate(alloc, &sources, &names)?;
     assert_eq!(rt; text.bytes(), out.taken());
     Ok(())
@@ -216,6 +235,7 @@ fn two_sources_are_not_translated_yet(rt: HostRuntime) -> Result<(), Fail> {
         sources.push(Text::from_bytes(alloc, RETURNS.as_bytes())?)?;
     }
     assert!(rt; are_module_names(names.as_slice()));
+    assert!(rt; are_short(sources.as_slice()));
     assert_eq!(rt; names.len(), sources.len());
     let refused = match translate(alloc, &sources, &names) {
         Err(TranslateFault::NotYet) => true,
@@ -232,6 +252,79 @@ fn two_sources_are_not_translated_yet(rt: HostRuntime) -> Result<(), Fail> {
         let mut names = Seq::new(alloc);
         names.push(Text::from_bytes(alloc, name.as_bytes())?)?;
         assert_eq!(rt; are_module_names(names.as_slice()), is_one, "{name:?}");
+    }
+    Ok(())
+}
+
+fn with_signs(alloc: Global, signs: usize) -> Result<Text, NoMem> {
+    let mut source = Text::from_bytes(alloc, b"x = 1")?;
+    for _ in 0..signs {
+        source.append(b" + 1")?;
+    }
+    source.append(b"\n")?;
+    Ok(source)
+}
+
+fn with_blocks(alloc: Global, blocks: usize) -> Result<Text, NoMem> {
+    let mut source = Text::new(alloc);
+    for depth in 0..blocks {
+        for _ in 0..depth {
+            source.append(b" ")?;
+        }
+        source.append(b"if 1:\n")?;
+    }
+    Ok(source)
+}
+
+fn refusal_of(alloc: Global, source: &Text) -> Result<(u8, Text), NoMem> {
+    let words = words_of(alloc, "build a.py")?;
+    let mut files = files_of(alloc, "a.py", source.bytes())?;
+    let mut out = MemSink::new(alloc);
+    let mut err = MemSink::new(alloc);
+    let mut watch: Vec<Box<dyn HeapWatch>> = Vec::new(alloc);
+    let answered = rpyc(alloc, &words, &mut files, &mut out, &mut err, &mut watch);
+    Ok((answered, Text::from_bytes(alloc, err.taken())?))
+}
+
+#[test]
+fn sources_are_refused_on_their_lines(rt: HostRuntime) -> Result<(), Fail> {
+    let alloc = rt.alloc();
+    for (source, line, kind) in [
+        ("def entry_point(argv):\n\treturn 0\n", 2, "bad indent"),
+        (
+            "def entry_point(argv):\n    return 0\n  \n  x = 1\n",
+            4,
+            "bad indent",
+        ),
+        ("\0", 1, "bad byte"),
+        ("x = 1 $\n", 1, "bad byte"),
+        ("x = 09\n", 1, "bad number"),
+        ("x = 1.5\n", 1, "bad number"),
+        ("x = 'a\n", 1, "open string"),
+        ("x = 9223372036854775808\n", 1, "bad number"),
+        ("x = (((((((((((((((((", 1, "limit brackets"),
+        ("x = '''a\n", 1, "open string"),
+        ("x = 1\ny = 1 +\n", 2, "syntax"),
+        ("x = (1,\n2", 2, "syntax"),
+        ("def f(a):\n    break\n", 2, "syntax"),
+        ("def f(a):\n    a + 1 = 2\n", 2, "syntax"),
+    ] {
+        let (status, said) = refusal_of(alloc, &Text::from_bytes(alloc, source.as_bytes())?)?;
+        assert_eq!(rt; status, 2, "{source:?}");
+        assert_eq!(rt;
+            said.bytes(),
+            format!(in alloc; "a.py:{line}: {kind}\n")?.as_bytes(),
+            "{source:?}"
+        );
+    }
+    for (source, status, said) in [
+        (with_signs(alloc, 64)?, 16, "a.py: not yet\n"),
+        (with_signs(alloc, 65)?, 2, "a.py:1: limit operators\n"),
+        (with_blocks(alloc, 34)?, 2, "a.py:34: limit blocks\n"),
+    ] {
+        let (answered, text) = refusal_of(alloc, &source)?;
+        assert_eq!(rt; answered, status, "{said:?}");
+        assert_eq!(rt; text.bytes(), said.as_bytes());
     }
     Ok(())
 }

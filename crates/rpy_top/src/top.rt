@@ -3,20 +3,19 @@ ghost use Rattle.std.specs.Prelude.{◌≡◌, ◌≤◌, ◌<◌, ◌++◌, ◌
 ghost use Rattle.rpy_base.specs.Watching.{Seen, IsFresh};
 ghost use Rattle.rpy_top.specs.Command.{command, brought, Building, is_file, are_module_names, is_name};
 ghost use Rattle.rpy_top.specs.declared.status.Status.{Status};
-ghost use Rattle.rpy_top.specs.Answer.{code, sunk, filed, Answers, BuildsTo, TranslatesTo, AllTranslateTo, text_of};
+ghost use Rattle.rpy_top.specs.Answer.{code, sunk, filed, Answers, BuildsTo, Said, TranslatesModule, TranslatesTo, AllTranslateTo, are_short, text_of};
 ghost use Rattle.rpy_top.specs.Running.{AnswersCall, AreLeft};
 
 use crate::crun::crun;
-use crate::edge::{load, put, say};
-use crate::fault::TranslateFault;
-use crate::first_path::Body;
+use crate::edge::{load, put, say, say_text};
 use crate::job::{Job, job_of};
 use crate::lower::lower;
-use crate::reader::first_path;
 use crate::status::Status;
 use crate::words::module_name;
 use genc_writer::write_c;
 use rpy_base::{Files, HeapWatch, NoMem, Seq, Sink, Text};
+use rpy_first::{Body, SourceKind, TranslateFault, first_path, read_module, refusal};
+use rpy_tree::Module;
 use std::alloc::Global;
 
 /// How many bytes a source may have.
@@ -39,11 +38,11 @@ fn write_program(alloc: Global, name: &[u8], body: &Body) -> Result<Text, NoMem>
     write_c(alloc, &file)
 }
 
-fn translate_one(alloc: Global, name: &[u8], source: &[u8]) -> Result<Text, TranslateFault>
+fn translate_module(alloc: Global, name: &[u8], tree: &Module) -> Result<Text, TranslateFault>
     requires { is_name name.now ≡ true }
-    ensures { TranslatesTo source.now result }
+    ensures { TranslatesModule tree.now result }
 {
-    match first_path(alloc, source) {
+    match first_path(alloc, tree) {
         Ok(body) => match write_program(alloc, name, &body) {
             Ok(text) => Ok(text),
             Err(NoMem) => Err(TranslateFault::NoMem),
@@ -52,27 +51,59 @@ fn translate_one(alloc: Global, name: &[u8], source: &[u8]) -> Result<Text, Tran
     }
 }
 
+fn translate_one(alloc: Global, name: &[u8], source: &Text) -> Result<Text, TranslateFault>
+    requires named { is_name name.now ≡ true }
+    requires short { length source.now ≤ 1048576 }
+    ensures { TranslatesTo source.now result }
+{
+    match read_module(alloc, source) {
+        Ok(tree) => translate_module(alloc, name, &tree),
+        Err(fault) => Err(fault),
+    }
+}
+
+/// What came of the work on a source: a status, or it is refused on a line.
+#[derive(Clone, Copy)]
+pub enum BuildWork {
+    Ended(Status),
+    Refused(u32, SourceKind),
+}
+
 #[tactic(auto, using(crate::proofs::Translation::file_named))]
-fn build<F: Files, K: Sink>(alloc: Global, file: &Text, files: &mut F, out: &mut K) -> Status
+fn build<F: Files, K: Sink>(alloc: Global, file: &Text, files: &mut F, out: &mut K) -> BuildWork
     requires { is_file file.now ≡ true }
     ensures held { F.held files.new ≡ F.held files.old }
     ensures builds { BuildsTo result file.now (filed F.held F.faults files.old files.new) (sunk K.faults K.taken out.old out.new) }
 {
     let source = match load(alloc, files, file, LIMIT) {
         Ok(source) => source,
-        Err(status) => return status,
+        Err(status) => return BuildWork::Ended(status),
     };
-    match translate_one(alloc, module_name(file.bytes()), source.bytes()) {
+    match translate_one(alloc, module_name(file.bytes()), &source) {
         Ok(text) => match put(out, text.bytes()) {
-            Ok(()) => Status::Done,
-            Err(status) => status,
+            Ok(()) => BuildWork::Ended(Status::Done),
+            Err(status) => BuildWork::Ended(status),
         },
-        Err(TranslateFault::NotYet) => Status::NotYet,
-        Err(TranslateFault::NoMem) => Status::NoMem,
+        Err(TranslateFault::Source(_, line, kind)) => BuildWork::Refused(line, kind),
+        Err(TranslateFault::NotYet) => BuildWork::Ended(Status::NotYet),
+        Err(TranslateFault::NoMem) => BuildWork::Ended(Status::NoMem),
     }
 }
 
-// Builds, and writes the line for the status.
+// Writes the line for what came of the work.
+fn say_work<E: Sink>(alloc: Global, work: BuildWork, file: &[u8], err: &mut E) -> Status
+    ensures { Said work result file.now (sunk E.faults E.taken err.old err.new) }
+{
+    match work {
+        BuildWork::Ended(status) => say(alloc, status, file, err),
+        BuildWork::Refused(line, kind) => match refusal(alloc, file, line, kind) {
+            Ok(text) => say_text(Status::NotSource, &text, err),
+            Err(NoMem) => Status::NoMem,
+        },
+    }
+}
+
+// Builds, and writes the line for it.
 fn build_and_say<F: Files, K: Sink, E: Sink>(
     alloc: Global,
     file: &Text,
@@ -85,8 +116,8 @@ fn build_and_say<F: Files, K: Sink, E: Sink>(
         (sunk K.faults K.taken out.old out.new) (sunk E.faults E.taken err.old err.new) }
     ensures held { F.held files.new ≡ F.held files.old }
 {
-    let worked = build(alloc, file, files, out);
-    say(alloc, worked, file.bytes(), err)
+    let work = build(alloc, file, files, out);
+    say_work(alloc, work, file.bytes(), err)
 }
 
 fn work<F: Files, K: Sink, E: Sink>(
@@ -107,7 +138,7 @@ fn work<F: Files, K: Sink, E: Sink>(
     match job_of(words) {
         Job::Build(file) => build_and_say(alloc, file, files, out, err),
         Job::CRun(file, asked) => crun(alloc, file, &asked, files, out, err, watch),
-        Job::Nothing => say(alloc, Status::Usage, b"", err),
+        Job::Nothing => say_work(alloc, BuildWork::Ended(Status::Usage), b"", err),
     }
 }
 
@@ -131,9 +162,22 @@ pub fn rpyc<F: Files, K: Sink, E: Sink>(
     work(alloc, words, files, out, err, watch).code()
 }
 
+/// Whether each source has at most as many bytes as one may have.
+pub fn are_short(sources: &[Text]) -> bool
+    ensures { result ≡ are_short sources.now }
+{
+    for source in sources {
+        if source.bytes().len() as u64 > LIMIT {
+            return false;
+        }
+    }
+    true
+}
+
 /// The C text of sources, each with its module's name: a translation of the program that they
-/// spell. `NotYet` exactly where they are not one text of the first path.
-#[tactic(auto, using(crate::proofs::Translation::first_named))]
+/// are. Of one source `Source` exactly where it is no module, with its line and kind, and `NotYet`
+/// exactly where that is none of the first path.
+#[tactic(auto, using(crate::proofs::Translation::first_named, crate::proofs::Translation::first_short))]
 pub fn translate(
     alloc: Global,
     sources: &Seq<Text>,
@@ -141,10 +185,11 @@ pub fn translate(
 ) -> Result<Text, TranslateFault>
     requires same { length names.now ≡ length sources.now }
     requires named { are_module_names names.now ≡ true }
+    requires short { are_short sources.now ≡ true }
     ensures { AllTranslateTo sources.now result }
 {
     match (names.as_slice(), sources.as_slice()) {
-        ([name], [source]) => translate_one(alloc, name.bytes(), source.bytes()),
+        ([name], [source]) => translate_one(alloc, name.bytes(), source),
         _ => Err(TranslateFault::NotYet),
     }
 }

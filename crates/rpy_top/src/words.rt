@@ -2,10 +2,9 @@
 ghost use Rattle.std.specs.Prelude.{◌≡◌, ◌≤◌, ◌<◌, ◌^◌, ◌+◌, ◌-◌, ◌*◌, ◌∷◌, [], length, take, drop, nat_le, if◌then◌else◌, true, Some, None, codes, IfOk, IfSome, OnOk, Ok, Err, Option, ℕ};
 ghost use Rattle.rpy_top.specs.Command as spec;
 ghost use Rattle.rpy_top.specs.Command.{AskedIs, ReadIs, command};
-ghost use Rattle.rpy_top.specs.Bytes.{among};
+ghost use Rattle.rpy_top.specs.Names.{among};
 
-use crate::cursor::{is_digit, is_letter, name_len};
-use crate::reader::is_keyword;
+use crate::names::{is_digit, is_keyword, is_letter, name_len};
 use rpy_base::{NoMem, Seq, Text};
 use std::alloc::Global;
 use thiserror::Error;

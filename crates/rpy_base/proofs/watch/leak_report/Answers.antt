@@ -1,11 +1,12 @@
-use Rattle.std.proofs.Common.{rules, ◌++◌, get_or, sym, ap, ◌∙◌}
-use Rattle.std.proofs.lemmas.List.{take_more}
-use Rattle.rpy_base.specs.Watching.{leak_line, leak_lines_of}
-use Rattle.rpy_base.proofs.Lines.{leak_lines_of-push}
+use Rattle.std.proofs.Common.{rules, ◌++◌, ◌∷◌, [], get_or, ap, ◌∙◌, false}
+use Rattle.rpy_base.specs.declared.watch.Entry.{Entry}
+use Rattle.rpy_base.specs.Watching.{leak_lines_of}
+use Rattle.rpy_base.specs.Entries.{live_blocks}
+use Rattle.rpy_base.proofs.Marking.{lines_more}
 use Rattle.rpy_base.proofs.watch.leak_report.Goals as goal
 
-pub loop-block-preserved : goal.loop-block-preserved
-loop-block-preserved c =
-    let block = get_or c.args.live.now c.loop-block.block-index (0, 0, 0) in
-    let more = take_more c.args.live.now c.loop-block.block-index (0, 0, 0) (search rules) in
-    c.in_ok-push_leak.ensures ∙ ap (λ text. text ++ leak_line block) c.loop-block.invariant ∙ sym (leak_lines_of-push _ block) ∙ ap leak_lines_of (sym more)
+pub loop-entry-preserved : goal.loop-entry-preserved
+loop-entry-preserved c =
+    let none : Entry = record { number = 0; kind = 0; cells = 0; live = false } in
+    let entry = get_or c.args.entries.now c.loop-entry.entry-index none in
+    c.in_ok-push_entry.ensures ∙ ap (λ text. text ++ leak_lines_of (live_blocks (entry ∷ []))) c.loop-entry.invariant ∙ lines_more c.args.entries.now c.loop-entry.entry-index none (search rules)

@@ -1,0 +1,4 @@
+pub mod FirstPath
+pub mod Gives
+pub mod Program
+pub mod Source
