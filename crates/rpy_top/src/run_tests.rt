@@ -70,6 +70,19 @@ impl HeapWatch for Refuses {
     }
 }
 
+// The status of a call over one C file, and what its sinks took.
+fn run_of(alloc: Global, line: &str, text: &str) -> Result<(u8, MemSink, MemSink), NoMem> {
+    let words = words_of(alloc, line)?;
+    let mut files = files_of(alloc, "c.c", text.as_bytes())?;
+    let mut out = MemSink::new(alloc);
+    let mut err = MemSink::new(alloc);
+    let tally = Box::new(alloc, Tally::new())?;
+    let leaks = Box::new(alloc, Leaks::new(alloc))?;
+    let mut watch = pair_of(alloc, tally, leaks)?;
+    let answered = rpyc(alloc, &words, &mut files, &mut out, &mut err, &mut watch);
+    Ok((answered, out, err))
+}
+
 #[test]
 fn c_files_run(rt: HostRuntime) -> Result<(), Fail> {
     let alloc = rt.alloc();
@@ -108,14 +121,7 @@ fn c_files_run(rt: HostRuntime) -> Result<(), Fail> {
         ("crun --tally c.c", HEAD, 6, "", "c.c:4: not C-sub\n"),
         ("crun d.c", ONCE, 8, "", "d.c: no such file\n"),
     ] {
-        let words = words_of(alloc, line)?;
-        let mut files = files_of(alloc, "c.c", text.as_bytes())?;
-        let mut out = MemSink::new(alloc);
-        let mut err = MemSink::new(alloc);
-        let tally = Box::new(alloc, Tally::new())?;
-        let leaks = Box::new(alloc, Leaks::new(alloc))?;
-        let mut watch = pair_of(alloc, tally, leaks)?;
-        let answered = rpyc(alloc, &words, &mut files, &mut out, &mut err, &mut watch);
+        let (answered, out, err) = run_of(alloc, line, text)?;
         assert_eq!(rt; err.taken(), said.as_bytes(), "{line:?} on {text:?}");
         assert_eq!(rt; answered, status, "{line:?} on {text:?}");
         assert_eq!(rt; out.taken(), printed.as_bytes(), "{line:?} on {text:?}");
