@@ -13,7 +13,7 @@ use Rattle.rpy_tree.specs.declared.syntax.Module.{Module}
 use Rattle.rpy_first.specs.declared.fault.SourceKind.{SourceKind}
 use Rattle.rpy_first.specs.declared.fault.SourceKind.TheVariants.{BadByte, BadIndent, OpenString, BadNumber, LimitBrackets, LimitBlocks, LimitOperators, Syntax}
 use Rattle.rpy_first.specs.declared.fault.TranslateFault.{TranslateFault}
-use Rattle.rpy_first.specs.declared.fault.TranslateFault.TheVariants.{Source, NotYet, NoMem}
+use Rattle.rpy_first.specs.declared.fault.TranslateFault.TheVariants.{Source, Name, NotYet, NoMem}
 
 abbrev pub words_of : SourceKind → List ℕ
 words_of BadByte = codes "bad byte"
@@ -25,9 +25,13 @@ words_of LimitBlocks = codes "limit blocks"
 words_of LimitOperators = codes "limit operators"
 words_of Syntax = codes "syntax"
 
+-- a line that tells where something is wrong
+abbrev pub line_at : List ℕ → ℕ → List ℕ → List ℕ
+line_at file line words = file ++ codes ":" ++ decimal line ++ codes ": " ++ words ++ codes "\n"
+
 -- what is said of a file that is refused
 abbrev pub refusal : List ℕ → ℕ → SourceKind → List ℕ
-refusal file line kind = file ++ codes ":" ++ decimal line ++ codes ": " ++ words_of kind ++ codes "\n"
+refusal file line kind = line_at file line (words_of kind)
 
 abbrev pub limit_kind : LimitKind → SourceKind
 limit_kind limit.Brackets = LimitBrackets
@@ -78,6 +82,7 @@ pub record HasModule (source : List ℕ) (m : Module) : Type 0 where
 abbrev pub ReadsModule : List ℕ → Result Module TranslateFault → Type 0
 ReadsModule source (Ok m) = HasModule source m
 ReadsModule source (Err (Source file line kind)) = (file ≡ 0) × IsRefused source line kind
+ReadsModule source (Err (Name file line kind)) = ⊥
 ReadsModule source (Err NotYet) = ⊥
 ReadsModule source (Err NoMem) = Unit {0}
 

@@ -15,12 +15,26 @@ pub enum SourceKind {
     Syntax,
 }
 
+/// Why modules make no program.
+#[derive(Clone, Copy, Debug, PartialEq, Eq)]
+pub enum NameKind {
+    Unknown,
+    Twice,
+    NoEntryPoint,
+    BadBase,
+    BadConstant,
+    NoModule,
+}
+
 /// Why sources have no translation.
 #[derive(Clone, Copy, Debug, PartialEq, Eq, Error)]
 pub enum TranslateFault {
     /// A source is no module: which source, counted from 0, the line, counted from 1, and why.
     #[error("source {0}, line {1}: {2:?}")]
     Source(u32, u32, SourceKind),
+    /// The sources are modules that make no program: which source, the line, and why.
+    #[error("source {0}, line {1}: {2:?}")]
+    Name(u32, u32, NameKind),
     /// The sources are not among those that are translated so far.
     #[error("not yet")]
     NotYet,

@@ -9,9 +9,9 @@ mod reader;
 mod source;
 
 pub use body::{Arith, Body, Line, Sum};
-pub use fault::{SourceKind, TranslateFault};
+pub use fault::{NameKind, SourceKind, TranslateFault};
 pub use reader::first_path;
-pub use source::{read_module, refusal};
+pub use source::{line_at, read_module, refusal};
 
 #[cfg(test)]
 mod show;

@@ -26,17 +26,24 @@ fn words_of(kind: SourceKind) -> &'static [u8]
     }
 }
 
-/// What is said of a file that is refused.
-pub fn refusal(alloc: Global, file: &[u8], line: u32, kind: SourceKind) -> Result<Text, NoMem>
-    ensures { IfOk result (λ text. text ≡ spec.refusal file.now line kind) }
+/// A line that tells where something is wrong.
+pub fn line_at(alloc: Global, file: &[u8], line: u32, words: &[u8]) -> Result<Text, NoMem>
+    ensures { IfOk result (λ text. text ≡ spec.line_at file.now line words.now) }
 {
     let mut text = Text::from_bytes(alloc, file)?;
     text.append(b":")?;
     text.append(udecimal(alloc, u64::from(line))?.bytes())?;
     text.append(b": ")?;
-    text.append(words_of(kind))?;
+    text.append(words)?;
     text.append(b"\n")?;
     Ok(text)
+}
+
+/// What is said of a file that is refused.
+pub fn refusal(alloc: Global, file: &[u8], line: u32, kind: SourceKind) -> Result<Text, NoMem>
+    ensures { IfOk result (λ text. text ≡ spec.refusal file.now line kind) }
+{
+    line_at(alloc, file, line, words_of(kind))
 }
 
 fn limit_kind(limit: LimitKind) -> SourceKind

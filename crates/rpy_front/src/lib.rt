@@ -1,0 +1,8 @@
+//! Sources to the program that they are, or the first cause why they are none.
+#![tactic(auto)]
+
+mod modules;
+mod program;
+
+pub use modules::read_modules;
+pub use program::{name_refusal, refused_name};

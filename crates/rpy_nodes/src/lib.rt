@@ -1,0 +1,6 @@
+//! Stub.
+#![tactic(auto)]
+
+pub mod listing;
+
+pub use listing::Named;
