@@ -2,8 +2,8 @@
 #![tactic(auto)]
 
 mod fault;
-mod resolve;
+mod program;
 
 pub use fault::{NameFault, NameRefusal};
-pub use resolve::{fault_place, resolve};
+pub use program::{fault_place, resolve};
 pub use rpy_nodes::Named;
