@@ -9,7 +9,7 @@ use rpy_tree::{NodeId, Program};
 use std::alloc::Global;
 
 pub fn resolve(_alloc: Global, modules: Seq<Named>) -> Result<Program, NameRefusal>
-    ensures { Resolves modules.now result }
+    ensures { Resolves modules result }
 {
     Err(NameRefusal { fault: NameFault::NoMem, modules })
 }
