@@ -15,7 +15,7 @@ pub data IsFault (modules : List Named) (f : NameFault) : Type 0 where
 pub data IsPlace (modules : List Named) (node file line : ℕ) : Type 0 where
   Is : modules ≡ [] → IsPlace modules node file line
 
-unfoldable pub HasFault : List Named → NameFault → Type 0
+abbrev pub HasFault : List Named → NameFault → Type 0
 HasFault modules NoMem = Unit {0}
 HasFault modules fault = IsFault modules fault
 

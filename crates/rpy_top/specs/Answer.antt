@@ -1,22 +1,28 @@
 -- When a call answers each status, and what then stands in the sinks.
-use Rattle.std.specs.Prelude.{◌≡◌, ◌⊎◌, ◌&&◌, nat_le, Bool, true, ℕ, ◌+◌, ◌<◌, ◌≤◌, List, [], ◌∷◌, ◌++◌, length, take, codes, Option, Some, None, IfSome, option_map, Result, Ok, Err}
+use Rattle.std.specs.Prelude.{◌≡◌, ◌⊎◌, nat_le, Bool, true, false, ℕ, ◌+◌, ◌<◌, ◌≤◌, List, [], ◌∷◌, ◌++◌, length, take, map, slice_get, unwrap_or, codes, Option, Some, None, IfSome, option_map, Result, Ok, Err}
 use Rattle.rpy_base.specs.Causes.{Rose}
 use Rattle.rpy_base.specs.Reading.{Disk}
 use Rattle.csub_tree.specs.Spelling.{file_text}
 use Rattle.rpy_first.specs.FirstPath.{first_path}
 use Rattle.rpy_top.specs.Lower.{lowered}
+use Rattle.rpy_first.specs.Gives.{Gives}
 use Rattle.rpy_first.specs.Program.{program_of}
 use Rattle.rpy_top.specs.Built.{Built}
 use Rattle.rpy_first.specs.declared.fault.TranslateFault.{TranslateFault}
-use Rattle.rpy_first.specs.declared.fault.TranslateFault.TheVariants.{Source as Refused, NotYet as Unready, NoMem as NoMemory}
-use Rattle.rpy_top.specs.declared.top.BuildWork.{BuildWork}
-use Rattle.rpy_top.specs.declared.top.BuildWork.TheVariants.{Ended, Refused as RefusedAt}
-use Rattle.rpy_first.specs.Source.{HasModule, IsRefused, refusal}
-use Rattle.rpy_tree.specs.declared.syntax.Module.{Module}
-use Rattle.rpy_top.specs.Command.{Brought, Building, Running as RunningFile, NotThere}
+use Rattle.rpy_first.specs.declared.fault.TranslateFault.TheVariants.{Source as Refused, Name as NoProgram, NotYet as Unready, NoMem as NoMemory}
+use Rattle.rpy_first.specs.declared.fault.NameKind.{NameKind}
+use Rattle.rpy_first.specs.Source.{refusal}
+use Rattle.rpy_nodes.specs.declared.listing.Named.{Named}
+use Rattle.rpy_names.specs.Names.{IsProgram}
+use Rattle.rpy_front.specs.Modules.{AreModules, StopsAt as IsRefusedAt}
+use Rattle.rpy_front.specs.Names.{IsMisnamed, name_refusal}
+use Rattle.rpy_tree.specs.declared.program.Program.{Program}
+use Rattle.rpy_top.specs.declared.building.BuildWork.{BuildWork}
+use Rattle.rpy_top.specs.declared.building.BuildWork.TheVariants.{Ended, AtFile, Refused as RefusedAt, Misnamed}
+use Rattle.rpy_top.specs.Command.{Brought, Building, Running as RunningFile, NotThere, module_name}
 use Rattle.rpy_first.specs.declared.body.Body.{Body}
 use Rattle.rpy_top.specs.declared.status.Status.{Status}
-use Rattle.rpy_top.specs.declared.status.Status.TheVariants.{Done, Usage, NotSource, NotC, Stuck, NoFile, NotRead, WriteFault, Raised, Failed, Running, NoMem, WorkSpent, TooLong, NotYet}
+use Rattle.rpy_top.specs.declared.status.Status.TheVariants.{Done, Usage, NotSource, NotProgram, TooMany, NotC, Stuck, NoFile, NotRead, WriteFault, Raised, Failed, Running, NoMem, WorkSpent, TooLong, NotYet}
 
 abbrev pub code : Status → ℕ
 code Done = 0
@@ -34,15 +40,12 @@ code NoMem = 13
 code WorkSpent = 14
 code TooLong = 15
 code NotYet = 16
+code NotProgram = 3
+code TooMany = 15
 
 -- how many bytes a source may have
 abbrev pub limit : ℕ
 limit = 1048576
-
--- whether each source has at most as many
-abbrev pub are_short : List (List ℕ) → Bool
-are_short [] = true
-are_short (source ∷ sources) = nat_le (length source) limit && are_short sources
 
 -- how many bytes a C file may have
 abbrev pub c_limit : ℕ
@@ -94,67 +97,128 @@ IsMissing files file = IfSome files.held (λ disk. disk file ≡ None)
 abbrev pub IsTooLong : ℕ → Filed → List ℕ → Type 0
 IsTooLong most files file = IfSome files.held (λ disk. IfSome (disk file) (λ bytes. most < length bytes))
 
+-- these are the bytes of the first files
+abbrev pub AreFirst : Filed → List (List ℕ) → List (List ℕ) → Type 0
+AreFirst files names [] = Unit {0}
+AreFirst files (name ∷ names) (bytes ∷ sources) = AreBytes limit files name bytes × AreFirst files names sources
+AreFirst files [] sources = ⊥
+
+-- and there are no further files
+abbrev pub AreSources : Filed → List (List ℕ) → List (List ℕ) → Type 0
+AreSources files names sources = AreFirst files names sources × (length sources ≡ length names)
+
+-- this holds of the file at this place, and those before it were read
+abbrev pub StopsAt : (List ℕ → Type 0) → Filed → List (List ℕ) → ℕ → Type 0
+StopsAt Why files names file = (sources : List (List ℕ)) × AreFirst files names sources × (file ≡ length sources) × ((name : List ℕ) × (slice_get names file ≡ Some name) × Why name)
+
+-- ---- translation
+
 -- the C text of a program
 abbrev pub text_of : List ℕ → Body → List ℕ
 text_of name body = file_text (lowered (name ++ codes ".entry_point") body)
 
--- the text is a translation of the program that the source's module is
-pub record Translates (source text : List ℕ) : Type 0 where
-  pub tree : Module
+-- the body of the only module, where there is one alone and it is of the first path
+abbrev pub only_body : List Named → Option Body
+only_body (m ∷ []) = first_path m.module
+only_body modules = None
+
+-- the sources are modules with these names, and these make a program
+pub record AreProgram (sources names : List (List ℕ)) (modules : List Named) : Type 0 where
+  pub are : AreModules sources names modules
+  pub program : Program
+  pub is : IsProgram modules program
+
+-- the text is a translation of the program that the sources are
+pub record Translates (sources names : List (List ℕ)) (text : List ℕ) : Type 0 where
+  pub modules : List Named
+  pub make : AreProgram sources names modules
   pub body : Body
-  pub has : HasModule source tree
-  pub is : first_path tree ≡ Some body
+  pub is : only_body modules ≡ Some body
   pub built : Built (program_of body) text
 
--- the source has a module, which is none of the first path
-pub record IsNotYet (source : List ℕ) : Type 0 where
-  pub tree : Module
-  pub has : HasModule source tree
-  pub is_none : first_path tree ≡ None
+-- the sources are a program, which is not of one module of the first path
+pub record IsNotYet (sources names : List (List ℕ)) : Type 0 where
+  pub modules : List Named
+  pub make : AreProgram sources names modules
+  pub is_none : only_body modules ≡ None
 
--- what a call that translates one module answers
-abbrev pub TranslatesModule : Module → Result (List ℕ) TranslateFault → Type 0
-TranslatesModule m (Ok text) = (body : Body) × (first_path m ≡ Some body) × Built (program_of body) text
-TranslatesModule m (Err (Refused file line kind)) = ⊥
-TranslatesModule m (Err Unready) = first_path m ≡ None
-TranslatesModule m (Err NoMemory) = Unit {0}
+-- the sources are modules, which make no program
+pub record AreNoProgram (sources names : List (List ℕ)) (file line : ℕ) (kind : NameKind) : Type 0 where
+  pub modules : List Named
+  pub are : AreModules sources names modules
+  pub misnamed : IsMisnamed modules file line kind
 
--- what a call that translates one source answers
-abbrev pub TranslatesTo : List ℕ → Result (List ℕ) TranslateFault → Type 0
-TranslatesTo source (Ok text) = Translates source text
-TranslatesTo source (Err (Refused file line kind)) = (file ≡ 0) × IsRefused source line kind
-TranslatesTo source (Err Unready) = IsNotYet source
-TranslatesTo source (Err NoMemory) = Unit {0}
+-- what functions ensure that give the only body, and write its text
+abbrev pub OnlyBody : List Named → Result Body TranslateFault → Type 0
+OnlyBody ms found = Gives (only_body ms) found
 
--- the same of several sources, of which only one alone is translated
-abbrev pub AllTranslateTo : List (List ℕ) → Result (List ℕ) TranslateFault → Type 0
-AllTranslateTo (source ∷ []) result = TranslatesTo source result
-AllTranslateTo sources (Ok text) = ⊥
-AllTranslateTo sources (Err fault) = Unit {0}
+abbrev pub TranslatesBody : List ℕ → Result Body TranslateFault → Result (List ℕ) TranslateFault → Type 0
+TranslatesBody name (Ok body) (Ok text) = text ≡ text_of name body
+TranslatesBody name (Ok body) (Err NoMemory) = Unit {0}
+TranslatesBody name (Ok body) (Err fault) = ⊥
+TranslatesBody name (Err fault) result = result ≡ Err fault
 
--- when the work on a file ends in each way
-abbrev pub BuildsTo : BuildWork → List ℕ → Filed → Sunk → Type 0
-BuildsTo (Ended Done) file files out = (bytes : List ℕ) × AreBytes limit files file bytes × ((text : List ℕ) × Translates bytes text × Took out text) × AllRead files
-BuildsTo (Ended NoFile) file files out = IsMissing files file × IsQuiet out × AllRead files
-BuildsTo (Ended NotRead) file files out = Rose files.faults_before files.faults × IsQuiet out
-BuildsTo (Ended WriteFault) file files out = (bytes : List ℕ) × AreBytes limit files file bytes × ((text : List ℕ) × Translates bytes text × TookPart out text) × AllRead files
-BuildsTo (Ended NoMem) file files out = IsQuiet out × AllRead files
-BuildsTo (Ended TooLong) file files out = IsTooLong limit files file × IsQuiet out × AllRead files
-BuildsTo (Ended NotYet) file files out = (bytes : List ℕ) × AreBytes limit files file bytes × IsNotYet bytes × IsQuiet out × AllRead files
-BuildsTo (Ended status) file files out = ⊥
-BuildsTo (RefusedAt line kind) file files out = (bytes : List ℕ) × AreBytes limit files file bytes × IsRefused bytes line kind × IsQuiet out × AllRead files
+-- what a call that translates modules answers
+abbrev pub TranslatesModules : List Named → Result (List ℕ) TranslateFault → Type 0
+TranslatesModules ms (Ok text) = ((p : Program) × IsProgram ms p) × ((body : Body) × (only_body ms ≡ Some body) × Built (program_of body) text)
+TranslatesModules ms (Err (Refused file line kind)) = ⊥
+TranslatesModules ms (Err (NoProgram file line kind)) = IsMisnamed ms file line kind
+TranslatesModules ms (Err Unready) = ((p : Program) × IsProgram ms p) × (only_body ms ≡ None)
+TranslatesModules ms (Err NoMemory) = Unit {0}
+
+-- what a call that translates sources answers
+abbrev pub TranslatesTo : List (List ℕ) → List (List ℕ) → Result (List ℕ) TranslateFault → Type 0
+TranslatesTo sources names (Ok text) = Translates sources names text
+TranslatesTo sources names (Err (Refused file line kind)) = IsRefusedAt sources names file line kind
+TranslatesTo sources names (Err (NoProgram file line kind)) = AreNoProgram sources names file line kind
+TranslatesTo sources names (Err Unready) = IsNotYet sources names
+TranslatesTo sources names (Err NoMemory) = Unit {0}
+
+-- ---- the work
+
+-- the files were read, and this holds of their bytes and the names of their modules
+abbrev pub OfSources : (List (List ℕ) → List (List ℕ) → Type 0) → List (List ℕ) → Filed → Type 0
+OfSources Holds names files = (sources : List (List ℕ)) × AreSources files names sources × Holds sources (map module_name names)
+
+-- which file is not read, and why
+abbrev pub StopsLoading : BuildWork → List (List ℕ) → Filed → Type 0
+StopsLoading (AtFile file NoFile) names files = StopsAt (IsMissing files) files names file × AllRead files
+StopsLoading (AtFile file NotRead) names files = StopsAt (λ name. Rose files.faults_before files.faults) files names file
+StopsLoading (AtFile file TooLong) names files = StopsAt (IsTooLong limit files) files names file × AllRead files
+StopsLoading (Ended NoMem) names files = AllRead files
+StopsLoading work names files = ⊥
+
+-- when the work on files ends in each way
+abbrev pub BuildsTo : BuildWork → List (List ℕ) → Filed → Sunk → Type 0
+BuildsTo (Ended Done) names files out = OfSources (λ sources modules. (text : List ℕ) × Translates sources modules text × Took out text) names files × AllRead files
+BuildsTo (Ended WriteFault) names files out = OfSources (λ sources modules. (text : List ℕ) × Translates sources modules text × TookPart out text) names files × AllRead files
+BuildsTo (Ended NoMem) names files out = StopsLoading (Ended NoMem) names files × IsQuiet out
+BuildsTo (Ended status) names files out = ⊥
+BuildsTo (AtFile file NotYet) names files out = (file ≡ 0) × OfSources IsNotYet names files × IsQuiet out × AllRead files
+BuildsTo (AtFile file status) names files out = StopsLoading (AtFile file status) names files × IsQuiet out
+BuildsTo (RefusedAt file line kind) names files out = OfSources (λ sources modules. IsRefusedAt sources modules file line kind) names files × IsQuiet out × AllRead files
+BuildsTo (Misnamed file line kind) names files out = OfSources (λ sources modules. AreNoProgram sources modules file line kind) names files × IsQuiet out × AllRead files
+
+-- at most 64 files are built
+abbrev pub Builds : Bool → BuildWork → List (List ℕ) → Filed → Sunk → Type 0
+Builds true work names files out = BuildsTo work names files out
+Builds false work names files out = (work ≡ Ended TooMany) × IsQuiet out × AllRead files
 
 -- when the work of a call ends in each way
 abbrev pub Works : BuildWork → Brought → Filed → Sunk → Type 0
 Works work NotThere files out = (work ≡ Ended Usage) × IsQuiet out × AllRead files
-Works work (Building file) files out = BuildsTo work file files out
+Works work (Building names) files out = Builds (nat_le (length names) 64) work names files out
 Works work (RunningFile file words) files out = ⊥
 
--- the first file that the words name
-abbrev pub first_file : Brought → List ℕ
-first_file NotThere = []
-first_file (Building file) = file
-first_file (RunningFile file words) = file
+-- the files that the words name
+abbrev pub files_of : Brought → List (List ℕ)
+files_of NotThere = []
+files_of (Building names) = names
+files_of (RunningFile file words) = file ∷ []
+
+-- the file at a place
+abbrev pub file_at : List (List ℕ) → ℕ → List ℕ
+file_at names file = unwrap_or (slice_get names file) []
 
 abbrev pub usage_line : List ℕ
 usage_line = codes "usage: rpy COMMAND [OPTION..] FILE.. [-- ARG..]\n"
@@ -166,6 +230,7 @@ line NoFile file = file ++ codes ": no such file\n"
 line NotRead file = file ++ codes ": not read\n"
 line TooLong file = file ++ codes ": too long\n"
 line NotYet file = file ++ codes ": not yet\n"
+line TooMany file = codes "too many files\n"
 line other file = []
 
 -- a call answers the status of its work once the line for it is written to err; else a fault of err, or want of memory
@@ -175,13 +240,15 @@ Says worked answered text err =
     ⊎ ((answered ≡ WriteFault) × TookPart err text)
     ⊎ ((answered ≡ NoMem) × IsQuiet err)
 
-abbrev pub Said : BuildWork → Status → List ℕ → Sunk → Type 0
-Said (Ended worked) answered file err = Says worked answered (line worked file) err
-Said (RefusedAt at kind) answered file err = Says NotSource answered (refusal file at kind) err
+abbrev pub Said : BuildWork → Status → List (List ℕ) → Sunk → Type 0
+Said (Ended worked) answered names err = Says worked answered (line worked []) err
+Said (AtFile file worked) answered names err = Says worked answered (line worked (file_at names file)) err
+Said (RefusedAt file at kind) answered names err = Says NotSource answered (refusal (file_at names file) at kind) err
+Said (Misnamed file at kind) answered names err = Says NotProgram answered (name_refusal (file_at names file) at kind) err
 
 -- the whole call
 abbrev pub Answers : Status → Brought → Filed → Sunk → Sunk → Type 0
-Answers answered what files out err = (work : BuildWork) × Works work what files out × Said work answered (first_file what) err
+Answers answered what files out err = (work : BuildWork) × Works work what files out × Said work answered (files_of what) err
 
 -- why a put or a read stopped, and what the sink and the files are then
 abbrev pub PutEnds : Result (Unit {0}) Status → List ℕ → Sunk → Type 0
@@ -197,3 +264,29 @@ Loads most (Err NotRead) file files = Rose files.faults_before files.faults
 Loads most (Err TooLong) file files = IsTooLong most files file × AllRead files
 Loads most (Err NoMem) file files = AllRead files
 Loads most (Err status) file files = ⊥
+
+-- what a function ensures that loads all files
+abbrev pub LoadsAll : Result (List (List ℕ)) BuildWork → List (List ℕ) → Filed → Type 0
+LoadsAll (Ok sources) names files = AreSources files names sources × AllRead files
+LoadsAll (Err work) names files = StopsLoading work names files
+
+-- what the status of one file is for the work on all
+abbrev pub stopped : ℕ → Status → BuildWork
+stopped file NoMem = Ended NoMem
+stopped file status = AtFile file status
+
+-- what came of sources that have no text
+abbrev pub untranslated : TranslateFault → BuildWork
+untranslated (Refused file line kind) = RefusedAt file line kind
+untranslated (NoProgram file line kind) = Misnamed file line kind
+untranslated Unready = AtFile 0 NotYet
+untranslated NoMemory = Ended NoMem
+
+abbrev pub TranslatesFiles : List (List ℕ) → List (List ℕ) → Result (List ℕ) BuildWork → Type 0
+TranslatesFiles sources names (Ok text) = Translates sources (map module_name names) text
+TranslatesFiles sources names (Err work) = (work ≡ Ended NoMem) ⊎ ((fault : TranslateFault) × (work ≡ untranslated fault) × TranslatesTo sources (map module_name names) (Err fault))
+
+-- a line is said, if there was memory for it
+abbrev pub SaysLine : {N : Type 0} → Status → Status → Result (List ℕ) N → Sunk → Type 0
+SaysLine status answered (Ok text) err = Says status answered text err
+SaysLine status answered (Err n) err = Says status answered [] err

@@ -277,13 +277,9 @@ RunIs RunBad what = what ≡ None
 -- ---- the commands that are there so far; other words are as words that fit no command
 
 pub data Brought : Type 0 where
-  Building : (file : List ℕ) → Brought
+  Building : (files : List (List ℕ)) → Brought
   Running : (file : List ℕ) → (words : RunWords) → Brought
   NotThere : Brought
-
-abbrev pub built_file : List (List ℕ) → Brought
-built_file (file ∷ []) = Building file
-built_file other = NotThere
 
 -- a run of the one C file that its words name
 abbrev pub run_file : List (List ℕ) → RunWords → Brought
@@ -291,11 +287,11 @@ run_file (file ∷ []) words = Running file words
 run_file other words = NotThere
 
 abbrev pub brought : Option Command → Brought
-brought (Some (Build files)) = built_file files
+brought (Some (Build files)) = Building files
 brought (Some (CRun words)) = run_file words.files words
 brought other = NotThere
 
 abbrev pub JobIs : Job → Brought → Type 0
-JobIs (JobBuild file) what = (what ≡ Building file.now) × (is_file file.now ≡ true)
+JobIs (JobBuild files) what = (what ≡ Building files.now) × (are_sources files.now ≡ true)
 JobIs (JobCRun file asked) what = what ≡ Running file.now (words_of asked)
 JobIs NoJob what = what ≡ NotThere

@@ -158,11 +158,11 @@ AnswersRun answered file words files out err seen seen_now =
 -- the whole call, with the watchers before and after it
 abbrev pub AnswersCall : Status → Brought → Filed → Sunk → Sunk → List Seen → List Seen → Type 0
 AnswersCall answered (RunningFile file words) files out err seen seen_now = AnswersRun answered file words files out err seen seen_now
-AnswersCall answered (Building file) files out err seen seen_now = Answers answered (Building file) files out err
+AnswersCall answered (Building names) files out err seen seen_now = Answers answered (Building names) files out err
 AnswersCall answered NotThere files out err seen seen_now = Answers answered NotThere files out err
 
 -- watchers that only a run may change
 abbrev pub AreLeft : {W : Type 0} → Brought → List W → List W → Type 0
 AreLeft (RunningFile file words) old new = Unit {0}
-AreLeft (Building file) old new = new ≡ old
+AreLeft (Building names) old new = new ≡ old
 AreLeft NotThere old new = new ≡ old

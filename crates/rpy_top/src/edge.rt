@@ -54,8 +54,10 @@ fn line_of(alloc: Global, status: Status, file: &[u8]) -> Result<Text, NoMem>
         Status::NotRead => joined(alloc, file, b": not read\n"),
         Status::TooLong => joined(alloc, file, b": too long\n"),
         Status::NotYet => joined(alloc, file, b": not yet\n"),
+        Status::TooMany => Text::from_bytes(alloc, b"too many files\n"),
         Status::Done
         | Status::NotSource
+        | Status::NotProgram
         | Status::NotC
         | Status::Stuck
         | Status::WriteFault

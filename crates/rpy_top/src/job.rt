@@ -9,20 +9,10 @@ use rpy_base::Text;
 /// What there is to do for a command that is there.
 #[derive(Clone, Copy)]
 pub enum Job<'a> {
-    Build(&'a Text),
+    Build(&'a [Text]),
     /// The C file, and the words of its run.
     CRun(&'a Text, RunAsked<'a>),
     Nothing,
-}
-
-fn build_of(files: &[Text]) -> Job<'_>
-    requires { spec.are_sources files.now ≡ true }
-    ensures { JobIs result (spec.built_file files.now) }
-{
-    match files {
-        [file] => Job::Build(file),
-        _ => Job::Nothing,
-    }
 }
 
 fn c_run_of(asked: RunAsked<'_>) -> Job<'_>
@@ -39,7 +29,7 @@ pub fn job_of(words: &[Text]) -> Job<'_>
     ensures { JobIs result (brought (command words.now)) }
 {
     match what_words_ask(words) {
-        Asked::Build(files) => build_of(files),
+        Asked::Build(files) => Job::Build(files),
         Asked::Check(_) => Job::Nothing,
         Asked::Annotate(_) => Job::Nothing,
         Asked::Flow(_) => Job::Nothing,

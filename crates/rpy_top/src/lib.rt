@@ -1,6 +1,7 @@
 //! The top call: words to a status, with files read and sinks written.
 #![tactic(auto)]
 
+mod building;
 mod crun;
 mod edge;
 mod job;
@@ -8,11 +9,14 @@ mod lower;
 mod names;
 mod status;
 mod top;
+mod translation;
 mod words;
 
 pub use crun::C_LIMIT;
-pub use rpy_first::{SourceKind, TranslateFault};
-pub use top::{LIMIT, are_short, rpyc, translate};
+pub use building::MOST_FILES;
+pub use rpy_first::{NameKind, SourceKind, TranslateFault};
+pub use top::{rpyc, translate};
+pub use translation::{LIMIT, are_short};
 pub use words::{Command, RunWords, WordsFault, are_module_names, read_words};
 
 #[cfg(test)]

@@ -7,6 +7,7 @@ pub enum Status {
     Done,
     Usage,
     NotSource,
+    NotProgram,
     NotC,
     Stuck,
     NoFile,
@@ -18,6 +19,7 @@ pub enum Status {
     NoMem,
     WorkSpent,
     TooLong,
+    TooMany,
     NotYet,
 }
 
@@ -30,6 +32,7 @@ impl Status {
             Status::Done => 0,
             Status::Usage => 1,
             Status::NotSource => 2,
+            Status::NotProgram => 3,
             Status::NotC => 6,
             Status::Stuck => 7,
             Status::NoFile | Status::NotRead => 8,
@@ -39,7 +42,7 @@ impl Status {
             Status::Running => 12,
             Status::NoMem => 13,
             Status::WorkSpent => 14,
-            Status::TooLong => 15,
+            Status::TooLong | Status::TooMany => 15,
             Status::NotYet => 16,
         }
     }

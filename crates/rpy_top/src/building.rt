@@ -1,0 +1,159 @@
+// The work of `build`: files to the C text of their program, or what stops it.
+ghost use Rattle.std.specs.Prelude.{◌≡◌, ◌≤◌, ◌<◌, length, nat_le, true};
+ghost use Rattle.rpy_top.specs.Command.{are_sources};
+ghost use Rattle.rpy_front.specs.Modules.{are_short};
+ghost use Rattle.rpy_top.specs.Answer as spec;
+ghost use Rattle.rpy_top.specs.Answer.{sunk, filed, Builds, BuildsTo, LoadsAll, TranslatesFiles, Said, SaysLine};
+
+use crate::edge::{load, put, say, say_text};
+use crate::status::Status;
+use crate::translation::{LIMIT, names_of, translate_sources};
+use rpy_base::{Files, NoMem, Seq, Sink, Text};
+use rpy_first::{NameKind, SourceKind, TranslateFault, refusal};
+use rpy_front::name_refusal;
+use std::alloc::Global;
+
+/// How many files a program may have.
+pub const MOST_FILES: usize = 64;
+
+/// What came of the work on files.
+#[derive(Clone, Copy)]
+pub enum BuildWork {
+    Ended(Status),
+    /// The file at this place stopped it.
+    AtFile(u32, Status),
+    /// The file at this place is no module.
+    Refused(u32, u32, SourceKind),
+    /// The modules make no program, and this file tells why.
+    Misnamed(u32, u32, NameKind),
+}
+
+// What the status of one file is for the work on all.
+fn stopped(file: usize, status: Status) -> BuildWork
+    requires { file ≤ 64 }
+    ensures { result ≡ spec.stopped file status }
+{
+    match status {
+        Status::NoMem => BuildWork::Ended(Status::NoMem),
+        _ => BuildWork::AtFile(file as u32, status),
+    }
+}
+
+// The bytes of files.
+fn load_all<F: Files>(alloc: Global, files: &mut F, names: &[Text]) -> Result<Seq<Text>, BuildWork>
+    requires few { length names.now ≤ 64 }
+    ensures held { F.held files.new ≡ F.held files.old }
+    ensures loads { LoadsAll result names.now (filed F.held F.faults files.old files.new) }
+{
+    let mut sources = Seq::new(alloc);
+    for (file, name) in names.iter().enumerate() {
+        match load(alloc, files, name, LIMIT) {
+            Ok(source) => match sources.push(source) {
+                Ok(()) => {}
+                Err(NoMem) => return Err(BuildWork::Ended(Status::NoMem)),
+            },
+            Err(status) => return Err(stopped(file, status)),
+        }
+    }
+    Ok(sources)
+}
+
+// What came of sources that have no text.
+fn untranslated(fault: TranslateFault) -> BuildWork
+    ensures { result ≡ spec.untranslated fault }
+{
+    match fault {
+        TranslateFault::Source(file, line, kind) => BuildWork::Refused(file, line, kind),
+        TranslateFault::Name(file, line, kind) => BuildWork::Misnamed(file, line, kind),
+        TranslateFault::NotYet => BuildWork::AtFile(0, Status::NotYet),
+        TranslateFault::NoMem => BuildWork::Ended(Status::NoMem),
+    }
+}
+
+// The C text of the program that sources are, which the names of their files name.
+fn translate_files(alloc: Global, files: &[Text], sources: &[Text]) -> Result<Text, BuildWork>
+    requires named { are_sources files.now ≡ true }
+    requires few { length files.now ≤ 64 }
+    requires same { length sources.now ≡ length files.now }
+    requires short { are_short sources.now ≡ true }
+    ensures { TranslatesFiles sources.now files.now result }
+{
+    let names = match names_of(alloc, files) {
+        Ok(names) => names,
+        Err(NoMem) => return Err(BuildWork::Ended(Status::NoMem)),
+    };
+    match translate_sources(alloc, sources, &names) {
+        Ok(text) => Ok(text),
+        Err(fault) => Err(untranslated(fault)),
+    }
+}
+
+fn build_few<F: Files, K: Sink>(alloc: Global, names: &[Text], files: &mut F, out: &mut K) -> BuildWork
+    requires named { are_sources names.now ≡ true }
+    requires few { length names.now ≤ 64 }
+    ensures held { F.held files.new ≡ F.held files.old }
+    ensures builds { BuildsTo result names.now (filed F.held F.faults files.old files.new) (sunk K.faults K.taken out.old out.new) }
+{
+    let sources = match load_all(alloc, files, names) {
+        Ok(sources) => sources,
+        Err(work) => return work,
+    };
+    match translate_files(alloc, names, sources.as_slice()) {
+        Ok(text) => match put(out, text.bytes()) {
+            Ok(()) => BuildWork::Ended(Status::Done),
+            Err(status) => BuildWork::Ended(status),
+        },
+        Err(work) => work,
+    }
+}
+
+/// The work on files, of which there may be 64.
+pub fn build<F: Files, K: Sink>(alloc: Global, names: &[Text], files: &mut F, out: &mut K) -> BuildWork
+    requires { are_sources names.now ≡ true }
+    ensures held { F.held files.new ≡ F.held files.old }
+    ensures builds { Builds (nat_le (length names.now) 64) result names.now (filed F.held F.faults files.old files.new) (sunk K.faults K.taken out.old out.new) }
+{
+    if names.len() <= MOST_FILES {
+        build_few(alloc, names, files, out)
+    } else {
+        BuildWork::Ended(Status::TooMany)
+    }
+}
+
+// The name of the file at a place.
+fn file_at(names: &[Text], file: u32) -> &[u8]
+    ensures { result.now ≡ spec.file_at names.now file }
+{
+    match names.get(file as usize) {
+        Some(name) => name.bytes(),
+        None => b"",
+    }
+}
+
+// Writes a line, if there was memory for it.
+fn say_line<E: Sink>(status: Status, text: Result<Text, NoMem>, err: &mut E) -> Status
+    ensures { SaysLine status result text (sunk E.faults E.taken err.old err.new) }
+{
+    match text {
+        Ok(text) => say_text(status, &text, err),
+        Err(NoMem) => Status::NoMem,
+    }
+}
+
+/// Writes the line for what came of the work.
+pub fn say_work<E: Sink>(alloc: Global, work: BuildWork, names: &[Text], err: &mut E) -> Status
+    ensures { Said work result names.now (sunk E.faults E.taken err.old err.new) }
+{
+    match work {
+        BuildWork::Ended(status) => say(alloc, status, b"", err),
+        BuildWork::AtFile(file, status) => say(alloc, status, file_at(names, file), err),
+        BuildWork::Refused(file, line, kind) => {
+            let text = refusal(alloc, file_at(names, file), line, kind);
+            say_line(Status::NotSource, text, err)
+        }
+        BuildWork::Misnamed(file, line, kind) => {
+            let text = name_refusal(alloc, file_at(names, file), line, kind);
+            say_line(Status::NotProgram, text, err)
+        }
+    }
+}
