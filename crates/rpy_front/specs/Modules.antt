@@ -44,12 +44,15 @@ ReadsNamed source name (Err NotYet) = ⊥
 ReadsNamed source name (Err NoMem) = Unit {0}
 
 -- and what one does that reads all of them
+abbrev pub StopsBy : List (List ℕ) → List (List ℕ) → TranslateFault → Type 0
+StopsBy sources names (Source file line kind) = StopsAt sources names file line kind
+StopsBy sources names (Name file line kind) = ⊥
+StopsBy sources names NotYet = ⊥
+StopsBy sources names NoMem = Unit {0}
+
 abbrev pub ReadsModules : List (List ℕ) → List (List ℕ) → Result (List Named) TranslateFault → Type 0
 ReadsModules sources names (Ok ms) = AreModules sources names ms
-ReadsModules sources names (Err (Source file line kind)) = StopsAt sources names file line kind
-ReadsModules sources names (Err (Name file line kind)) = ⊥
-ReadsModules sources names (Err NotYet) = ⊥
-ReadsModules sources names (Err NoMem) = Unit {0}
+ReadsModules sources names (Err fault) = StopsBy sources names fault
 
 -- the fault of the source at a place
 abbrev pub at_file : ℕ → TranslateFault → TranslateFault

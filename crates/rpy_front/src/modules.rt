@@ -1,6 +1,6 @@
 // The modules of sources.
-ghost use Rattle.std.specs.Prelude.{◌≡◌, ◌≤◌, length, true};
-ghost use Rattle.rpy_front.specs.Modules.{are_short, ReadsNamed, ReadsModules, at_file};
+ghost use Rattle.std.specs.Prelude.{◌≡◌, ◌≤◌, ◌+◌, length, slice_get, true, Some, OnOk, IfErr};
+ghost use Rattle.rpy_front.specs.Modules.{are_short, AreFirst, ReadsNamed, ReadsModules, StopsBy, at_file};
 
 use rpy_base::{Seq, Text};
 use rpy_first::{TranslateFault, read_module};
@@ -32,6 +32,30 @@ fn at_file(file: usize, fault: TranslateFault) -> TranslateFault
     }
 }
 
+// The module of one more source.
+#[tactic(auto, using(crate::proofs::Further::further, crate::proofs::Further::short_at))]
+fn read_next(
+    alloc: Global,
+    source: &Text,
+    name: &Text,
+    modules: &mut Seq<Named>,
+    sources: &[Text],
+    names: &[Text],
+) -> Result<(), TranslateFault>
+    requires short { are_short sources.now ≡ true }
+    requires source { slice_get sources.now (length modules.old) ≡ Some source.now }
+    requires name { slice_get names.now (length modules.old) ≡ Some name.now }
+    requires few { length modules.old ≤ 64 }
+    requires first { AreFirst sources.now names.now modules.old }
+    ensures next { OnOk result ((length modules.new ≡ length modules.old + 1) × AreFirst sources.now names.now modules.new) }
+    ensures stops { IfErr result (λ fault. StopsBy sources.now names.now fault) }
+{
+    match read_named(alloc, source, name) {
+        Ok(named) => Ok(modules.push(named)?),
+        Err(fault) => Err(at_file(modules.len(), fault)),
+    }
+}
+
 /// The modules that sources are, each with its name, or the first source that is none.
 pub fn read_modules(
     alloc: Global,
@@ -44,11 +68,8 @@ pub fn read_modules(
     ensures { ReadsModules sources.now names.now result }
 {
     let mut modules = Seq::new(alloc);
-    for (file, source) in sources.iter().enumerate() {
-        match read_named(alloc, source, &names[file]) {
-            Ok(named) => modules.push(named)?,
-            Err(fault) => return Err(at_file(file, fault)),
-        }
+    while let (Some(source), Some(name)) = (sources.get(modules.len()), names.get(modules.len())) {
+        read_next(alloc, source, name, &mut modules, sources, names)?;
     }
     Ok(modules)
 }

@@ -1,22 +1,23 @@
 -- The text of a first-path source is a translation of its program.
 use Rattle.std.proofs.Common.{◌≡◌, ℕ, zero, suc, ◌+◌, ◌<◌, ◌≤◌, ◌⊎◌, Bool, true, false, cond, List, [], ◌∷◌, ◌++◌, length, get_or, Option, Some, None, Result, Ok, Err, codes, refl, sym, ap, subst, ◌∙◌, arith, inl, inr}
-use Rattle.std.specs.Prelude.{◌&&◌, ◌||◌, ◌==◌, not, nat_le}
+use Rattle.std.specs.Prelude.{◌&&◌, ◌||◌, ◌==◌, not, nat_le, map}
 use Rattle.std.proofs.lemmas.Bool.Decides.{nat_tests}
 use Rattle.csub_tree.specs.Checked as checked
 use Rattle.csub_tree.specs.Spelling.{file_text}
 use Rattle.rpy_top.specs.Names.{is_name_byte, name_len, is_keyword}
-use Rattle.rpy_top.specs.Command.{is_name, begins_with_letter, is_file, begins_as_file, is_module_name, are_module_names, module_name, are_sources, names_module, built_file, Building}
+use Rattle.rpy_top.specs.Command.{is_name, begins_with_letter, is_file, begins_as_file, is_module_name, are_module_names, module_name, are_sources, are_files, names_module}
 use Rattle.rpy_tree.specs.declared.syntax.Module.{Module}
 use Rattle.rpy_first.specs.FirstPath.{first_path, if_bound, members_body}
 use Rattle.rpy_first.specs.Program.{is_bound, program_of}
 use Rattle.rpy_top.specs.Lower.{lowered}
 use Rattle.rpy_top.specs.Built.{Built}
-use Rattle.rpy_first.specs.Source.{HasModule}
+use Rattle.rpy_nodes.specs.declared.listing.Named.{Named}
+use Rattle.rpy_front.specs.Modules.{AreModules}
 use Rattle.rpy_first.specs.declared.fault.TranslateFault.{TranslateFault}
-use Rattle.rpy_first.specs.declared.fault.TranslateFault.TheVariants.{Source, NotYet, NoMem}
-use Rattle.rpy_top.specs.Answer.{are_short, text_of, TranslatesModule, TranslatesTo}
+use Rattle.rpy_first.specs.declared.fault.TranslateFault.TheVariants.{Source, Name, NotYet, NoMem}
+use Rattle.rpy_top.specs.Answer.{text_of, only_body, TranslatesModules, TranslatesTo}
 use Rattle.rpy_first.specs.declared.body.Body.{Body}
-use Rattle.rpy_top.proofs.Abstract.{and_left, and_right, eq_of, le_of}
+use Rattle.rpy_top.proofs.Abstract.{and_left, and_right, eq_of}
 use Rattle.rpy_top.proofs.Rules.{and_both, keeps_rules}
 use Rattle.rpy_top.proofs.Whole.{meets_always}
 
@@ -61,31 +62,39 @@ built name m body text named is_path is = record {
   meets = λ args steps. meets_always args (name ++ codes ".entry_point") body (bound_of (members_body m.members) body is_path) steps;
 }
 
--- what becomes of a source is what becomes of its module
-pub translated : (source : List ℕ) (m : Module) (r : Result (List ℕ) TranslateFault) → HasModule source m → TranslatesModule m r → TranslatesTo source r
-translated source m (Ok text) h t = record { tree = m; body = t.0; has = h; is = t.1; built = t.2 }
-translated source m (Err (Source file line kind)) h t = absurd t
-translated source m (Err NotYet) h t = record { tree = m; has = h; is_none = t }
-translated source m (Err NoMem) h t = tt
+pub built_only : (name : List ℕ) (ms : List Named) (body : Body) (text : List ℕ) → is_name name ≡ true → only_body ms ≡ Some body → text ≡ text_of name body → Built (program_of body) text
+built_only name [] body text named is_path is = absurd (none_some body is_path)
+built_only name (m ∷ []) body text named is_path is = built name m.module body text named is_path is
+built_only name (m ∷ n ∷ ms) body text named is_path is = absurd (none_some body is_path)
+
+-- what becomes of sources is what becomes of their modules
+pub translated : (sources names : List (List ℕ)) (ms : List Named) (r : Result (List ℕ) TranslateFault) → AreModules sources names ms → TranslatesModules ms r → TranslatesTo sources names r
+translated sources names ms (Ok text) are t = record { modules = ms; make = record { are = are; program = t.0.0; is = t.0.1 }; body = t.1.0; is = t.1.1; built = t.1.2 }
+translated sources names ms (Err (Source file line kind)) are t = absurd t
+translated sources names ms (Err (Name file line kind)) are t = record { modules = ms; are = are; misnamed = t }
+translated sources names ms (Err NotYet) are t = record { modules = ms; make = record { are = are; program = t.0.0; is = t.0.1 }; is_none = t.1 }
+translated sources names ms (Err NoMem) are t = tt
 
 pub module_named : (name : List ℕ) → is_module_name name ≡ true → is_name name ≡ true
 module_named name h = and_left (is_name name) _ (and_left (is_name name && not (is_keyword name)) _ h)
 
--- the module's name of a file is a name
-pub file_named : (word : List ℕ) → is_file word ≡ true → is_name (module_name word) ≡ true
-file_named word h = module_named (module_name word) (and_right (begins_as_file word) _ h)
-
 pub first_named : (name : List ℕ) (names : List (List ℕ)) → are_module_names (name ∷ names) ≡ true → is_name name ≡ true
 first_named name names h = module_named name (and_left (is_module_name name) _ h)
 
-pub first_short : (source : List ℕ) (sources : List (List ℕ)) → are_short (source ∷ sources) ≡ true → length source ≤ 1048576
-first_short source sources h = le_of (length source) 1048576 (and_left (nat_le (length source) 1048576) _ h)
+-- the names of files of modules are names of modules
+file_named : (file : List ℕ) → is_file file ≡ true → is_module_name (module_name file) ≡ true
+file_named file h = and_right (begins_as_file file) _ h
 
--- the one source file that there is
-pub one_file : (files : List (List ℕ)) (file : List ℕ) → length files < 2 → 0 < length files → file ≡ get_or files 0 file → are_sources files ≡ true
-    → (built_file files ≡ Building file) × (is_file file ≡ true)
-one_file [] file few some at h = absurd (omega arith)
-one_file (f ∷ []) file few some at h =
-    let named : is_file f ≡ true = and_left (is_file f) _ (and_left (is_file f && not (names_module (module_name f) [])) _ h) in
-    (ap Building (sym at), ap is_file at ∙ named)
-one_file (f ∷ g ∷ files) file few some at h = absurd (omega arith)
+pub files_named : (files : List (List ℕ)) → are_files files ≡ true → are_module_names (map module_name files) ≡ true
+files_named [] h = refl
+files_named (f ∷ files) h =
+    let first : (is_file f && not (names_module (module_name f) files)) ≡ true = and_left (is_file f && not (names_module (module_name f) files)) _ h in
+    and_both _ _ (file_named f (and_left (is_file f) _ first)) (files_named files (and_right (is_file f && not (names_module (module_name f) files)) _ h))
+
+pub sources_named : (files : List (List ℕ)) → are_sources files ≡ true → are_module_names (map module_name files) ≡ true
+sources_named [] h = refl
+sources_named (f ∷ files) h = files_named (f ∷ files) h
+
+pub some_sources : (files : List (List ℕ)) → are_sources files ≡ true → 0 < length files
+some_sources [] h = absurd cc
+some_sources (f ∷ files) h = omega arith

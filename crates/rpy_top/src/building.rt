@@ -7,7 +7,7 @@ ghost use Rattle.rpy_top.specs.Answer.{sunk, filed, Builds, BuildsTo, LoadsAll, 
 
 use crate::edge::{load, put, say, say_text};
 use crate::status::Status;
-use crate::translation::{LIMIT, names_of, translate_sources};
+use crate::sources::{LIMIT, names_of, translate_sources};
 use rpy_base::{Files, NoMem, Seq, Sink, Text};
 use rpy_first::{NameKind, SourceKind, TranslateFault, refusal};
 use rpy_front::name_refusal;
@@ -71,6 +71,7 @@ fn untranslated(fault: TranslateFault) -> BuildWork
 }
 
 // The C text of the program that sources are, which the names of their files name.
+#[tactic(auto, using(crate::proofs::Translation::sources_named, crate::proofs::Translation::some_sources))]
 fn translate_files(alloc: Global, files: &[Text], sources: &[Text]) -> Result<Text, BuildWork>
     requires named { are_sources files.now ≡ true }
     requires few { length files.now ≤ 64 }

@@ -7,16 +7,16 @@ mod edge;
 mod job;
 mod lower;
 mod names;
+mod sources;
 mod status;
 mod top;
-mod translation;
 mod words;
 
 pub use crun::C_LIMIT;
 pub use building::MOST_FILES;
 pub use rpy_first::{NameKind, SourceKind, TranslateFault};
 pub use top::{rpyc, translate};
-pub use translation::{LIMIT, are_short};
+pub use sources::{LIMIT, are_short};
 pub use words::{Command, RunWords, WordsFault, are_module_names, read_words};
 
 #[cfg(test)]

@@ -11,7 +11,7 @@ use crate::building::{BuildWork, build, say_work};
 use crate::crun::crun;
 use crate::job::{Job, job_of};
 use crate::status::Status;
-use crate::translation::translate_sources;
+use crate::sources::translate_sources;
 use rpy_base::{Files, HeapWatch, Seq, Sink, Text};
 use rpy_first::TranslateFault;
 use std::alloc::Global;

@@ -55,6 +55,7 @@ fn translate_body(
 }
 
 // The C text of modules, the first of which has this name.
+#[tactic(auto, using(crate::proofs::Translation::built_only))]
 fn translate_modules(
     alloc: Global,
     name: &[u8],
@@ -71,6 +72,7 @@ fn translate_modules(
 }
 
 /// The C text of sources, each with its module's name.
+#[tactic(auto, using(crate::proofs::Translation::first_named, crate::proofs::Translation::translated))]
 pub fn translate_sources(
     alloc: Global,
     sources: &[Text],

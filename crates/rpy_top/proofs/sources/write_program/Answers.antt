@@ -2,7 +2,7 @@ use Rattle.std.proofs.Common.{ap, ◌∙◌}
 use Rattle.csub_tree.specs.Spelling.{file_text}
 use Rattle.rpy_top.specs.Lower.{lowered}
 use Rattle.rpy_top.proofs.Read.{known_as}
-use Rattle.rpy_top.proofs.translation.write_program.Goals as goal
+use Rattle.rpy_top.proofs.sources.write_program.Goals as goal
 
 pub returns : goal.returns
 returns c =
