@@ -1,6 +1,0 @@
-//! Stub.
-#![tactic(auto)]
-
-pub mod listing;
-
-pub use listing::Named;
