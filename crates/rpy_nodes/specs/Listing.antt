@@ -136,3 +136,7 @@ list_members file place (m ∷ ms) u = list_members file (place + 1) ms (list_wh
 abbrev pub list_modules : ℕ → List Named → Units → Units
 list_modules file [] u = u
 list_modules file (m ∷ ms) u = list_modules (file + 1) ms (list_members file 0 m.module.members u)
+
+-- the numbers of the modules' own names
+abbrev pub module_names : List Named → Walk → List ℕ × Walk
+module_names ms w = numbers (map (λ m. m.name) ms) w

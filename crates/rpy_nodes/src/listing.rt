@@ -1,5 +1,5 @@
 // What the modules of a program say, one after the other.
-ghost use Rattle.std.specs.Prelude.{◌≡◌, IfOk, OnOk};
+ghost use Rattle.std.specs.Prelude.{◌≡◌, [], map, IfOk, OnOk};
 ghost use Rattle.rpy_nodes.specs.Listing as spec;
 
 use crate::member::list_members;
@@ -36,7 +36,10 @@ fn start(alloc: Global) -> Result<Walk, NoMem> {
     })
 }
 
-fn module_names(alloc: Global, walk: &mut Walk, modules: &[Named]) -> Result<Seq<NameId>, NoMem> {
+fn module_names(alloc: Global, walk: &mut Walk, modules: &[Named]) -> Result<Seq<NameId>, NoMem>
+    ensures value { IfOk result (λ v. v ≡ (spec.module_names modules.now walk.old).0) }
+    ensures walk { OnOk result (walk.new ≡ (spec.module_names modules.now walk.old).1) }
+{
     let mut names = Seq::new(alloc);
     for of in modules {
         names.push(walk.number(alloc, &of.name)?)?;
@@ -44,7 +47,10 @@ fn module_names(alloc: Global, walk: &mut Walk, modules: &[Named]) -> Result<Seq
     Ok(names)
 }
 
-fn list_modules(alloc: Global, walk: &mut Walk, modules: &[Named]) -> Result<Seq<Unit>, NoMem> {
+fn list_modules(alloc: Global, walk: &mut Walk, modules: &[Named]) -> Result<Seq<Unit>, NoMem>
+    ensures units { IfOk result (λ v. v ≡ (spec.list_modules 0 modules.now ([], walk.old)).0) }
+    ensures walk { OnOk result (walk.new ≡ (spec.list_modules 0 modules.now ([], walk.old)).1) }
+{
     let mut units = Seq::new(alloc);
     for (file, of) in modules.iter().enumerate() {
         list_members(alloc, walk, &mut units, file, of.module.members.as_slice())?;

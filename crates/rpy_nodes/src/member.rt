@@ -15,7 +15,10 @@ use rpy_tree::{ClassDef, Expr, Function, Member, NodeId, Param};
 use std::alloc::Global;
 
 // The numbers of names.
-fn numbers(alloc: Global, walk: &mut Walk, names: &[Text]) -> Result<Seq<NameId>, NoMem> {
+fn numbers(alloc: Global, walk: &mut Walk, names: &[Text]) -> Result<Seq<NameId>, NoMem>
+    ensures value { IfOk result (λ v. v ≡ (spec.numbers names.now walk.old).0) }
+    ensures walk { OnOk result (walk.new ≡ (spec.numbers names.now walk.old).1) }
+{
     let mut numbers = Seq::new(alloc);
     for name in names {
         numbers.push(walk.number(alloc, name)?)?;
@@ -23,11 +26,10 @@ fn numbers(alloc: Global, walk: &mut Walk, names: &[Text]) -> Result<Seq<NameId>
     Ok(numbers)
 }
 
-fn default_of(
-    alloc: Global,
-    walk: &mut Walk,
-    e: &Option<Expr>,
-) -> Result<Option<Seq<Event>>, NoMem> {
+fn default_of(alloc: Global, walk: &mut Walk, e: &Option<Expr>) -> Result<Option<Seq<Event>>, NoMem>
+    ensures value { IfOk result (λ v. v ≡ (spec.default_of e.now walk.old).0) }
+    ensures walk { OnOk result (walk.new ≡ (spec.default_of e.now walk.old).1) }
+{
     match e {
         None => Ok(None),
         Some(e) => {
@@ -37,7 +39,10 @@ fn default_of(
     }
 }
 
-fn parameter(alloc: Global, walk: &mut Walk, param: &Param) -> Result<Parameter, NoMem> {
+fn parameter(alloc: Global, walk: &mut Walk, param: &Param) -> Result<Parameter, NoMem>
+    ensures value { IfOk result (λ v. v ≡ (spec.parameter param.now walk.old).0) }
+    ensures walk { OnOk result (walk.new ≡ (spec.parameter param.now walk.old).1) }
+{
     let node = walk.skip()?;
     let name = walk.number(alloc, &param.name)?;
     let default = default_of(alloc, walk, &param.default)?;
@@ -48,7 +53,10 @@ fn parameter(alloc: Global, walk: &mut Walk, param: &Param) -> Result<Parameter,
     })
 }
 
-fn parameters(alloc: Global, walk: &mut Walk, params: &[Param]) -> Result<Seq<Parameter>, NoMem> {
+fn parameters(alloc: Global, walk: &mut Walk, params: &[Param]) -> Result<Seq<Parameter>, NoMem>
+    ensures value { IfOk result (λ v. v ≡ (spec.parameters params.now walk.old).0) }
+    ensures walk { OnOk result (walk.new ≡ (spec.parameters params.now walk.old).1) }
+{
     let mut parameters = Seq::new(alloc);
     for param in params {
         parameters.push(parameter(alloc, walk, param)?)?;
@@ -57,7 +65,10 @@ fn parameters(alloc: Global, walk: &mut Walk, params: &[Param]) -> Result<Seq<Pa
 }
 
 // A member that is no class, and its node.
-fn function(alloc: Global, walk: &mut Walk, of: &Function) -> Result<(NodeId, What), NoMem> {
+fn function(alloc: Global, walk: &mut Walk, of: &Function) -> Result<(NodeId, What), NoMem>
+    ensures value { IfOk result (λ v. v ≡ (spec.function of.now walk.old).0) }
+    ensures walk { OnOk result (walk.new ≡ (spec.function of.now walk.old).1) }
+{
     let node = walk.skip()?;
     let name = walk.number(alloc, &of.name)?;
     let parameters = parameters(alloc, walk, of.params.as_slice())?;
@@ -66,12 +77,10 @@ fn function(alloc: Global, walk: &mut Walk, of: &Function) -> Result<(NodeId, Wh
     Ok((node, What::Def(name, parameters, of.star, body)))
 }
 
-fn constant(
-    alloc: Global,
-    walk: &mut Walk,
-    name: &Text,
-    e: &Expr,
-) -> Result<(NodeId, What), NoMem> {
+fn constant(alloc: Global, walk: &mut Walk, name: &Text, e: &Expr) -> Result<(NodeId, What), NoMem>
+    ensures value { IfOk result (λ v. v ≡ (spec.constant name.now e.now walk.old).0) }
+    ensures walk { OnOk result (walk.new ≡ (spec.constant name.now e.now walk.old).1) }
+{
     walk_expr(alloc, walk, e)?;
     let value = walk.cut(alloc);
     let node = walk.skip()?;
@@ -79,7 +88,10 @@ fn constant(
     Ok((node, What::Constant(name, value)))
 }
 
-fn import(alloc: Global, walk: &mut Walk, names: &[Text]) -> Result<(NodeId, What), NoMem> {
+fn import(alloc: Global, walk: &mut Walk, names: &[Text]) -> Result<(NodeId, What), NoMem>
+    ensures value { IfOk result (λ v. v ≡ (spec.import names.now walk.old).0) }
+    ensures walk { OnOk result (walk.new ≡ (spec.import names.now walk.old).1) }
+{
     let node = walk.skip()?;
     let names = numbers(alloc, walk, names)?;
     Ok((node, What::Import(names)))
@@ -90,21 +102,30 @@ fn from(
     walk: &mut Walk,
     path: &[Text],
     names: &[Text],
-) -> Result<(NodeId, What), NoMem> {
+) -> Result<(NodeId, What), NoMem>
+    ensures value { IfOk result (λ v. v ≡ (spec.from path.now names.now walk.old).0) }
+    ensures walk { OnOk result (walk.new ≡ (spec.from path.now names.now walk.old).1) }
+{
     let node = walk.skip()?;
     let path = numbers(alloc, walk, path)?;
     let names = numbers(alloc, walk, names)?;
     Ok((node, What::From(path, names)))
 }
 
-fn class(alloc: Global, walk: &mut Walk, of: &ClassDef) -> Result<(NodeId, What), NoMem> {
+fn class(alloc: Global, walk: &mut Walk, of: &ClassDef) -> Result<(NodeId, What), NoMem>
+    ensures value { IfOk result (λ v. v ≡ (spec.class of.now walk.old).0) }
+    ensures walk { OnOk result (walk.new ≡ (spec.class of.now walk.old).1) }
+{
     let node = walk.skip()?;
     let name = walk.number(alloc, &of.name)?;
     let base = numbers(alloc, walk, of.base.as_slice())?;
     Ok((node, What::Class(name, base)))
 }
 
-fn member(alloc: Global, walk: &mut Walk, of: &Member) -> Result<(NodeId, What), NoMem> {
+fn member(alloc: Global, walk: &mut Walk, of: &Member) -> Result<(NodeId, What), NoMem>
+    ensures value { IfOk result (λ v. v ≡ (spec.member of.now walk.old).0) }
+    ensures walk { OnOk result (walk.new ≡ (spec.member of.now walk.old).1) }
+{
     match of {
         Member::Import(_, names) => import(alloc, walk, names.as_slice()),
         Member::From(_, path, names) => from(alloc, walk, path.as_slice(), names.as_slice()),
@@ -123,7 +144,10 @@ fn list_member(
     place: usize,
     inside: bool,
     of: &Member,
-) -> Result<(), NoMem> {
+) -> Result<(), NoMem>
+    ensures units { OnOk result (units.new ≡ (spec.list_said file place inside units.old (spec.member of.now walk.old)).0) }
+    ensures walk { OnOk result (walk.new ≡ (spec.list_said file place inside units.old (spec.member of.now walk.old)).1) }
+{
     let (node, what) = member(alloc, walk, of)?;
     units.push(Unit {
         file,
@@ -141,7 +165,10 @@ fn list_inside(
     file: usize,
     place: usize,
     members: &[Member],
-) -> Result<(), NoMem> {
+) -> Result<(), NoMem>
+    ensures units { OnOk result (units.new ≡ (spec.list_inside file place members.now (units.old, walk.old)).0) }
+    ensures walk { OnOk result (walk.new ≡ (spec.list_inside file place members.now (units.old, walk.old)).1) }
+{
     for of in members {
         list_member(alloc, walk, units, file, place, true, of)?;
     }
@@ -149,7 +176,9 @@ fn list_inside(
 }
 
 // The members in the body of a class.
-fn body_of(of: &Member) -> &[Member] {
+fn body_of(of: &Member) -> &[Member]
+    ensures { result.now ≡ spec.body_of of.now }
+{
     match of {
         Member::Class(class) => class.members.as_slice(),
         _ => &[],
@@ -163,7 +192,10 @@ pub fn list_members(
     units: &mut Seq<Unit>,
     file: usize,
     members: &[Member],
-) -> Result<(), NoMem> {
+) -> Result<(), NoMem>
+    ensures units { OnOk result (units.new ≡ (spec.list_members file 0 members.now (units.old, walk.old)).0) }
+    ensures walk { OnOk result (walk.new ≡ (spec.list_members file 0 members.now (units.old, walk.old)).1) }
+{
     for (place, of) in members.iter().enumerate() {
         list_member(alloc, walk, units, file, place, false, of)?;
         list_inside(alloc, walk, units, file, place, body_of(of))?;
