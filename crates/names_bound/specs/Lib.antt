@@ -1,3 +1,7 @@
+pub mod Base
+pub mod Declare
 pub mod Fault
+pub mod Imports
 pub mod Known
+pub mod Scopes
 pub mod Table

@@ -48,5 +48,9 @@ fn number(kind: FaultKind) -> u8
 pub fn fault_if(holds: bool, node: NodeId, kind: FaultKind) -> Option<Fault>
     ensures { result ≡ spec.fault_if holds node kind }
 {
-    if holds { Some(Fault { node, kind }) } else { None }
+    if holds {
+        Some(Fault { node, kind })
+    } else {
+        None
+    }
 }

@@ -2,7 +2,6 @@
 #![tactic(auto)]
 
 pub mod base;
-pub mod clash;
 pub mod declare;
 pub mod fault;
 pub mod imports;
@@ -11,9 +10,8 @@ pub mod scopes;
 pub mod stand;
 pub mod table;
 
-pub use base::{base_faults, class_bases};
-pub use clash::clash_faults;
-pub use declare::{ClassAt, ConstantAt, Declared, FunctionAt, declared};
+pub use base::{base_faults, class_bases, leads_back, without_rings};
+pub use declare::{BUILTIN_CLASSES, ClassAt, ConstantAt, Declared, FunctionAt, all_declared};
 pub use fault::{Fault, FaultKind, lesser};
 pub use imports::import_faults;
 pub use scopes::Scopes;
