@@ -1,4 +1,5 @@
 pub mod Base
+pub mod Clash
 pub mod Declare
 pub mod Fault
 pub mod Imports

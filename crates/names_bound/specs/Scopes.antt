@@ -94,3 +94,18 @@ member s stand.Sys name = if name == 11 then stand.MaxInt else stand.Unknown
 member s stand.Missing name = stand.Missing
 member s stand.Unknown name = stand.Missing
 member s other name = stand.Nothing
+
+-- ---- classes above a class
+
+abbrev pub below_at : (ℕ → Bool) → Option ℕ → Bool → Bool
+below_at go base true = true
+below_at go None false = false
+below_at go (Some base) false = go base
+
+abbrev pub below_from : List (Option ℕ) → ℕ → ℕ → ℕ → Bool
+below_from bases above zero class = false
+below_from bases above (suc n) class = below_at (below_from bases above n) (base_in bases class) (class == above)
+
+-- the class is the other one or leads to it
+abbrev pub is_below : Scopes → ℕ → ℕ → Bool
+is_below s class above = below_from s.bases above (length s.bases) class

@@ -109,7 +109,8 @@ fn path_in(what: &What) -> &[NameId]
     }
 }
 
-fn node_of(units: &[Unit], unit: usize) -> NodeId
+/// The node of a unit.
+pub fn node_of(units: &[Unit], unit: usize) -> NodeId
     ensures { result ≡ spec.node_of units.now unit }
 {
     match units.get(unit) {

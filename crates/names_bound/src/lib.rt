@@ -2,6 +2,7 @@
 #![tactic(auto)]
 
 pub mod base;
+pub mod clash;
 pub mod declare;
 pub mod fault;
 pub mod imports;
@@ -11,6 +12,7 @@ pub mod stand;
 pub mod table;
 
 pub use base::{base_faults, class_bases, leads_back, without_rings};
+pub use clash::{clash_faults, clashing};
 pub use declare::{BUILTIN_CLASSES, ClassAt, ConstantAt, Declared, FunctionAt, all_declared};
 pub use fault::{Fault, FaultKind, lesser};
 pub use imports::import_faults;

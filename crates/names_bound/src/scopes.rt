@@ -127,6 +127,24 @@ impl Scopes {
         Stand::Unknown
     }
 
+    /// Whether a class is another or leads to it by its bases.
+    #[tactic(auto, using(crate::proofs::Turns::below_turn))]
+    pub fn is_below(&self, class: usize, above: usize) -> bool
+        ensures { result ≡ spec.is_below self.now class above }
+    {
+        let mut class = class;
+        for _turn in 0..self.bases.len() {
+            if class == above {
+                return true;
+            }
+            match base_in(self.bases.as_slice(), class) {
+                None => return false,
+                Some(base) => class = base,
+            }
+        }
+        false
+    }
+
     /// What a name after a dot stands for: `Nothing` where it is no name of a module or class.
     pub fn member(&self, of: Stand, name: NameId) -> Stand
         ensures { result ≡ spec.member self.now of name }

@@ -1,11 +1,11 @@
 // Tables of names. The first binding of a name in a scope stands.
-ghost use Rattle.std.specs.Prelude.{◌≡◌, [], IfOk, OnOk, length, slice_get};
+ghost use Rattle.std.specs.Prelude.{◌≡◌, [], IfOk, OnOk, length, map, slice_get};
 ghost use Rattle.std.specs.Option.{option_copied};
 ghost use Rattle.names_bound.specs.Table as spec;
 
 use crate::stand::Stand;
 use indexmap::IndexMap;
-use rpy_base::NoMem;
+use rpy_base::{NoMem, Seq};
 use rpy_nodes::NameId;
 use std::alloc::Global;
 use std::marker::Model;
@@ -69,10 +69,22 @@ impl Table {
         self.map.get(&Key { scope, name }).copied()
     }
 
-    /// An entry by its place.
-    pub fn entry(&self, at: usize) -> Option<Key> {
-        let (key, _) = self.map.get_index(at)?;
-        Some(*key)
+    /// Whether a name is not bound.
+    pub fn is_fresh(&self, scope: usize, name: NameId) -> bool
+        ensures { result ≡ spec.is_fresh self.now scope name }
+    {
+        match self.get(scope, name) {
+            None => true,
+            Some(_) => false,
+        }
+    }
+
+    /// The names that are bound, each in its scope.
+    pub fn keys(&self, alloc: Global) -> Result<Seq<Key>, NoMem>
+        ensures { IfOk result (λ keys. keys ≡ map (λ e. e.0) self.now) }
+    {
+        let keys = self.map.keys().copied().collect(alloc)?;
+        Ok(Seq::from_vec(keys))
     }
 
     /// A name is bound where it is not yet. Whether it was not.

@@ -225,6 +225,7 @@ fn site_count(act: Act, called: Called) -> usize
     }
 }
 
+#[tactic(auto, using(crate::proofs::Parts::sites_turn))]
 fn add_sites(sites: &mut Seq<SiteAt>, site: SiteAt, count: usize) -> Result<(), NoMem>
     ensures { OnOk result (sites.new ≡ spec.add_sites count site sites.old) }
 {

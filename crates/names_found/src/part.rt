@@ -45,6 +45,7 @@ fn take_one(parts: &mut Seq<Part>)
 }
 
 /// So many parts are taken.
+#[tactic(auto, using(crate::proofs::Parts::without_turn))]
 pub fn take_parts(parts: &mut Seq<Part>, count: usize)
     ensures { parts.new ≡ spec.without count parts.old }
 {
