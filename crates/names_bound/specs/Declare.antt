@@ -109,7 +109,7 @@ abbrev pub add_function : Spot → ℕ → List Parameter → List Event → Dec
 add_function at name params body d = declare_self at params body (declare_method at name (bind_at at name (function_stand at.class (length d.functions)) (new_function at d)))
 
 abbrev pub new_class : Spot → Declared → Declared
-new_class at d = record d { classes = d.classes ++ record { unit = at.unit; file = at.file; place = at.place } ∷ [] }
+new_class at d = record d { classes = d.classes ++ record { unit = at.unit; file = at.file; place = at.place; constant = length d.constants; function = length d.functions } ∷ [] }
 
 -- the builtin exception classes have the first 13 numbers
 abbrev pub add_class : Spot → ℕ → Declared → Declared

@@ -34,7 +34,8 @@ fn first_stand(scopes: &Scopes, at: &ClassAt, name: NameId) -> Stand
     }
 }
 
-fn further_stand(scopes: &Scopes, of: Stand, name: NameId) -> Stand
+/// What a further name of a path stands for.
+pub fn further_stand(scopes: &Scopes, of: Stand, name: NameId) -> Stand
     ensures { result ≡ spec.further_stand scopes.now of name }
 {
     match of {

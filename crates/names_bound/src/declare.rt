@@ -29,12 +29,15 @@ pub struct FunctionAt {
     pub class: Option<usize>,
 }
 
-/// Where a class stands: its unit, its file and its place in the module.
+/// Where a class stands: its unit, its file and its place in the module; and the numbers of the first
+/// constant and the first function that its body can have.
 #[derive(Clone, Copy, Debug, PartialEq, Eq)]
 pub struct ClassAt {
     pub unit: usize,
     pub file: usize,
     pub place: usize,
+    pub constant: usize,
+    pub function: usize,
 }
 
 /// The functions, classes and constants by number, the tables of names, the attributes and the
@@ -200,6 +203,8 @@ impl Declared {
             unit: at.unit,
             file: at.file,
             place: at.place,
+            constant: self.constants.len(),
+            function: self.functions.len(),
         })?;
         self.bind(at, name, Stand::Class(number))
     }

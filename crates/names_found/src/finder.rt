@@ -114,9 +114,27 @@ fn builtin_called(builtin: Builtin, count: usize) -> Called
     ensures { result ≡ spec.builtin_called builtin count }
 {
     match builtin {
-        Builtin::Range => { if count == 3 { Called::Range } else { Called::Plain } }
-        Builtin::Xrange => { if count == 3 { Called::Range } else { Called::Plain } }
-        Builtin::OsWrite => { if count == 0 { Called::Plain } else { Called::Write } }
+        Builtin::Range => {
+            if count == 3 {
+                Called::Range
+            } else {
+                Called::Plain
+            }
+        }
+        Builtin::Xrange => {
+            if count == 3 {
+                Called::Range
+            } else {
+                Called::Plain
+            }
+        }
+        Builtin::OsWrite => {
+            if count == 0 {
+                Called::Plain
+            } else {
+                Called::Write
+            }
+        }
         _ => Called::Plain,
     }
 }

@@ -42,11 +42,7 @@ fn is_known(known: &Locals, parameter: &Parameter) -> bool
 fn parameter_fault(known: &Locals, parameter: &Parameter) -> Option<Fault>
     ensures { result ≡ spec.parameter_fault known.now parameter.now }
 {
-    fault_if(
-        is_known(known, parameter),
-        parameter.node,
-        FaultKind::Twice,
-    )
+    fault_if(is_known(known, parameter), parameter.node, FaultKind::Twice)
 }
 
 fn default_steps(

@@ -9,6 +9,6 @@ pub mod same;
 pub mod slots;
 
 pub use arithmetic::{word_binary, word_unary};
-pub use constants::{bad_constants, constant_values};
+pub use constants::{Checked, Root, Values, bad_constants, constant_values};
 pub use copy::copy_const;
 pub use machine::{Machine, Prebuilt};

@@ -36,7 +36,11 @@ pub fn narrow(number: usize) -> u32 {
 }
 
 // What a constant of a number is.
-fn constant_at(alloc: Global, constants: &[Option<Const>], number: usize) -> Result<Option<Const>, NoMem> {
+fn constant_at(
+    alloc: Global,
+    constants: &[Option<Const>],
+    number: usize,
+) -> Result<Option<Const>, NoMem> {
     match constants.get(number) {
         None => Ok(None),
         Some(value) => copy_option(alloc, value),
@@ -227,7 +231,13 @@ impl Machine {
         }
     }
 
-    fn list(&mut self, alloc: Global, node: NodeId, count: usize, site: usize) -> Result<(), NoMem> {
+    fn list(
+        &mut self,
+        alloc: Global,
+        node: NodeId,
+        count: usize,
+        site: usize,
+    ) -> Result<(), NoMem> {
         let taken = take_slots(alloc, &mut self.slots, count)?;
         match values_of(alloc, taken)? {
             None => self.push(node, None),
@@ -239,7 +249,13 @@ impl Machine {
         }
     }
 
-    fn dict(&mut self, alloc: Global, node: NodeId, count: usize, site: usize) -> Result<(), NoMem> {
+    fn dict(
+        &mut self,
+        alloc: Global,
+        node: NodeId,
+        count: usize,
+        site: usize,
+    ) -> Result<(), NoMem> {
         let taken = take_slots(alloc, &mut self.slots, count.saturating_mul(2))?;
         match values_of(alloc, taken)? {
             None => self.push(node, None),
@@ -251,7 +267,13 @@ impl Machine {
         }
     }
 
-    fn call(&mut self, alloc: Global, node: NodeId, count: usize, called: Called) -> Result<(), NoMem> {
+    fn call(
+        &mut self,
+        alloc: Global,
+        node: NodeId,
+        count: usize,
+        called: Called,
+    ) -> Result<(), NoMem> {
         let args = take_slots(alloc, &mut self.slots, count)?;
         let _callee = take_slot(&mut self.slots);
         self.fault = lesser(self.fault, call_fault(called, &args));
@@ -266,7 +288,11 @@ impl Machine {
         for _turn in 0..taken_besides(act) {
             let _slot = take_slot(&mut self.slots);
         }
-        if is_part(act) { self.push(node, None) } else { Ok(()) }
+        if is_part(act) {
+            self.push(node, None)
+        } else {
+            Ok(())
+        }
     }
 
     fn step(

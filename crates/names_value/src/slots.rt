@@ -31,7 +31,10 @@ pub fn take_slots(alloc: Global, slots: &mut Seq<Slot>, count: usize) -> Result<
 }
 
 // A value after those.
-fn with_value(values: Option<Seq<Const>>, value: Option<Const>) -> Result<Option<Seq<Const>>, NoMem> {
+fn with_value(
+    values: Option<Seq<Const>>,
+    value: Option<Const>,
+) -> Result<Option<Seq<Const>>, NoMem> {
     match (values, value) {
         (Some(mut values), Some(value)) => {
             values.push(value)?;

@@ -1,0 +1,15 @@
+//! Modules as a program, in which each name is bound, or the fault of a name.
+#![tactic(auto)]
+
+mod build;
+mod fault;
+mod move_in;
+mod place;
+mod resolve;
+mod tables;
+mod uses;
+
+pub use fault::{NameFault, NameRefusal};
+pub use place::fault_place;
+pub use resolve::resolve;
+pub use rpy_nodes::Named;
