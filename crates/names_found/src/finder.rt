@@ -42,7 +42,7 @@ pub struct Seen {
     pub called: Called,
 }
 
-fn seen(stand: Stand, late: bool, makes: bool, called: Called) -> Seen
+fn what_is_seen(stand: Stand, late: bool, makes: bool, called: Called) -> Seen
     ensures { result ≡ spec.seen stand late makes called }
 {
     Seen {
@@ -54,7 +54,7 @@ fn seen(stand: Stand, late: bool, makes: bool, called: Called) -> Seen
 fn nothing() -> Seen
     ensures { result ≡ spec.nothing }
 {
-    seen(Stand::Nothing, false, false, Called::Plain)
+    what_is_seen(Stand::Nothing, false, false, Called::Plain)
 }
 
 // The number of a local, in the body of a function.
@@ -68,8 +68,8 @@ fn name_seen(scopes: &Scopes, locals: &Locals, at: Place, name: NameId) -> Seen
     ensures { result ≡ spec.name_seen scopes.now locals.now at name }
 {
     match local_in(locals, at, name) {
-        Some(local) => seen(Stand::Local(local), false, false, Called::Plain),
-        None => seen(
+        Some(local) => what_is_seen(Stand::Local(local), false, false, Called::Plain),
+        None => what_is_seen(
             scopes.global(at.file, name),
             scopes.is_late(at.file, at.place, name),
             false,
@@ -102,7 +102,7 @@ fn attr_seen(scopes: &Scopes, at: Place, base: Part, name: NameId) -> Seen
     ensures { result ≡ spec.attr_seen scopes.now at base name }
 {
     let stand = scopes.member(base.stand, name);
-    seen(
+    what_is_seen(
         stand,
         base.late || is_late_in(scopes, at, base.stand, name),
         makes_list(stand, name),
@@ -143,7 +143,7 @@ fn call_seen(callee: Part, count: usize) -> Seen
     ensures { result ≡ spec.call_seen callee count }
 {
     match callee.stand {
-        Stand::Builtin(builtin) => seen(
+        Stand::Builtin(builtin) => what_is_seen(
             Stand::Nothing,
             false,
             false,
@@ -151,7 +151,7 @@ fn call_seen(callee: Part, count: usize) -> Seen
         ),
         _ => {
             if callee.makes {
-                seen(Stand::Nothing, false, false, Called::Makes)
+                what_is_seen(Stand::Nothing, false, false, Called::Makes)
             } else {
                 nothing()
             }
@@ -164,7 +164,7 @@ fn bind_seen(local: Option<usize>) -> Seen
 {
     match local {
         None => nothing(),
-        Some(local) => seen(Stand::Local(local), false, false, Called::Plain),
+        Some(local) => what_is_seen(Stand::Local(local), false, false, Called::Plain),
     }
 }
 

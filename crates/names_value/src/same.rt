@@ -1,38 +1,64 @@
 // Whether two constants are one key of a dict.
+ghost use Rattle.std.specs.Prelude.{◌≡◌};
+ghost use Rattle.names_value.specs.Same as spec;
+
 use rpy_tree::Const;
 
 #[cycle(same)]
-pub fn is_same(a: &Const, b: &Const) -> bool {
-    match (a, b) {
-        (Const::Word(x), Const::Word(y)) => *x == *y,
-        (Const::Bool(x), Const::Bool(y)) => *x == *y,
-        (Const::Str(x), Const::Str(y)) => x == y,
-        (Const::None, Const::None) => true,
-        (Const::Function(x), Const::Function(y)) => *x == *y,
-        (Const::Tuple(xs), Const::Tuple(ys)) => are_same(xs.as_slice(), ys.as_slice()),
-        (Const::List(x), Const::List(y)) => *x == *y,
-        (Const::Dict(x), Const::Dict(y)) => *x == *y,
-        _ => false,
+pub fn is_same(a: &Const, b: &Const) -> bool
+    ensures { result ≡ spec.same a.now b.now }
+{
+    match a {
+        Const::Word(x) => match b {
+            Const::Word(y) => *x == *y,
+            _ => false,
+        },
+        Const::Bool(x) => match b {
+            Const::Bool(y) => *x == *y,
+            _ => false,
+        },
+        Const::Str(x) => match b {
+            Const::Str(y) => x.bytes() == y.bytes(),
+            _ => false,
+        },
+        Const::None => match b {
+            Const::None => true,
+            _ => false,
+        },
+        Const::Function(x) => match b {
+            Const::Function(y) => *x == *y,
+            _ => false,
+        },
+        Const::Tuple(xs) => match b {
+            Const::Tuple(ys) => are_same(xs.as_slice(), ys.as_slice()),
+            _ => false,
+        },
+        Const::List(x) => match b {
+            Const::List(y) => *x == *y,
+            _ => false,
+        },
+        Const::Dict(x) => match b {
+            Const::Dict(y) => *x == *y,
+            _ => false,
+        },
     }
 }
 
 #[cycle(same)]
-fn are_same(xs: &[Const], ys: &[Const]) -> bool {
-    if xs.len() != ys.len() {
-        return false;
-    }
-    for (at, x) in xs.iter().enumerate() {
-        if !is_same_at(x, ys, at) {
-            return false;
+fn are_same(xs: &[Const], ys: &[Const]) -> bool
+    ensures { result ≡ spec.are_same xs.now ys.now }
+{
+    let mut rest = ys;
+    for x in xs {
+        match rest {
+            [] => return false,
+            [y, others @ ..] => {
+                if !is_same(x, y) {
+                    return false;
+                }
+                rest = others;
+            }
         }
     }
-    true
-}
-
-#[cycle(same)]
-fn is_same_at(x: &Const, ys: &[Const], at: usize) -> bool {
-    match ys.get(at) {
-        None => false,
-        Some(y) => is_same(x, y),
-    }
+    rest.is_empty()
 }
