@@ -1,7 +1,6 @@
 -- Whether two constants are one key of a dict.
-use Rattle.std.specs.Prelude.{ℕ, ℤ, Bool, true, false, if◌then◌else◌, ◌==◌, List, [], ◌∷◌, map}
-use Rattle.std.specs.Int.{int_eq}
-use Rattle.std.specs.Bool.{bool_eq}
+use Rattle.std.specs.Prelude.{ℕ, ℤ, Bool, true, false, not, if◌then◌else◌, ◌==◌, List, [], ◌∷◌, map}
+use Rattle.std.specs.Ordering.{int_eq}
 use Rattle.std.specs.Str.{bytes_eq}
 use Rattle.rpy_tree.specs.declared.program.Const.{Const, fold-Const, out-Const}
 use Rattle.rpy_tree.specs.declared.program.Const.TheOpen.{Const-F}
@@ -19,7 +18,7 @@ all_same (test ∷ tests) (y ∷ ys) = if test y then all_same tests ys else fal
 -- one kind of constant, and equal in it
 abbrev pub same_with : Const-F (Const → Bool) → Const-F Const → Bool
 same_with (Const-F.Word x) (Const-F.Word y) = int_eq x y
-same_with (Const-F.Bool x) (Const-F.Bool y) = bool_eq x y
+same_with (Const-F.Bool x) (Const-F.Bool y) = (if x then y else not y)
 same_with (Const-F.Str x) (Const-F.Str y) = bytes_eq x y
 same_with Const-F.None Const-F.None = true
 same_with (Const-F.Function x) (Const-F.Function y) = x == y

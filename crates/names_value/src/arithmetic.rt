@@ -81,7 +81,11 @@ fn shifted_left(a: i64, k: i64) -> Option<i64>
 fn shifted_right(a: i64, k: i64) -> Option<i64>
     ensures { result ≡ spec.shifted_right a k }
 {
-    if k < 0 || 63 < k { None } else { Some(shr(a, k)) }
+    if k < 0 || 63 < k {
+        None
+    } else {
+        Some(shr(a, k))
+    }
 }
 
 /// The result of an operator, where it is a word.

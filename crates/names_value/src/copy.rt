@@ -42,3 +42,21 @@ pub fn copy_option(alloc: Global, value: &Option<Const>) -> Result<Option<Const>
         Some(value) => Ok(Some(copy_const(alloc, value)?)),
     }
 }
+
+/// Pairs once more.
+pub fn copy_pairs(alloc: Global, pairs: &[(Const, Const)]) -> Result<Seq<(Const, Const)>, NoMem>
+    ensures { IfOk result (λ copies. copies ≡ pairs.now) }
+{
+    let mut copies = Seq::new(alloc);
+    for pair in pairs {
+        copies.push(copy_pair(alloc, pair)?)?;
+    }
+    Ok(copies)
+}
+
+fn copy_pair(alloc: Global, pair: &(Const, Const)) -> Result<(Const, Const), NoMem>
+    ensures { IfOk result (λ copy. copy ≡ pair.now) }
+{
+    let key = copy_const(alloc, &pair.0)?;
+    Ok((key, copy_const(alloc, &pair.1)?))
+}

@@ -10,5 +10,5 @@ pub mod slots;
 
 pub use arithmetic::{word_binary, word_unary};
 pub use constants::{Checked, Root, Values, bad_constants, constant_values};
-pub use copy::copy_const;
+pub use copy::{copy_const, copy_pairs};
 pub use machine::{Machine, Prebuilt};

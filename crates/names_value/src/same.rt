@@ -14,7 +14,7 @@ pub fn is_same(a: &Const, b: &Const) -> bool
             _ => false,
         },
         Const::Bool(x) => match b {
-            Const::Bool(y) => *x == *y,
+            Const::Bool(y) => { if *x { *y } else { !*y } }
             _ => false,
         },
         Const::Str(x) => match b {

@@ -1,18 +1,23 @@
 // All parts of a program but its modules.
-use crate::fault::{NameFault, told};
+ghost use Rattle.std.specs.Prelude.{◌≡◌, [], IfOk, OnOk};
+ghost use Rattle.rpy_names.specs.Build as spec;
+ghost use Rattle.rpy_names.specs.Gives.{Gives};
+
+use crate::fault::NameFault;
 use crate::tables::{Sources, class_infos, function_infos, program_sites};
+use crate::told::told;
 use crate::uses::program_uses;
 use names_bound::{
-    Declared, Fault, Scopes, all_declared, base_faults, clash_faults, clashing, class_bases,
-    import_faults, lesser, without_rings,
+    ClassAt, ConstantAt, Declared, Fault, FunctionAt, Scopes, Table, all_declared, base_faults,
+    clash_faults, clashing, class_bases, import_faults, lesser, without_rings,
 };
 use names_found::{Finder, Found, SiteAt, find_units};
 use names_value::machine::narrow;
 use names_value::{Checked, Values, bad_constants, constant_values};
 use rpy_base::{NoMem, Seq};
 use rpy_nodes::words::ENTRY_POINT;
-use rpy_nodes::{Listing, Named, Unit, What, list_program};
-use rpy_tree::{ClassInfo, FunId, FunInfo, NodeId, Site, Use};
+use rpy_nodes::{Listing, Named, Names, Parameter, Unit, What, list_program};
+use rpy_tree::{ClassInfo, Const, FunId, FunInfo, NodeId, Site, Use};
 use std::alloc::Global;
 
 /// All parts of a program but its modules.
@@ -32,34 +37,58 @@ pub struct Entry {
     pub parameter: NodeId,
 }
 
-// The parameter of a function that has one plain one and this name.
-fn entry_parameter(unit: &Unit) -> Option<NodeId> {
-    if unit.file != 0 || unit.inside {
+// The one parameter, which has no star.
+fn one_parameter(star: bool, parameters: &[Parameter]) -> Option<NodeId>
+    ensures { result ≡ spec.one_parameter star parameters.now }
+{
+    if star {
         return None;
     }
-    match &unit.what {
+    match parameters {
+        [parameter] => Some(parameter.node),
+        _ => None,
+    }
+}
+
+fn entry_in(what: &What) -> Option<NodeId>
+    ensures { result ≡ spec.entry_in what.now }
+{
+    match what {
         What::Def(name, parameters, star, _) => {
-            if *name != ENTRY_POINT || *star {
-                return None;
-            }
-            match parameters.as_slice() {
-                [parameter] => Some(parameter.node),
-                _ => None,
+            if *name == ENTRY_POINT {
+                one_parameter(*star, parameters.as_slice())
+            } else {
+                None
             }
         }
         _ => None,
     }
 }
 
-fn is_function(unit: &Unit) -> bool {
-    match &unit.what {
-        What::Def(_, _, _, _) => true,
-        _ => false,
+// The parameter of a function of the main module that is the entry point.
+fn entry_parameter(unit: &Unit) -> Option<NodeId>
+    ensures { result ≡ spec.entry_parameter unit.now }
+{
+    if unit.file == 0 && !unit.inside {
+        entry_in(&unit.what)
+    } else {
+        None
+    }
+}
+
+fn function_count(what: &What) -> usize
+    ensures { result ≡ spec.function_count what.now }
+{
+    match what {
+        What::Def(_, _, _, _) => 1,
+        _ => 0,
     }
 }
 
 // The entry point among the members.
-fn entry_of(units: &[Unit]) -> Option<Entry> {
+fn entry_of(units: &[Unit]) -> Option<Entry>
+    ensures { result ≡ spec.entry_of units.now }
+{
     let mut function: usize = 0;
     for unit in units {
         match entry_parameter(unit) {
@@ -71,14 +100,14 @@ fn entry_of(units: &[Unit]) -> Option<Entry> {
             }
             None => {}
         }
-        if is_function(unit) {
-            function = function.saturating_add(1);
-        }
+        function += function_count(&unit.what);
     }
     None
 }
 
-fn entry_site(entry: Option<Entry>) -> SiteAt {
+fn entry_site(entry: Option<Entry>) -> SiteAt
+    ensures { result ≡ spec.entry_site entry }
+{
     match entry {
         None => SiteAt {
             node: 0,
@@ -91,19 +120,68 @@ fn entry_site(entry: Option<Entry>) -> SiteAt {
     }
 }
 
-// The names of the members, and the least fault so far.
+/// The names of the members, the functions, classes and constants, and the least fault so far.
 #[derive(Drop)]
-struct Bound {
-    scopes: Scopes,
-    fault: Option<Fault>,
-    functions: Seq<names_bound::FunctionAt>,
-    classes: Seq<names_bound::ClassAt>,
-    constants: Seq<names_bound::ConstantAt>,
+pub struct Bound {
+    pub scopes: Scopes,
+    pub functions: Seq<FunctionAt>,
+    pub classes: Seq<ClassAt>,
+    pub constants: Seq<ConstantAt>,
+    pub fault: Option<Fault>,
 }
 
-fn bind(alloc: Global, listing: &Listing) -> Result<Bound, NoMem> {
-    let modules = listing.modules.as_slice();
+// The names, where no class has a base yet.
+fn without_bases(alloc: Global, bindings: Table, members: Table) -> Scopes
+    ensures { result ≡ spec.with_bases bindings members [] }
+{
+    Scopes {
+        bindings,
+        members,
+        bases: Seq::new(alloc),
+    }
+}
+
+fn with_bases(alloc: Global, scopes: Scopes, named: &[Option<usize>]) -> Result<Scopes, NoMem>
+    ensures { IfOk result (λ all. all ≡ spec.rebased scopes named.now) }
+{
+    let Scopes {
+        bindings,
+        members,
+        bases: _,
+    } = scopes;
+    let bases = without_rings(alloc, named)?;
+    Ok(Scopes {
+        bindings,
+        members,
+        bases,
+    })
+}
+
+// The least fault of a binding, an import, a base or a clash.
+fn bound_fault(
+    alloc: Global,
+    listing: &Listing,
+    scopes: &Scopes,
+    named: &[Option<usize>],
+    classes: &[ClassAt],
+    attributes: &Table,
+    methods: &Table,
+    fault: Option<Fault>,
+) -> Result<Option<Fault>, NoMem>
+    ensures { IfOk result (λ least. least ≡ spec.bound_fault listing.now scopes.now named.now classes.now attributes.now methods.now fault) }
+{
     let units = listing.units.as_slice();
+    let bases = scopes.bases.as_slice();
+    let clashes = clashing(alloc, attributes, methods, bases)?;
+    let imports = import_faults(scopes, listing.modules.as_slice(), units);
+    let wrong = base_faults(scopes, named, classes, units);
+    let twice = clash_faults(bases, clashes.as_slice(), classes, units);
+    Ok(lesser(lesser(lesser(fault, imports), wrong), twice))
+}
+
+fn bind_declared(alloc: Global, listing: &Listing, declared: Declared) -> Result<Bound, NoMem>
+    ensures { IfOk result (λ bound. bound ≡ spec.bind_declared listing.now declared) }
+{
     let Declared {
         functions,
         classes,
@@ -113,97 +191,109 @@ fn bind(alloc: Global, listing: &Listing) -> Result<Bound, NoMem> {
         attributes,
         methods,
         fault,
-    } = all_declared(alloc, modules, units)?;
-    let without_bases = Scopes {
-        bindings,
-        members,
-        bases: Seq::new(alloc),
-    };
-    let named = class_bases(alloc, &without_bases, classes.as_slice(), units)?;
-    let Scopes {
-        bindings,
-        members,
-        bases: _,
-    } = without_bases;
-    let bases = without_rings(alloc, named.as_slice())?;
-    let scopes = Scopes {
-        bindings,
-        members,
-        bases,
-    };
-    let clashes = clashing(alloc, &attributes, &methods, scopes.bases.as_slice())?;
-    let fault = lesser(fault, import_faults(&scopes, modules, units));
-    let fault = lesser(
+    } = declared;
+    let scopes = without_bases(alloc, bindings, members);
+    let named = class_bases(
+        alloc,
+        &scopes,
+        classes.as_slice(),
+        listing.units.as_slice(),
+    )?;
+    let scopes = with_bases(alloc, scopes, named.as_slice())?;
+    let fault = bound_fault(
+        alloc,
+        listing,
+        &scopes,
+        named.as_slice(),
+        classes.as_slice(),
+        &attributes,
+        &methods,
         fault,
-        base_faults(&scopes, named.as_slice(), classes.as_slice(), units),
-    );
-    let fault = lesser(
-        fault,
-        clash_faults(
-            scopes.bases.as_slice(),
-            clashes.as_slice(),
-            classes.as_slice(),
-            units,
-        ),
-    );
+    )?;
     Ok(Bound {
         scopes,
-        fault,
         functions,
         classes,
         constants,
+        fault,
     })
 }
 
+fn bind(alloc: Global, listing: &Listing) -> Result<Bound, NoMem>
+    ensures { IfOk result (λ bound. bound ≡ spec.bind listing.now) }
+{
+    let declared = all_declared(
+        alloc,
+        listing.modules.as_slice(),
+        listing.units.as_slice(),
+    )?;
+    bind_declared(alloc, listing, declared)
+}
+
+fn program_classes(
+    alloc: Global,
+    names: &Names,
+    units: &[Unit],
+    bound: &Bound,
+    values: &[Option<Const>],
+) -> Result<Seq<ClassInfo>, NoMem>
+    ensures { IfOk result (λ classes. classes ≡ spec.program_classes names.now units.now bound.now values.now) }
+{
+    let sources = Sources {
+        names,
+        units,
+        values,
+        constants: bound.constants.as_slice(),
+        functions: bound.functions.as_slice(),
+        bases: bound.scopes.bases.as_slice(),
+    };
+    class_infos(alloc, &sources, bound.classes.as_slice())
+}
+
 // The parts, where no fault stands.
-fn parts(
+fn parts_of(
     alloc: Global,
     listing: &Listing,
     bound: &Bound,
     found: &[Found],
     sites: &[SiteAt],
-    values: Values,
-    checked: Checked,
+    values: &Values,
+    checked: &Checked,
     entry: Entry,
-) -> Result<Parts, NoMem> {
-    let Checked {
-        roots,
-        prebuilt: more,
-        fault: _,
-    } = checked;
-    let Values {
-        constants: values,
-        prebuilt,
-    } = values;
+) -> Result<Parts, NoMem>
+    ensures { IfOk result (λ parts. parts ≡ spec.parts_of listing.now bound.now found.now sites.now values.now checked.now entry) }
+{
     let units = listing.units.as_slice();
+    let constants = values.constants.as_slice();
     let uses = program_uses(
         alloc,
         listing.nodes,
-        values.as_slice(),
+        constants,
         listing.modules.len(),
         found,
-        roots,
+        checked.roots.as_slice(),
     )?;
-    let sources = Sources {
-        names: &listing.names,
-        units,
-        values: values.as_slice(),
-        constants: bound.constants.as_slice(),
-        functions: bound.functions.as_slice(),
-        bases: bound.scopes.bases.as_slice(),
-    };
-    let classes = class_infos(alloc, &sources, bound.classes.as_slice())?;
+    let functions = function_infos(alloc, units, found, bound.functions.as_slice())?;
+    let classes = program_classes(alloc, &listing.names, units, bound, constants)?;
+    let sites = program_sites(
+        alloc,
+        sites,
+        values.prebuilt.as_slice(),
+        checked.prebuilt.as_slice(),
+    )?;
     Ok(Parts {
         uses,
-        functions: function_infos(alloc, units, found, bound.functions.as_slice())?,
+        functions,
         classes,
-        sites: program_sites(alloc, sites, prebuilt, more)?,
+        sites,
         entry: narrow(entry.function),
     })
 }
 
 // The fault that is told, or the entry point.
-fn judge(fault: Option<Fault>, entry: Option<Entry>) -> Result<Entry, NameFault> {
+fn judge(fault: Option<Fault>, entry: Option<Entry>) -> Result<Entry, NameFault>
+    ensures { result ≡ spec.judge fault entry }
+{
     match fault {
         Some(fault) => Err(told(fault)),
         None => match entry {
@@ -213,16 +303,16 @@ fn judge(fault: Option<Fault>, entry: Option<Entry>) -> Result<Entry, NameFault>
     }
 }
 
-/// The parts of a program, or the fault of a name.
-pub fn build(alloc: Global, modules: &[Named]) -> Result<Parts, NameFault> {
-    let listing = list_program(alloc, modules)?;
-    let bound = bind(alloc, &listing)?;
-    let units = listing.units.as_slice();
-    let entry = entry_of(units);
-    let mut finder = Finder::new(alloc, entry_site(entry))?;
-    finder.add_fault(bound.fault);
-    let found = find_units(alloc, &mut finder, &bound.scopes, units)?;
-    let found = found.as_slice();
+fn build_found(
+    alloc: Global,
+    listing: &Listing,
+    bound: &Bound,
+    entry: Option<Entry>,
+    found: &[Found],
+    finder: &Finder,
+) -> Result<Parts, NameFault>
+    ensures { Gives (spec.build_found listing.now bound.now entry (found.now, finder.now)) result }
+{
     let constants = bound.constants.as_slice();
     let values = constant_values(alloc, &listing.names, found, constants)?;
     let checked = bad_constants(
@@ -232,16 +322,37 @@ pub fn build(alloc: Global, modules: &[Named]) -> Result<Parts, NameFault> {
         found,
         constants,
     )?;
-    let entry = judge(lesser(finder.fault, checked.fault), entry)?;
-    let parts = parts(
-        alloc,
-        &listing,
-        &bound,
-        found,
-        finder.sites.as_slice(),
-        values,
-        checked,
-        entry,
-    )?;
-    Ok(parts)
+    match judge(lesser(finder.fault, checked.fault), entry) {
+        Err(fault) => Err(fault),
+        Ok(entry) => Ok(parts_of(
+            alloc,
+            listing,
+            bound,
+            found,
+            finder.sites.as_slice(),
+            &values,
+            &checked,
+            entry,
+        )?),
+    }
+}
+
+fn build_listing(alloc: Global, listing: &Listing) -> Result<Parts, NameFault>
+    ensures { Gives (spec.build_listing listing.now) result }
+{
+    let bound = bind(alloc, listing)?;
+    let units = listing.units.as_slice();
+    let entry = entry_of(units);
+    let mut finder = Finder::new(alloc, entry_site(entry))?;
+    finder.add_fault(bound.fault);
+    let found = find_units(alloc, &mut finder, &bound.scopes, units)?;
+    build_found(alloc, listing, &bound, entry, found.as_slice(), &finder)
+}
+
+/// The parts of a program, or the fault of a name.
+pub fn build(alloc: Global, modules: &[Named]) -> Result<Parts, NameFault>
+    ensures { Gives (spec.build modules.now) result }
+{
+    let listing = list_program(alloc, modules)?;
+    build_listing(alloc, &listing)
 }

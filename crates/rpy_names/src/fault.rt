@@ -1,7 +1,4 @@
 // Why modules are no program.
-ghost use Rattle.std.specs.Prelude.{◌≡◌};
-
-use names_bound::{Fault, FaultKind};
 use rpy_base::{NoMem, Seq};
 use rpy_nodes::Named;
 use rpy_tree::NodeId;
@@ -42,15 +39,4 @@ impl From<NoMem> for NameFault {
 pub struct NameRefusal {
     pub fault: NameFault,
     pub modules: Seq<Named>,
-}
-
-/// The fault that is told.
-pub fn told(fault: Fault) -> NameFault {
-    match fault.kind {
-        FaultKind::Unknown => NameFault::Unknown(fault.node),
-        FaultKind::Twice => NameFault::Twice(fault.node),
-        FaultKind::BadBase => NameFault::BadBase(fault.node),
-        FaultKind::BadConstant => NameFault::BadConstant(fault.node),
-        FaultKind::NoModule => NameFault::NoModule(fault.node),
-    }
 }

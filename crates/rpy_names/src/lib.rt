@@ -1,12 +1,13 @@
 //! Modules as a program, in which each name is bound, or the fault of a name.
 #![tactic(auto)]
 
-mod build;
-mod fault;
+pub mod build;
+pub mod fault;
 mod move_in;
 mod place;
 mod resolve;
 mod tables;
+mod told;
 mod uses;
 
 pub use fault::{NameFault, NameRefusal};

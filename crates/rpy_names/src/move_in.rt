@@ -1,8 +1,11 @@
 // The modules move into the program.
+ghost use Rattle.std.specs.Prelude.{◌≡◌, ◌≤◌, ◌<◌, ◌++◌, ◌∷◌, [], IfOk, length, reverse, vec_len, vec_capacity};
+ghost use Rattle.rpy_names.specs.Place.{modules_of, names_of};
+
 use rpy_base::{NoMem, Seq, Text};
 use rpy_nodes::Named;
 use rpy_tree::Module;
-use std::alloc::{AllocError, Global};
+use std::alloc::Global;
 
 /// Room for the names and the modules of a program.
 #[derive(Drop)]
@@ -11,38 +14,45 @@ pub struct Room {
     pub modules: Vec<Module>,
 }
 
-fn both(
-    names: Result<Vec<Text>, AllocError>,
-    modules: Result<Vec<Module>, AllocError>,
-) -> Result<Room, NoMem> {
-    Ok(Room {
-        names: names?,
-        modules: modules?,
-    })
+/// Room for so many.
+pub fn room(alloc: Global, count: usize) -> Result<Room, NoMem>
+    ensures names { IfOk result (λ room. room.names.items ≡ []) }
+    ensures modules { IfOk result (λ room. room.modules.items ≡ []) }
+    ensures room_for_names { IfOk result (λ room. vec_capacity room.names ≡ count) }
+    ensures room_for_modules { IfOk result (λ room. vec_capacity room.modules ≡ count) }
+{
+    let names = Vec::with_capacity(alloc, count)?;
+    let modules = Vec::with_capacity(alloc, count)?;
+    Ok(Room { names, modules })
 }
 
-pub fn room(alloc: Global, count: usize) -> Result<Room, NoMem> {
-    both(
-        Vec::with_capacity(alloc, count),
-        Vec::with_capacity(alloc, count),
-    )
+// An item goes where there is room for it.
+fn put<T: Drop>(into: &mut Vec<T>, item: T)
+    requires { vec_len into.old < vec_capacity into.old }
+    ensures items { into.new.items ≡ into.old.items ++ item ∷ [] }
+    ensures capacity { vec_capacity into.new ≡ vec_capacity into.old }
+{
+    let _ = into.push(item);
 }
 
-/// The names and the modules, in order. There is room for them.
-pub fn move_in(room: Room, modules: Seq<Named>) -> (Seq<Text>, Seq<Module>) {
+/// The names and the modules, in order.
+#[tactic(auto, using(crate::proofs::Moves::names_turn, crate::proofs::Moves::modules_turn))]
+pub fn move_in(room: Room, modules: Seq<Named>) -> (Seq<Text>, Seq<Module>)
+    requires names { room.names.items ≡ [] }
+    requires modules { room.modules.items ≡ [] }
+    requires room_for_names { length modules ≤ vec_capacity room.names }
+    requires room_for_modules { length modules ≤ vec_capacity room.modules }
+    ensures names { result.0 ≡ names_of modules }
+    ensures modules { result.1 ≡ modules_of modules }
+{
     let Room {
         mut names,
         modules: mut all,
     } = room;
-    let mut modules = modules;
-    for _turn in 0..modules.len() {
-        match modules.pop() {
-            None => {}
-            Some(Named { name, module }) => {
-                let _ = names.push(name);
-                let _ = all.push(module);
-            }
-        }
+    let mut rest = modules;
+    while let Some(Named { name, module }) = rest.pop() {
+        put(&mut names, name);
+        put(&mut all, module);
     }
     names.reverse();
     all.reverse();

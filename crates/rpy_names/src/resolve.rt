@@ -1,21 +1,25 @@
 // Modules as a program.
+ghost use Rattle.std.specs.Prelude.{◌≡◌, ◌≤◌, [], length, vec_capacity};
+ghost use Rattle.rpy_names.specs.Build as build_spec;
+ghost use Rattle.rpy_names.specs.Gives.{Gives};
+ghost use Rattle.rpy_names.specs.Resolve as spec;
+
 use crate::build::{Parts, build};
 use crate::fault::{NameFault, NameRefusal};
 use crate::move_in::{Room, move_in, room};
-use rpy_base::Seq;
+use rpy_base::{NoMem, Seq};
 use rpy_nodes::Named;
 use rpy_tree::Program;
 use std::alloc::Global;
 
-// What a program takes its memory for.
-fn prepare(alloc: Global, modules: &[Named]) -> Result<(Room, Parts), NameFault> {
-    let parts = build(alloc, modules)?;
-    let room = room(alloc, modules.len())?;
-    Ok((room, parts))
-}
-
-fn program(room: Room, modules: Seq<Named>, parts: Parts) -> Program {
-    let (names, modules) = move_in(room, modules);
+fn program(room: Room, modules: Seq<Named>, parts: Parts) -> Program
+    requires names { room.names.items ≡ [] }
+    requires modules { room.modules.items ≡ [] }
+    requires room_for_names { length modules ≤ vec_capacity room.names }
+    requires room_for_modules { length modules ≤ vec_capacity room.modules }
+    ensures { result ≡ spec.program_with modules parts }
+{
+    let (names, all) = move_in(room, modules);
     let Parts {
         uses,
         functions,
@@ -25,7 +29,7 @@ fn program(room: Room, modules: Seq<Named>, parts: Parts) -> Program {
     } = parts;
     Program {
         names,
-        modules,
+        modules: all,
         uses,
         functions,
         classes,
@@ -34,10 +38,34 @@ fn program(room: Room, modules: Seq<Named>, parts: Parts) -> Program {
     }
 }
 
-/// The program that modules are, or why they are none.
-pub fn resolve(alloc: Global, modules: Seq<Named>) -> Result<Program, NameRefusal> {
-    match prepare(alloc, modules.as_slice()) {
+// The program, once there is room for it.
+fn moved(
+    room: Result<Room, NoMem>,
+    modules: Seq<Named>,
+    parts: Parts,
+) -> Result<Program, NameRefusal>
+    requires { spec.IsRoom (length modules) room }
+    ensures { spec.IsMoved modules parts result }
+{
+    match room {
+        Err(NoMem) => Err(NameRefusal {
+            fault: NameFault::NoMem,
+            modules,
+        }),
+        Ok(room) => Ok(program(room, modules, parts)),
+    }
+}
+
+/// The program that modules are, or why they are none. Where they are none, or memory fails, the
+/// modules come back as they were.
+pub fn resolve(alloc: Global, modules: Seq<Named>) -> Result<Program, NameRefusal>
+    ensures { spec.IsResolved modules result }
+{
+    match build(alloc, modules.as_slice()) {
         Err(fault) => Err(NameRefusal { fault, modules }),
-        Ok((room, parts)) => Ok(program(room, modules, parts)),
+        Ok(parts) => {
+            let room = room(alloc, modules.len());
+            moved(room, modules, parts)
+        }
     }
 }

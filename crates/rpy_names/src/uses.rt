@@ -1,4 +1,7 @@
 // What the names of a program's nodes stand for.
+ghost use Rattle.std.specs.Prelude.{◌≡◌, ◌<◌, ◌^◌, IfOk, OnOk};
+ghost use Rattle.rpy_names.specs.Uses as spec;
+
 use names_bound::Stand;
 use names_found::unit::Default;
 use names_found::{Found, Step};
@@ -9,7 +12,9 @@ use rpy_tree::{Const, NodeId, Use};
 use std::alloc::Global;
 
 // The use of a constant.
-fn constant_use(alloc: Global, values: &[Option<Const>], number: usize) -> Result<Use, NoMem> {
+fn constant_use(alloc: Global, values: &[Option<Const>], number: usize) -> Result<Use, NoMem>
+    ensures { IfOk result (λ of. of ≡ spec.constant_use values.now number) }
+{
     match values.get(number) {
         Some(Some(value)) => Ok(Use::Value(copy_const(alloc, value)?)),
         _ => Ok(Use::Nothing),
@@ -22,7 +27,10 @@ fn use_of(
     values: &[Option<Const>],
     modules: usize,
     stand: Stand,
-) -> Result<Use, NoMem> {
+) -> Result<Use, NoMem>
+    requires { modules < 2 ^ 63 }
+    ensures { IfOk result (λ of. of ≡ spec.use_of values.now modules stand) }
+{
     match stand {
         Stand::Local(local) => Ok(Use::Local(narrow(local))),
         Stand::Function(function) => Ok(Use::Function(narrow(function))),
@@ -31,7 +39,7 @@ fn use_of(
         Stand::Constant(constant) => constant_use(alloc, values, constant),
         Stand::Module(file) => Ok(Use::Module(narrow(file))),
         Stand::Os => Ok(Use::Module(narrow(modules))),
-        Stand::Sys => Ok(Use::Module(narrow(modules.saturating_add(1)))),
+        Stand::Sys => Ok(Use::Module(narrow(modules + 1))),
         Stand::MaxInt => Ok(Use::Value(Const::Word(i64::MAX))),
         Stand::NoneValue => Ok(Use::Value(Const::None)),
         Stand::TrueValue => Ok(Use::Value(Const::Bool(true))),
@@ -41,7 +49,9 @@ fn use_of(
     }
 }
 
-fn no_uses(alloc: Global, nodes: u32) -> Result<Seq<Use>, NoMem> {
+fn no_uses(alloc: Global, nodes: u32) -> Result<Seq<Use>, NoMem>
+    ensures { IfOk result (λ uses. uses ≡ spec.no_uses nodes) }
+{
     let mut uses = Seq::new(alloc);
     for _node in 0..nodes {
         uses.push(Use::Nothing)?;
@@ -49,7 +59,9 @@ fn no_uses(alloc: Global, nodes: u32) -> Result<Seq<Use>, NoMem> {
     Ok(uses)
 }
 
-fn put(uses: &mut Seq<Use>, node: NodeId, of: Use) {
+fn put(uses: &mut Seq<Use>, node: NodeId, of: Use)
+    ensures { uses.new ≡ spec.put node of uses.old }
+{
     let at = node as usize;
     if at < uses.len() {
         uses.set(at, of);
@@ -62,11 +74,15 @@ fn put_step(
     values: &[Option<Const>],
     modules: usize,
     step: &Step,
-) -> Result<(), NoMem> {
+) -> Result<(), NoMem>
+    requires { modules < 2 ^ 63 }
+    ensures { OnOk result (uses.new ≡ spec.put_step values.now modules step.now uses.old) }
+{
     match step.stand {
         Stand::Nothing => Ok(()),
         stand => {
-            put(uses, step.node, use_of(alloc, values, modules, stand)?);
+            let of = use_of(alloc, values, modules, stand)?;
+            put(uses, step.node, of);
             Ok(())
         }
     }
@@ -78,11 +94,30 @@ fn put_steps(
     values: &[Option<Const>],
     modules: usize,
     steps: &[Step],
-) -> Result<(), NoMem> {
+) -> Result<(), NoMem>
+    requires { modules < 2 ^ 63 }
+    ensures { OnOk result (uses.new ≡ spec.put_steps values.now modules steps.now uses.old) }
+{
     for step in steps {
         put_step(alloc, uses, values, modules, step)?;
     }
     Ok(())
+}
+
+fn put_option(
+    alloc: Global,
+    uses: &mut Seq<Use>,
+    values: &[Option<Const>],
+    modules: usize,
+    steps: &Option<Seq<Step>>,
+) -> Result<(), NoMem>
+    requires { modules < 2 ^ 63 }
+    ensures { OnOk result (uses.new ≡ spec.put_option values.now modules steps.now uses.old) }
+{
+    match steps {
+        None => Ok(()),
+        Some(steps) => put_steps(alloc, uses, values, modules, steps.as_slice()),
+    }
 }
 
 fn put_defaults(
@@ -91,12 +126,12 @@ fn put_defaults(
     values: &[Option<Const>],
     modules: usize,
     defaults: &[Default],
-) -> Result<(), NoMem> {
+) -> Result<(), NoMem>
+    requires { modules < 2 ^ 63 }
+    ensures { OnOk result (uses.new ≡ spec.put_defaults values.now modules defaults.now uses.old) }
+{
     for default in defaults {
-        match &default.steps {
-            None => {}
-            Some(steps) => put_steps(alloc, uses, values, modules, steps.as_slice())?,
-        }
+        put_option(alloc, uses, values, modules, &default.steps)?;
     }
     Ok(())
 }
@@ -107,20 +142,39 @@ fn put_unit(
     values: &[Option<Const>],
     modules: usize,
     found: &Found,
-) -> Result<(), NoMem> {
+) -> Result<(), NoMem>
+    requires { modules < 2 ^ 63 }
+    ensures { OnOk result (uses.new ≡ spec.put_unit values.now modules found.now uses.old) }
+{
     put_steps(alloc, uses, values, modules, found.value.as_slice())?;
     put_defaults(alloc, uses, values, modules, found.defaults.as_slice())?;
     put_steps(alloc, uses, values, modules, found.body.as_slice())
 }
 
-fn put_roots(uses: &mut Seq<Use>, roots: Seq<Root>) {
-    let mut roots = roots;
-    for _turn in 0..roots.len() {
-        match roots.pop() {
-            None => {}
-            Some(root) => put(uses, root.node, Use::Value(root.value)),
-        }
+fn put_units(
+    alloc: Global,
+    uses: &mut Seq<Use>,
+    values: &[Option<Const>],
+    modules: usize,
+    found: &[Found],
+) -> Result<(), NoMem>
+    requires { modules < 2 ^ 63 }
+    ensures { OnOk result (uses.new ≡ spec.put_units values.now modules found.now uses.old) }
+{
+    for unit in found {
+        put_unit(alloc, uses, values, modules, unit)?;
     }
+    Ok(())
+}
+
+fn put_roots(alloc: Global, uses: &mut Seq<Use>, roots: &[Root]) -> Result<(), NoMem>
+    ensures { OnOk result (uses.new ≡ spec.put_roots roots.now uses.old) }
+{
+    for root in roots {
+        let value = copy_const(alloc, &root.value)?;
+        put(uses, root.node, Use::Value(value));
+    }
+    Ok(())
 }
 
 /// The use of each node. The node of a constant expression has its value.
@@ -130,12 +184,13 @@ pub fn program_uses(
     values: &[Option<Const>],
     modules: usize,
     found: &[Found],
-    roots: Seq<Root>,
-) -> Result<Seq<Use>, NoMem> {
+    roots: &[Root],
+) -> Result<Seq<Use>, NoMem>
+    requires { modules < 2 ^ 63 }
+    ensures { IfOk result (λ uses. uses ≡ spec.uses nodes values.now modules found.now roots.now) }
+{
     let mut uses = no_uses(alloc, nodes)?;
-    for unit in found {
-        put_unit(alloc, &mut uses, values, modules, unit)?;
-    }
-    put_roots(&mut uses, roots);
+    put_units(alloc, &mut uses, values, modules, found)?;
+    put_roots(alloc, &mut uses, roots)?;
     Ok(uses)
 }

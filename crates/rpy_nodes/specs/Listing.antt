@@ -1,5 +1,5 @@
 -- What the modules of a program say, one after the other.
-use Rattle.std.specs.Prelude.{ℕ, ◌+◌, Bool, true, false, List, [], ◌∷◌, ◌++◌, map, Option, Some, None, codes}
+use Rattle.std.specs.Prelude.{ℕ, ◌+◌, Bool, true, false, List, [], ◌∷◌, ◌++◌, map, Option, Some, None, codes, ◌==◌, if◌then◌else◌}
 use Rattle.rpy_tree.specs.declared.syntax.Expr.{Expr}
 use Rattle.rpy_tree.specs.declared.syntax.Param.{Param}
 use Rattle.rpy_tree.specs.declared.syntax.Function.{Function}
@@ -15,6 +15,7 @@ use Rattle.rpy_nodes.specs.declared.unit.What.TheVariants.{Import, From, Constan
 use Rattle.rpy_nodes.specs.declared.unit.Unit.{Unit as Listed}
 use Rattle.rpy_nodes.specs.declared.unit.Listing.{Listing}
 use Rattle.rpy_nodes.specs.declared.listing.Named.{Named}
+use Rattle.rpy_nodes.specs.Names.{with_name}
 
 -- the numbers of names, after those
 abbrev pub numbers_onto : List ℕ → List (List ℕ) → Walk → List ℕ × Walk
@@ -140,3 +141,36 @@ list_modules file (m ∷ ms) u = list_modules (file + 1) ms (list_members file 0
 -- the numbers of the modules' own names
 abbrev pub module_names : List Named → Walk → List ℕ × Walk
 module_names ms w = numbers (map (λ m. m.name) ms) w
+
+-- ---- the whole
+
+abbrev pub Seen : Type 0
+Seen = List (List ℕ) × List ℕ
+
+-- a name ends with a space
+abbrev pub see_byte : ℕ → Seen → Seen
+see_byte b s = if b == 32 then (with_name s.0 s.1, []) else (s.0, s.1 ++ b ∷ [])
+
+abbrev pub see_from : List ℕ → Seen → Seen
+see_from [] s = s
+see_from (b ∷ bs) s = see_from bs (see_byte b s)
+
+abbrev pub see_words : List ℕ → List (List ℕ)
+see_words words = (see_from words ([], [])).0
+
+-- the names that the language knows are seen first, so their numbers are known
+abbrev pub known : List (List ℕ)
+known = see_words (codes "None True False os sys rpython rlib rarithmetic ovfcheck intmask write maxint object Exception StandardError ArithmeticError OverflowError ZeroDivisionError LookupError IndexError KeyError ValueError AttributeError AssertionError RuntimeError NotImplementedError len ord chr str int bool min max isinstance range xrange split keys values items iterkeys itervalues iteritems entry_point ")
+
+abbrev pub start : Walk
+start = record { names = known; next = 0; events = [] }
+
+abbrev pub listing_of : List ℕ → Units → Listing
+listing_of names u = record { names = u.1.names; modules = names; nodes = u.1.next; units = u.0 }
+
+abbrev pub list_named : List Named → List ℕ × Walk → Listing
+list_named ms names = listing_of names.0 (list_modules 0 ms ([], names.1))
+
+-- the names of the modules are seen next, then their members in order
+abbrev pub listing : List Named → Listing
+listing ms = list_named ms (module_names ms start)

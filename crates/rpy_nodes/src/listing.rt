@@ -6,7 +6,6 @@ use crate::member::list_members;
 use crate::names::{NameId, Names};
 use crate::unit::{Listing, Unit};
 use crate::walk::Walk;
-use crate::words::WORDS;
 use rpy_base::{NoMem, Seq, Text};
 use rpy_tree::Module;
 use std::alloc::Global;
@@ -18,17 +17,44 @@ pub struct Named {
     pub module: Module,
 }
 
-// The names that the language knows.
-fn known(alloc: Global) -> Result<Names, NoMem> {
+// A byte of the names that the language knows, each of which ends with a space.
+fn see_byte(alloc: Global, names: &mut Names, word: &mut Text, byte: u8) -> Result<(), NoMem>
+    ensures names { OnOk result (names.new ≡ (spec.see_byte byte (names.old, word.old)).0) }
+    ensures word { OnOk result (word.new ≡ (spec.see_byte byte (names.old, word.old)).1) }
+{
+    if byte == b' ' {
+        names.number(alloc, word)?;
+        *word = Text::new(alloc);
+        Ok(())
+    } else {
+        word.push(byte)
+    }
+}
+
+fn see_words(alloc: Global, words: &[u8]) -> Result<Names, NoMem>
+    ensures { IfOk result (λ names. names ≡ spec.see_words words.now) }
+{
     let mut names = Names::new(alloc);
-    for word in WORDS {
-        let text = Text::from_bytes(alloc, word)?;
-        names.number(alloc, &text)?;
+    let mut word = Text::new(alloc);
+    for byte in words {
+        see_byte(alloc, &mut names, &mut word, *byte)?;
     }
     Ok(names)
 }
 
-fn start(alloc: Global) -> Result<Walk, NoMem> {
+// The names that the language knows.
+fn known(alloc: Global) -> Result<Names, NoMem>
+    ensures { IfOk result (λ names. names ≡ spec.known) }
+{
+    see_words(
+        alloc,
+        b"None True False os sys rpython rlib rarithmetic ovfcheck intmask write maxint object Exception StandardError ArithmeticError OverflowError ZeroDivisionError LookupError IndexError KeyError ValueError AttributeError AssertionError RuntimeError NotImplementedError len ord chr str int bool min max isinstance range xrange split keys values items iterkeys itervalues iteritems entry_point ".as_slice(),
+    )
+}
+
+fn start(alloc: Global) -> Result<Walk, NoMem>
+    ensures { IfOk result (λ walk. walk ≡ spec.start) }
+{
     Ok(Walk {
         names: known(alloc)?,
         next: 0,
@@ -59,7 +85,9 @@ fn list_modules(alloc: Global, walk: &mut Walk, modules: &[Named]) -> Result<Seq
 }
 
 /// All members of the modules in node order.
-pub fn list_program(alloc: Global, modules: &[Named]) -> Result<Listing, NoMem> {
+pub fn list_program(alloc: Global, modules: &[Named]) -> Result<Listing, NoMem>
+    ensures { IfOk result (λ listing. listing ≡ spec.listing modules.now) }
+{
     let mut walk = start(alloc)?;
     let names = module_names(alloc, &mut walk, modules)?;
     let units = list_modules(alloc, &mut walk, modules)?;
