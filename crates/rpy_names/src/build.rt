@@ -5,7 +5,7 @@ ghost use Rattle.rpy_names.specs.Gives.{Gives};
 
 use crate::fault::NameFault;
 use crate::tables::{Sources, class_infos, function_infos, program_sites};
-use crate::told::told;
+use crate::tell::told;
 use crate::uses::program_uses;
 use names_bound::{
     ClassAt, ConstantAt, Declared, Fault, FunctionAt, Scopes, Table, all_declared, base_faults,
@@ -193,12 +193,7 @@ fn bind_declared(alloc: Global, listing: &Listing, declared: Declared) -> Result
         fault,
     } = declared;
     let scopes = without_bases(alloc, bindings, members);
-    let named = class_bases(
-        alloc,
-        &scopes,
-        classes.as_slice(),
-        listing.units.as_slice(),
-    )?;
+    let named = class_bases(alloc, &scopes, classes.as_slice(), listing.units.as_slice())?;
     let scopes = with_bases(alloc, scopes, named.as_slice())?;
     let fault = bound_fault(
         alloc,
@@ -222,11 +217,7 @@ fn bind_declared(alloc: Global, listing: &Listing, declared: Declared) -> Result
 fn bind(alloc: Global, listing: &Listing) -> Result<Bound, NoMem>
     ensures { IfOk result (λ bound. bound ≡ spec.bind listing.now) }
 {
-    let declared = all_declared(
-        alloc,
-        listing.modules.as_slice(),
-        listing.units.as_slice(),
-    )?;
+    let declared = all_declared(alloc, listing.modules.as_slice(), listing.units.as_slice())?;
     bind_declared(alloc, listing, declared)
 }
 
@@ -265,11 +256,15 @@ fn parts_of(
 {
     let units = listing.units.as_slice();
     let constants = values.constants.as_slice();
+    let modules = listing.modules.len();
+    if modules > u32::MAX as usize {
+        return Err(NoMem);
+    }
     let uses = program_uses(
         alloc,
         listing.nodes,
         constants,
-        listing.modules.len(),
+        modules,
         found,
         checked.roots.as_slice(),
     )?;

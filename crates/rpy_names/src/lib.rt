@@ -5,12 +5,12 @@ pub mod build;
 pub mod fault;
 mod move_in;
 mod place;
-mod resolve;
 mod tables;
-mod told;
+mod tell;
 mod uses;
+mod whole;
 
 pub use fault::{NameFault, NameRefusal};
 pub use place::fault_place;
-pub use resolve::resolve;
 pub use rpy_nodes::Named;
+pub use whole::resolve;

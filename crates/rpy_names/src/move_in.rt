@@ -1,5 +1,5 @@
 // The modules move into the program.
-ghost use Rattle.std.specs.Prelude.{◌≡◌, ◌≤◌, ◌<◌, ◌++◌, ◌∷◌, [], IfOk, length, reverse, vec_len, vec_capacity};
+ghost use Rattle.std.specs.Prelude.{◌≡◌, ◌≤◌, [], IfOk, length, vec_capacity};
 ghost use Rattle.rpy_names.specs.Place.{modules_of, names_of};
 
 use rpy_base::{NoMem, Seq, Text};
@@ -15,7 +15,7 @@ pub struct Room {
 }
 
 /// Room for so many.
-pub fn room(alloc: Global, count: usize) -> Result<Room, NoMem>
+pub fn make_room(alloc: Global, count: usize) -> Result<Room, NoMem>
     ensures names { IfOk result (λ room. room.names.items ≡ []) }
     ensures modules { IfOk result (λ room. room.modules.items ≡ []) }
     ensures room_for_names { IfOk result (λ room. vec_capacity room.names ≡ count) }
@@ -24,15 +24,6 @@ pub fn room(alloc: Global, count: usize) -> Result<Room, NoMem>
     let names = Vec::with_capacity(alloc, count)?;
     let modules = Vec::with_capacity(alloc, count)?;
     Ok(Room { names, modules })
-}
-
-// An item goes where there is room for it.
-fn put<T: Drop>(into: &mut Vec<T>, item: T)
-    requires { vec_len into.old < vec_capacity into.old }
-    ensures items { into.new.items ≡ into.old.items ++ item ∷ [] }
-    ensures capacity { vec_capacity into.new ≡ vec_capacity into.old }
-{
-    let _ = into.push(item);
 }
 
 /// The names and the modules, in order.
@@ -51,8 +42,8 @@ pub fn move_in(room: Room, modules: Seq<Named>) -> (Seq<Text>, Seq<Module>)
     } = room;
     let mut rest = modules;
     while let Some(Named { name, module }) = rest.pop() {
-        put(&mut names, name);
-        put(&mut all, module);
+        names.push_reserved(name);
+        all.push_reserved(module);
     }
     names.reverse();
     all.reverse();

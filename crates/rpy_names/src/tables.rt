@@ -227,14 +227,7 @@ fn class_info(
         at.constant,
         class,
     )?;
-    let methods = class_methods(
-        alloc,
-        of.names,
-        of.units,
-        of.functions,
-        at.function,
-        class,
-    )?;
+    let methods = class_methods(alloc, of.names, of.units, of.functions, at.function, class)?;
     Ok(ClassInfo {
         node: node_of(of.units, at.unit),
         file: narrow(at.file),

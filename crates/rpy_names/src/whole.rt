@@ -6,7 +6,7 @@ ghost use Rattle.rpy_names.specs.Resolve as spec;
 
 use crate::build::{Parts, build};
 use crate::fault::{NameFault, NameRefusal};
-use crate::move_in::{Room, move_in, room};
+use crate::move_in::{Room, make_room, move_in};
 use rpy_base::{NoMem, Seq};
 use rpy_nodes::Named;
 use rpy_tree::Program;
@@ -64,7 +64,7 @@ pub fn resolve(alloc: Global, modules: Seq<Named>) -> Result<Program, NameRefusa
     match build(alloc, modules.as_slice()) {
         Err(fault) => Err(NameRefusal { fault, modules }),
         Ok(parts) => {
-            let room = room(alloc, modules.len());
+            let room = make_room(alloc, modules.len());
             moved(room, modules, parts)
         }
     }
