@@ -1,0 +1,4 @@
+pub mod Finder
+pub mod Locals
+pub mod Part
+pub mod Units

@@ -1,0 +1,4 @@
+pub mod Contents
+pub mod Fitting
+pub mod Lasts
+pub mod Rounds

@@ -1,0 +1,5 @@
+pub mod Arithmetic
+pub mod Constants
+pub mod Machine
+pub mod Same
+pub mod Slots
