@@ -1,0 +1,175 @@
+-- Types, constants and operands are read as they are spelled.
+use Rattle.std.proofs.Common.{◌≡◌, ℕ, ℤ, pos, negsuc, suc, ◌+◌, ◌^◌, ◌<◌, ◌≤◌, ◌==◌, Bool, true, false, cond, List, [], ◌∷◌, ◌++◌, Option, Some, None, refl, ap, ◌∙◌, arith, sym, append_assoc, length, codes}
+use Rattle.std.specs.Fmt.{decimal, signed_decimal}
+use Rattle.std.proofs.lemmas.Grind.{common_steps}
+use Rattle.csub_tree.specs.declared.tree.CType.{CType}
+use Rattle.csub_tree.specs.declared.tree.CType.TheVariants as type
+use Rattle.csub_tree.specs.declared.tree.CConst.{CConst}
+use Rattle.csub_tree.specs.declared.tree.CConst.TheVariants as const
+use Rattle.csub_tree.specs.declared.tree.COperand.{COperand}
+use Rattle.csub_tree.specs.declared.tree.COperand.TheVariants as oper
+use Rattle.csub_tree.specs.Spelling as spell
+use Rattle.csub_text.specs.Read.{stripped, begins, literal, number_below, after, name, pointer, before_name, type_alone, result_before_name, result_alone, cast_constant, constant, operand, decimal_word, decimal_word_of, lead, mapped}
+use Rattle.csub_text.proofs.Numbers.{ends, stripped_own, number_own, name_own, lead_of, below_is, Digit, digit_first, is_other}
+
+abbrev pub is_type : CType → Type 0
+is_type (type.Ptr n) = n < 2 ^ 64
+is_type other = Unit {0}
+
+pub pointer_own : (n : ℕ) (r : List ℕ) → n < 2 ^ 64 → pointer (codes "struct s" ++ (decimal n ++ (codes " *" ++ r))) ≡ Some (type.Ptr n, r)
+unfolding pointer
+pointer_own n r ok = rw (number_own (2 ^ 64) n (codes " *" ++ r) ok ok refl) refl
+
+pub before_name_own : (t : CType) (r : List ℕ) → is_type t → before_name (spell.before_name t ++ r) ≡ Some (t, r)
+unfolding before_name
+before_name_own type.Signed r ok = refl
+before_name_own type.Char r ok = refl
+before_name_own type.Bool r ok = refl
+before_name_own type.Fn r ok = refl
+before_name_own (type.Ptr n) r ok = rw append_assoc (pointer_own n r ok)
+
+pub type_alone_own : (t : CType) (r : List ℕ) → is_type t → type_alone (spell.type_alone t ++ r) ≡ Some (t, r)
+unfolding type_alone
+type_alone_own type.Signed r ok = refl
+type_alone_own type.Char r ok = refl
+type_alone_own type.Bool r ok = refl
+type_alone_own type.Fn r ok = refl
+type_alone_own (type.Ptr n) r ok = rw append_assoc (pointer_own n r ok)
+
+abbrev pub is_type_if_any : Option CType → Type 0
+is_type_if_any None = Unit {0}
+is_type_if_any (Some t) = is_type t
+
+pub result_before_name_own : (t : Option CType) (r : List ℕ) → is_type_if_any t → result_before_name (spell.result_before_name t ++ r) ≡ Some (t, r)
+unfolding result_before_name
+result_before_name_own None r ok = refl
+result_before_name_own (Some type.Signed) r ok = rw (before_name_own type.Signed r tt) refl
+result_before_name_own (Some type.Char) r ok = rw (before_name_own type.Char r tt) refl
+result_before_name_own (Some type.Bool) r ok = rw (before_name_own type.Bool r tt) refl
+result_before_name_own (Some type.Fn) r ok = rw (before_name_own type.Fn r tt) refl
+result_before_name_own (Some (type.Ptr n)) r ok = rw (before_name_own (type.Ptr n) r ok) refl
+
+pub result_alone_own : (t : Option CType) (r : List ℕ) → is_type_if_any t → result_alone (spell.result_alone t ++ r) ≡ Some (t, r)
+unfolding result_alone
+result_alone_own None r ok = refl
+result_alone_own (Some type.Signed) r ok = rw (type_alone_own type.Signed r tt) refl
+result_alone_own (Some type.Char) r ok = rw (type_alone_own type.Char r tt) refl
+result_alone_own (Some type.Bool) r ok = rw (type_alone_own type.Bool r tt) refl
+result_alone_own (Some type.Fn) r ok = rw (type_alone_own type.Fn r tt) refl
+result_alone_own (Some (type.Ptr n)) r ok = rw (type_alone_own (type.Ptr n) r ok) refl
+
+-- a word of 64 bits
+abbrev pub is_word : ℤ → Type 0
+is_word (pos n) = n < 2 ^ 63
+is_word (negsuc n) = n < 2 ^ 63
+
+abbrev pub is_constant : CConst → Type 0
+is_constant (const.Word z) = is_word z
+is_constant (const.Char n) = n < 256
+is_constant (const.Bool b) = Unit {0}
+is_constant const.Null = Unit {0}
+is_constant (const.Static s g) = (s < 2 ^ 64) × (g < 2 ^ 64)
+is_constant (const.Fun f) = f < 2 ^ 64
+
+abbrev pub is_operand : COperand → Type 0
+is_operand (oper.Var v) = v < 2 ^ 64
+is_operand (oper.Const c) = is_constant c
+
+cast_constant_char : (n : ℕ) (r : List ℕ) → n < 256 → ends r ≡ true → cast_constant (codes "(Char)" ++ (decimal n ++ r)) ≡ Some (const.Char n, r)
+unfolding cast_constant
+cast_constant_char n r ok e = rw (number_own 256 n r (omega arith) ok e) refl
+
+cast_constant_fun : (n : ℕ) (r : List ℕ) → n < 2 ^ 64 → ends r ≡ true → cast_constant (codes "(Fn)f" ++ (decimal n ++ r)) ≡ Some (const.Fun n, r)
+unfolding cast_constant
+cast_constant_fun n r ok e = rw (number_own (2 ^ 64) n r ok ok e) refl
+
+cast_constant_static : (s g : ℕ) (r : List ℕ) → s < 2 ^ 64 → g < 2 ^ 64 → ends r ≡ true → cast_constant (codes "(struct s" ++ (decimal s ++ (codes " *)&g" ++ (decimal g ++ r)))) ≡ Some (const.Static s g, r)
+unfolding cast_constant
+cast_constant_static s g r ok_s ok_g e = rw (number_own (2 ^ 64) s (codes " *)&g" ++ (decimal g ++ r)) ok_s ok_s refl, number_own (2 ^ 64) g r ok_g ok_g e) refl
+
+-- where a digit is first, a word is read
+word_first : (d : ℕ) (i : List ℕ) → 48 ≤ d → d ≤ 57 → constant (d ∷ i) ≡ mapped const.Word (decimal_word (d ∷ i))
+unfolding constant
+word_first d i low high = rw (is_other d 40 low high refl, is_other d 82 low high refl, is_other d 78 low high refl) refl
+
+decimal_first : (d : ℕ) (i : List ℕ) → 48 ≤ d → d ≤ 57 → decimal_word (d ∷ i) ≡ decimal_word_of (pos (lead 0 (d ∷ i))) (lead 0 (d ∷ i)) (d ∷ i)
+unfolding decimal_word
+decimal_first d i low high = rw (is_other d 45 low high refl) refl
+
+decimal_word_own : (n : ℕ) (r : List ℕ) → n < 2 ^ 63 → decimal_word_of (pos (lead 0 (decimal n ++ (codes "L" ++ r)))) (lead 0 (decimal n ++ (codes "L" ++ r))) (decimal n ++ (codes "L" ++ r)) ≡ Some (pos n, r)
+decimal_word_own n r ok =
+    let l : lead 0 (decimal n ++ (codes "L" ++ r)) ≡ n = lead_of n (codes "L" ++ r) (omega arith) refl in
+    let t : decimal n ++ (codes "L" ++ r) ≡ (decimal n ++ codes "L") ++ r = sym (append_assoc (decimal n) (codes "L") r) in
+    rw (l, t, stripped_own (decimal n ++ codes "L") r) (below_is n (2 ^ 63) (Some (pos n, r)) None ok)
+
+at_digit : (n : ℕ) (j : List ℕ) → n < 2 ^ 63 → (h : Digit (decimal n)) → constant (decimal n ++ j) ≡ mapped const.Word (decimal_word_of (pos (lead 0 (decimal n ++ j))) (lead 0 (decimal n ++ j)) (decimal n ++ j))
+at_digit n j ok h =
+    let t : decimal n ++ j ≡ h.first ∷ (h.rest ++ j) = ap (λ ds. ds ++ j) h.is in
+    rw t (word_first h.first (h.rest ++ j) h.low h.high ∙ ap (mapped const.Word) (decimal_first h.first (h.rest ++ j) h.low h.high))
+
+constant_word : (n : ℕ) (r : List ℕ) → n < 2 ^ 63 → constant ((decimal n ++ codes "L") ++ r) ≡ Some (const.Word (pos n), r)
+constant_word n r ok =
+    ap constant (append_assoc (decimal n) (codes "L") r)
+    ∙ at_digit n (codes "L" ++ r) ok (digit_first n (omega arith))
+    ∙ ap (mapped const.Word) (decimal_word_own n r ok)
+
+minus_own : (n : ℕ) (r : List ℕ) → suc n < 2 ^ 63 → decimal_word (45 ∷ ((decimal (suc n) ++ codes "L") ++ r)) ≡ Some (negsuc n, r)
+unfolding decimal_word
+minus_own n r ok =
+    let t : (decimal (suc n) ++ codes "L") ++ r ≡ decimal (suc n) ++ (codes "L" ++ r) = append_assoc (decimal (suc n)) (codes "L") r in
+    let l : lead 0 ((decimal (suc n) ++ codes "L") ++ r) ≡ suc n = ap (lead 0) t ∙ lead_of (suc n) (codes "L" ++ r) (omega arith) refl in
+    rw (l, stripped_own (decimal (suc n) ++ codes "L") r) (below_is (suc n) (2 ^ 63) (Some (negsuc n, r)) None ok)
+
+constant_minus : (n : ℕ) (smallest : Bool) (r : List ℕ) → smallest ≡ (n == 9223372036854775807) → n < 2 ^ 63 → constant (cond smallest (codes "RPY_MIN") (signed_decimal (negsuc n) ++ codes "L") ++ r) ≡ Some (const.Word (negsuc n), r)
+unfolding constant
+constant_minus n true r e ok =
+    let t : 9223372036854775807 ≡ n = grind (arith, common_steps) in
+    ap (λ m. Some (const.Word (negsuc m), r)) t
+constant_minus n false r e ok =
+    let small : suc n < 2 ^ 63 = grind (arith, common_steps) in
+    ap (mapped const.Word) (minus_own n r small)
+
+pub constant_own : (c : CConst) (r : List ℕ) → is_constant c → ends r ≡ true → constant (spell.constant_text c ++ r) ≡ Some (c, r)
+unfolding constant
+constant_own (const.Word (pos n)) r ok e = constant_word n r ok
+constant_own (const.Word (negsuc n)) r ok e = constant_minus n (n == 9223372036854775807) r refl ok
+constant_own (const.Char n) r ok e = cast_constant_char n r ok e
+constant_own (const.Bool true) r ok e = refl
+constant_own (const.Bool false) r ok e = refl
+constant_own const.Null r ok e = refl
+constant_own (const.Static s g) r ok e =
+    let t : spell.constant_text (const.Static s g) ++ r ≡ codes "(struct s" ++ (decimal s ++ (codes " *)&g" ++ (decimal g ++ r))) = rw (append_assoc, append_assoc, append_assoc) in
+    ap constant t ∙ cast_constant_static s g r ok.0 ok.1 e
+constant_own (const.Fun f) r ok e = cast_constant_fun f r ok e
+
+operand_at : (d : ℕ) (i : List ℕ) → 48 ≤ d → d ≤ 57 → operand (d ∷ i) ≡ mapped oper.Const (constant (d ∷ i))
+unfolding operand
+operand_at d i low high = rw (is_other d 118 low high refl) refl
+
+operand_digit : (ds s r : List ℕ) → Digit ds → operand ((ds ++ s) ++ r) ≡ mapped oper.Const (constant ((ds ++ s) ++ r))
+operand_digit ds s r h =
+    let t : (ds ++ s) ++ r ≡ h.first ∷ ((h.rest ++ s) ++ r) = ap (λ t. (t ++ s) ++ r) h.is in
+    rw t (operand_at h.first ((h.rest ++ s) ++ r) h.low h.high)
+
+operand_minus : (smallest : Bool) (n : ℕ) (r : List ℕ)
+    → operand (cond smallest (codes "RPY_MIN") (signed_decimal (negsuc n) ++ codes "L") ++ r)
+    ≡ mapped oper.Const (constant (cond smallest (codes "RPY_MIN") (signed_decimal (negsuc n) ++ codes "L") ++ r))
+unfolding operand
+operand_minus true n r = refl
+operand_minus false n r = refl
+
+pub operand_own : (x : COperand) (r : List ℕ) → is_operand x → ends r ≡ true → operand (spell.operand_text x ++ r) ≡ Some (x, r)
+unfolding operand
+operand_own (oper.Var v) r ok e = rw (number_own (2 ^ 64) v r ok ok e) refl
+operand_own (oper.Const (const.Word (pos n))) r ok e =
+    operand_digit (decimal n) (codes "L") r (digit_first n (omega arith))
+    ∙ ap (mapped oper.Const) (constant_own (const.Word (pos n)) r ok e)
+operand_own (oper.Const (const.Word (negsuc n))) r ok e =
+    operand_minus (n == 9223372036854775807) n r
+    ∙ ap (mapped oper.Const) (constant_own (const.Word (negsuc n)) r ok e)
+operand_own (oper.Const (const.Char n)) r ok e = rw (constant_own (const.Char n) r ok e) refl
+operand_own (oper.Const (const.Bool true)) r ok e = rw (constant_own (const.Bool true) r ok e) refl
+operand_own (oper.Const (const.Bool false)) r ok e = rw (constant_own (const.Bool false) r ok e) refl
+operand_own (oper.Const const.Null) r ok e = rw (constant_own const.Null r ok e) refl
+operand_own (oper.Const (const.Static s g)) r ok e = rw (constant_own (const.Static s g) r ok e) refl
+operand_own (oper.Const (const.Fun f)) r ok e = rw (constant_own (const.Fun f) r ok e) refl
