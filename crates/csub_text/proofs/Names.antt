@@ -9,7 +9,7 @@ use Rattle.csub_tree.specs.declared.tree.CConst.TheVariants as const
 use Rattle.csub_tree.specs.declared.tree.COperand.{COperand}
 use Rattle.csub_tree.specs.declared.tree.COperand.TheVariants as oper
 use Rattle.csub_tree.specs.Spelling as spell
-use Rattle.csub_text.specs.Read.{stripped, begins, literal, number_below, after, name, pointer, before_name, type_alone, result_before_name, result_alone, cast_constant, constant, operand, decimal_word, decimal_word_of, lead, mapped}
+use Rattle.csub_text.specs.Read.{stripped, begins, literal, number_below, after, name, pointer, before_name, type_alone, result_before_name, result_alone, cast_constant, constant, operand, decimal_word, decimal_word_of, lead, mapped, cast}
 use Rattle.csub_text.proofs.Numbers.{ends, stripped_own, number_own, name_own, lead_of, below_is, Digit, digit_first, is_other}
 
 abbrev pub is_type : CType → Type 0
@@ -83,8 +83,12 @@ cast_constant_fun : (n : ℕ) (r : List ℕ) → n < 2 ^ 64 → ends r ≡ true 
 unfolding cast_constant
 cast_constant_fun n r ok e = rw (number_own (2 ^ 64) n r ok ok e) refl
 
+pub cast_own : (n : ℕ) (r : List ℕ) → n < 2 ^ 64 → cast (spell.cast n ++ r) ≡ Some (n, r)
+unfolding cast
+cast_own n r ok = ap cast (append_assoc (codes "(struct s" ++ decimal n) (codes " *)") r) ∙ rw (number_own (2 ^ 64) n (codes " *)" ++ r) ok ok refl) refl
+
 cast_constant_static : (s g : ℕ) (r : List ℕ) → s < 2 ^ 64 → g < 2 ^ 64 → ends r ≡ true → cast_constant (codes "(struct s" ++ (decimal s ++ (codes " *)&g" ++ (decimal g ++ r)))) ≡ Some (const.Static s g, r)
-unfolding cast_constant
+unfolding cast_constant cast
 cast_constant_static s g r ok_s ok_g e = rw (number_own (2 ^ 64) s (codes " *)&g" ++ (decimal g ++ r)) ok_s ok_s refl, number_own (2 ^ 64) g r ok_g ok_g e) refl
 
 -- where a digit is first, a word is read

@@ -99,7 +99,7 @@ result_alone i = cond (begins (codes "void") i) (literal (codes "void") None i) 
 
 -- ---- constants and operands
 
-abbrev pub cast : List ℕ → Got ℕ
+unfoldable pub cast : List ℕ → Got ℕ
 cast i = ended (name (codes "(struct s") i) (codes " *)")
 
 abbrev pub minus : ℕ → ℤ
