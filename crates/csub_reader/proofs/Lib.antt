@@ -1,3 +1,5 @@
+pub mod Strip
+pub mod Digits
 pub mod Longer
 pub mod Nested
 pub mod Pieces

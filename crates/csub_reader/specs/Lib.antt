@@ -1,2 +1,5 @@
+pub mod Callee
 pub mod OpenCells
 pub mod Refused
+pub mod Parts
+pub mod Reads

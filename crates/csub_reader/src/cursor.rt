@@ -1,5 +1,7 @@
 // The bytes that are still to be read.
-ghost use Rattle.std.specs.Prelude.{◌≡◌, ◌++◌, [], true, OnOk, IfSome};
+ghost use Rattle.std.specs.Prelude.{◌≡◌, ◌++◌, [], true, OnOk, IfSome, Option};
+ghost use Rattle.csub_text.specs.Read.{stripped, begins};
+ghost use Rattle.csub_reader.specs.Reads.{Strips, Same};
 
 use crate::fault::Stop;
 use std::marker::Model;
@@ -18,8 +20,10 @@ impl<'a> Model for Cursor<'a> {
 }
 
 // The bytes after this start.
+#[tactic(auto, using(crate::proofs::Strip::strips_short))]
 fn stripped<'a>(bytes: &'a [u8], start: &[u8]) -> Option<&'a [u8]>
-    ensures { IfSome result (λ rest. bytes.now ≡ start.now ++ rest.now) }
+    ensures spelled { IfSome result (λ rest. bytes.now ≡ start.now ++ rest.now) }
+    ensures reads { Same (stripped start.now bytes.now) result }
 {
     let mut rest = bytes;
     for p in start {
@@ -35,7 +39,9 @@ fn stripped<'a>(bytes: &'a [u8], start: &[u8]) -> Option<&'a [u8]>
 }
 
 /// Whether the bytes begin with this start.
-pub fn begins(bytes: &[u8], start: &[u8]) -> bool {
+pub fn begins(bytes: &[u8], start: &[u8]) -> bool
+    ensures { result ≡ begins start.now bytes.now }
+{
     stripped(bytes, start).is_some()
 }
 
@@ -62,13 +68,16 @@ impl<'a> Cursor<'a> {
     }
 
     /// Whether these bytes come next.
-    pub fn sees(&self, start: &[u8]) -> bool {
+    pub fn sees(&self, start: &[u8]) -> bool
+        ensures { result ≡ begins start.now self.now }
+    {
         begins(self.rest, start)
     }
 
     /// Goes past these bytes, which have to come next. Where they do not, nothing is passed.
     pub fn expect(&mut self, start: &[u8]) -> Result<(), Stop>
-        ensures { OnOk result (self.old ≡ start.now ++ self.new) }
+        ensures spelled { OnOk result (self.old ≡ start.now ++ self.new) }
+        ensures reads { Strips (stripped start.now self.old) result self.new }
     {
         match stripped(self.rest, start) {
             Some(rest) => {

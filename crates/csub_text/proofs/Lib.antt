@@ -1,3 +1,4 @@
-pub mod Numbers
+pub mod Declarations
 pub mod Names
+pub mod Numbers
 pub mod Statements

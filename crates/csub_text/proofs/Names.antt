@@ -9,7 +9,7 @@ use Rattle.csub_tree.specs.declared.tree.CConst.TheVariants as const
 use Rattle.csub_tree.specs.declared.tree.COperand.{COperand}
 use Rattle.csub_tree.specs.declared.tree.COperand.TheVariants as oper
 use Rattle.csub_tree.specs.Spelling as spell
-use Rattle.csub_text.specs.Read.{stripped, begins, literal, number_below, after, name, pointer, before_name, type_alone, result_before_name, result_alone, cast_constant, constant, operand, decimal_word, decimal_word_of, lead, mapped, cast}
+use Rattle.csub_text.specs.Read.{stripped, begins, literal, number_below, after, name, pointer, before_name, type_alone, result_before_name, result_alone, cast_constant, constant, operand, decimal_word, word_value, small, lead, mapped, cast}
 use Rattle.csub_text.proofs.Numbers.{ends, stripped_own, number_own, name_own, lead_of, below_is, Digit, digit_first, is_other}
 
 abbrev pub is_type : CType → Type 0
@@ -96,33 +96,47 @@ word_first : (d : ℕ) (i : List ℕ) → 48 ≤ d → d ≤ 57 → constant (d 
 unfolding constant
 word_first d i low high = rw (is_other d 40 low high refl, is_other d 82 low high refl, is_other d 78 low high refl) refl
 
-decimal_first : (d : ℕ) (i : List ℕ) → 48 ≤ d → d ≤ 57 → decimal_word (d ∷ i) ≡ decimal_word_of (pos (lead 0 (d ∷ i))) (lead 0 (d ∷ i)) (d ∷ i)
-unfolding decimal_word
-decimal_first d i low high = rw (is_other d 45 low high refl) refl
+value_first : (d : ℕ) (i : List ℕ) → 48 ≤ d → d ≤ 57 → word_value (d ∷ i) ≡ small (pos (lead 0 (d ∷ i))) (lead 0 (d ∷ i))
+unfolding word_value
+value_first d i low high = rw (is_other d 45 low high refl) refl
 
-decimal_word_own : (n : ℕ) (r : List ℕ) → n < 2 ^ 63 → decimal_word_of (pos (lead 0 (decimal n ++ (codes "L" ++ r)))) (lead 0 (decimal n ++ (codes "L" ++ r))) (decimal n ++ (codes "L" ++ r)) ≡ Some (pos n, r)
-decimal_word_own n r ok =
-    let l : lead 0 (decimal n ++ (codes "L" ++ r)) ≡ n = lead_of n (codes "L" ++ r) (omega arith) refl in
-    let t : decimal n ++ (codes "L" ++ r) ≡ (decimal n ++ codes "L") ++ r = sym (append_assoc (decimal n) (codes "L") r) in
-    rw (l, t, stripped_own (decimal n ++ codes "L") r) (below_is n (2 ^ 63) (Some (pos n, r)) None ok)
-
-at_digit : (n : ℕ) (j : List ℕ) → n < 2 ^ 63 → (h : Digit (decimal n)) → constant (decimal n ++ j) ≡ mapped const.Word (decimal_word_of (pos (lead 0 (decimal n ++ j))) (lead 0 (decimal n ++ j)) (decimal n ++ j))
-at_digit n j ok h =
+value_digit : (n : ℕ) (j : List ℕ) → (h : Digit (decimal n)) → word_value (decimal n ++ j) ≡ small (pos (lead 0 (decimal n ++ j))) (lead 0 (decimal n ++ j))
+value_digit n j h =
     let t : decimal n ++ j ≡ h.first ∷ (h.rest ++ j) = ap (λ ds. ds ++ j) h.is in
-    rw t (word_first h.first (h.rest ++ j) h.low h.high ∙ ap (mapped const.Word) (decimal_first h.first (h.rest ++ j) h.low h.high))
+    rw t (value_first h.first (h.rest ++ j) h.low h.high)
+
+value_own : (n : ℕ) (r : List ℕ) → n < 2 ^ 63 → word_value (decimal n ++ (codes "L" ++ r)) ≡ Some (pos n)
+value_own n r ok =
+    let l : lead 0 (decimal n ++ (codes "L" ++ r)) ≡ n = lead_of n (codes "L" ++ r) (omega arith) refl in
+    value_digit n (codes "L" ++ r) (digit_first n (omega arith)) ∙ rw l (below_is n (2 ^ 63) (Some (pos n)) None ok)
+
+decimal_word_own : (n : ℕ) (r : List ℕ) → n < 2 ^ 63 → decimal_word ((decimal n ++ codes "L") ++ r) ≡ Some (pos n, r)
+unfolding decimal_word
+decimal_word_own n r ok =
+    rw (ap word_value (append_assoc (decimal n) (codes "L") r) ∙ value_own n r ok, stripped_own (decimal n ++ codes "L") r) refl
+
+constant_digit : (n : ℕ) (s r : List ℕ) → (h : Digit (decimal n)) → constant ((decimal n ++ s) ++ r) ≡ mapped const.Word (decimal_word ((decimal n ++ s) ++ r))
+constant_digit n s r h =
+    let t : (decimal n ++ s) ++ r ≡ h.first ∷ ((h.rest ++ s) ++ r) = ap (λ ds. (ds ++ s) ++ r) h.is in
+    rw t (word_first h.first ((h.rest ++ s) ++ r) h.low h.high)
 
 constant_word : (n : ℕ) (r : List ℕ) → n < 2 ^ 63 → constant ((decimal n ++ codes "L") ++ r) ≡ Some (const.Word (pos n), r)
 constant_word n r ok =
-    ap constant (append_assoc (decimal n) (codes "L") r)
-    ∙ at_digit n (codes "L" ++ r) ok (digit_first n (omega arith))
-    ∙ ap (mapped const.Word) (decimal_word_own n r ok)
+    constant_digit n (codes "L") r (digit_first n (omega arith)) ∙ ap (mapped const.Word) (decimal_word_own n r ok)
+
+not_smallest : (n : ℕ) → suc n < 2 ^ 63 → (n == 9223372036854775807) ≡ false
+not_smallest n ok = grind (arith, common_steps)
+
+minus_value : (n : ℕ) (r : List ℕ) → suc n < 2 ^ 63 → word_value (45 ∷ ((decimal (suc n) ++ codes "L") ++ r)) ≡ Some (negsuc n)
+unfolding word_value
+minus_value n r ok =
+    let t : (decimal (suc n) ++ codes "L") ++ r ≡ decimal (suc n) ++ (codes "L" ++ r) = append_assoc (decimal (suc n)) (codes "L") r in
+    let l : lead 0 ((decimal (suc n) ++ codes "L") ++ r) ≡ suc n = ap (lead 0) t ∙ lead_of (suc n) (codes "L" ++ r) (omega arith) refl in
+    rw l (below_is (suc n) (2 ^ 63) (Some (negsuc n)) None ok)
 
 minus_own : (n : ℕ) (r : List ℕ) → suc n < 2 ^ 63 → decimal_word (45 ∷ ((decimal (suc n) ++ codes "L") ++ r)) ≡ Some (negsuc n, r)
 unfolding decimal_word
-minus_own n r ok =
-    let t : (decimal (suc n) ++ codes "L") ++ r ≡ decimal (suc n) ++ (codes "L" ++ r) = append_assoc (decimal (suc n)) (codes "L") r in
-    let l : lead 0 ((decimal (suc n) ++ codes "L") ++ r) ≡ suc n = ap (lead 0) t ∙ lead_of (suc n) (codes "L" ++ r) (omega arith) refl in
-    rw (l, stripped_own (decimal (suc n) ++ codes "L") r) (below_is (suc n) (2 ^ 63) (Some (negsuc n, r)) None ok)
+minus_own n r ok = rw (minus_value n r ok, not_smallest n ok, stripped_own (decimal (suc n) ++ codes "L") r) refl
 
 constant_minus : (n : ℕ) (smallest : Bool) (r : List ℕ) → smallest ≡ (n == 9223372036854775807) → n < 2 ^ 63 → constant (cond smallest (codes "RPY_MIN") (signed_decimal (negsuc n) ++ codes "L") ++ r) ≡ Some (const.Word (negsuc n), r)
 unfolding constant

@@ -23,22 +23,22 @@ use Rattle.csub_text.specs.ReadStatement.{rest_of, list_of, operands, types, arg
 use Rattle.csub_text.proofs.Numbers.{ends, stripped_own, number_own, name_own, Digit, digit_first, is_other, below_is}
 use Rattle.csub_text.proofs.Names.{is_type, is_type_if_any, is_word, is_constant, is_operand, operand_own, cast_own, type_alone_own, result_alone_own}
 
-two : (a b r : List ℕ) → (a ++ b) ++ r ≡ a ++ (b ++ r)
+pub two : (a b r : List ℕ) → (a ++ b) ++ r ≡ a ++ (b ++ r)
 two a b r = append_assoc a b r
 
-three : (a b c r : List ℕ) → (a ++ b ++ c) ++ r ≡ a ++ (b ++ (c ++ r))
+pub three : (a b c r : List ℕ) → (a ++ b ++ c) ++ r ≡ a ++ (b ++ (c ++ r))
 three a b c r = simp append_assoc
 
-four : (a b c d r : List ℕ) → (a ++ b ++ c ++ d) ++ r ≡ a ++ (b ++ (c ++ (d ++ r)))
+pub four : (a b c d r : List ℕ) → (a ++ b ++ c ++ d) ++ r ≡ a ++ (b ++ (c ++ (d ++ r)))
 four a b c d r = simp append_assoc
 
-five : (a b c d e r : List ℕ) → (a ++ b ++ c ++ d ++ e) ++ r ≡ a ++ (b ++ (c ++ (d ++ (e ++ r))))
+pub five : (a b c d e r : List ℕ) → (a ++ b ++ c ++ d ++ e) ++ r ≡ a ++ (b ++ (c ++ (d ++ (e ++ r))))
 five a b c d e r = simp append_assoc
 
-six : (a b c d e f r : List ℕ) → (a ++ b ++ c ++ d ++ e ++ f) ++ r ≡ a ++ (b ++ (c ++ (d ++ (e ++ (f ++ r)))))
+pub six : (a b c d e f r : List ℕ) → (a ++ b ++ c ++ d ++ e ++ f) ++ r ≡ a ++ (b ++ (c ++ (d ++ (e ++ (f ++ r)))))
 six a b c d e f r = simp append_assoc
 
-seven : (a b c d e f g r : List ℕ) → (a ++ b ++ c ++ d ++ e ++ f ++ g) ++ r ≡ a ++ (b ++ (c ++ (d ++ (e ++ (f ++ (g ++ r))))))
+pub seven : (a b c d e f g r : List ℕ) → (a ++ b ++ c ++ d ++ e ++ f ++ g) ++ r ≡ a ++ (b ++ (c ++ (d ++ (e ++ (f ++ (g ++ r))))))
 seven a b c d e f g r = simp append_assoc
 
 item_after : (t l i x c e r : List ℕ) → (t ++ (l ++ i ++ x ++ c) ++ e) ++ r ≡ t ++ (l ++ ((i ++ x ++ c) ++ (e ++ r)))

@@ -106,15 +106,23 @@ abbrev pub minus : ℕ → ℤ
 minus zero = pos 0
 minus (suc n) = negsuc n
 
-abbrev pub decimal_word_of : ℤ → ℕ → List ℕ → Got ℤ
-decimal_word_of z n i = cond (nat_lt n (2 ^ 63)) (literal (signed_decimal z ++ codes "L") z i) None
+abbrev pub small : ℤ → ℕ → Option ℤ
+small z n = cond (nat_lt n (2 ^ 63)) (Some z) None
 
-abbrev pub lead_word : List ℕ → Option (List ℕ) → Got ℤ
-lead_word i None = decimal_word_of (pos (lead 0 i)) (lead 0 i) i
-lead_word i (Some j) = decimal_word_of (minus (lead 0 j)) (lead 0 j) i
+abbrev pub signed : List ℕ → Option (List ℕ) → Option ℤ
+signed i None = small (pos (lead 0 i)) (lead 0 i)
+signed i (Some j) = small (minus (lead 0 j)) (lead 0 j)
+
+-- what the sign and the digits at the front are
+unfoldable pub word_value : List ℕ → Option ℤ
+word_value i = signed i (stripped (codes "-") i)
+
+abbrev pub expect_word : Option ℤ → List ℕ → Got ℤ
+expect_word None i = None
+expect_word (Some z) i = literal (word z) z i
 
 unfoldable pub decimal_word : List ℕ → Got ℤ
-decimal_word i = lead_word i (stripped (codes "-") i)
+decimal_word i = expect_word (word_value i) i
 
 unfoldable pub cast_constant : List ℕ → Got CConst
 cast_constant i =
