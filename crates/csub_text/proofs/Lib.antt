@@ -1,4 +1,7 @@
+pub mod Cells
 pub mod Declarations
+pub mod Files
+pub mod Functions
 pub mod Names
 pub mod Numbers
 pub mod Statements

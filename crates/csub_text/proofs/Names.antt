@@ -9,18 +9,15 @@ use Rattle.csub_tree.specs.declared.tree.CConst.TheVariants as const
 use Rattle.csub_tree.specs.declared.tree.COperand.{COperand}
 use Rattle.csub_tree.specs.declared.tree.COperand.TheVariants as oper
 use Rattle.csub_tree.specs.Spelling as spell
+use Rattle.csub_text.specs.Written.{All, IsNumberIfAny, IsType, IsTypeIfAny, IsWord, IsConstant, IsOperand, IsOperandIfAny, IsStatement, IsClosed, IsBlock, IsSomeBlocks, IsStruct, IsFunction}
 use Rattle.csub_text.specs.Read.{stripped, begins, literal, number_below, after, name, pointer, before_name, type_alone, result_before_name, result_alone, cast_constant, constant, operand, decimal_word, word_value, small, lead, mapped, cast}
 use Rattle.csub_text.proofs.Numbers.{ends, stripped_own, number_own, name_own, lead_of, below_is, Digit, digit_first, is_other}
-
-abbrev pub is_type : CType → Type 0
-is_type (type.Ptr n) = n < 2 ^ 64
-is_type other = Unit {0}
 
 pub pointer_own : (n : ℕ) (r : List ℕ) → n < 2 ^ 64 → pointer (codes "struct s" ++ (decimal n ++ (codes " *" ++ r))) ≡ Some (type.Ptr n, r)
 unfolding pointer
 pointer_own n r ok = rw (number_own (2 ^ 64) n (codes " *" ++ r) ok ok refl) refl
 
-pub before_name_own : (t : CType) (r : List ℕ) → is_type t → before_name (spell.before_name t ++ r) ≡ Some (t, r)
+pub before_name_own : (t : CType) (r : List ℕ) → IsType t → before_name (spell.before_name t ++ r) ≡ Some (t, r)
 unfolding before_name
 before_name_own type.Signed r ok = refl
 before_name_own type.Char r ok = refl
@@ -28,7 +25,7 @@ before_name_own type.Bool r ok = refl
 before_name_own type.Fn r ok = refl
 before_name_own (type.Ptr n) r ok = rw append_assoc (pointer_own n r ok)
 
-pub type_alone_own : (t : CType) (r : List ℕ) → is_type t → type_alone (spell.type_alone t ++ r) ≡ Some (t, r)
+pub type_alone_own : (t : CType) (r : List ℕ) → IsType t → type_alone (spell.type_alone t ++ r) ≡ Some (t, r)
 unfolding type_alone
 type_alone_own type.Signed r ok = refl
 type_alone_own type.Char r ok = refl
@@ -36,11 +33,7 @@ type_alone_own type.Bool r ok = refl
 type_alone_own type.Fn r ok = refl
 type_alone_own (type.Ptr n) r ok = rw append_assoc (pointer_own n r ok)
 
-abbrev pub is_type_if_any : Option CType → Type 0
-is_type_if_any None = Unit {0}
-is_type_if_any (Some t) = is_type t
-
-pub result_before_name_own : (t : Option CType) (r : List ℕ) → is_type_if_any t → result_before_name (spell.result_before_name t ++ r) ≡ Some (t, r)
+pub result_before_name_own : (t : Option CType) (r : List ℕ) → IsTypeIfAny t → result_before_name (spell.result_before_name t ++ r) ≡ Some (t, r)
 unfolding result_before_name
 result_before_name_own None r ok = refl
 result_before_name_own (Some type.Signed) r ok = rw (before_name_own type.Signed r tt) refl
@@ -49,7 +42,7 @@ result_before_name_own (Some type.Bool) r ok = rw (before_name_own type.Bool r t
 result_before_name_own (Some type.Fn) r ok = rw (before_name_own type.Fn r tt) refl
 result_before_name_own (Some (type.Ptr n)) r ok = rw (before_name_own (type.Ptr n) r ok) refl
 
-pub result_alone_own : (t : Option CType) (r : List ℕ) → is_type_if_any t → result_alone (spell.result_alone t ++ r) ≡ Some (t, r)
+pub result_alone_own : (t : Option CType) (r : List ℕ) → IsTypeIfAny t → result_alone (spell.result_alone t ++ r) ≡ Some (t, r)
 unfolding result_alone
 result_alone_own None r ok = refl
 result_alone_own (Some type.Signed) r ok = rw (type_alone_own type.Signed r tt) refl
@@ -57,23 +50,6 @@ result_alone_own (Some type.Char) r ok = rw (type_alone_own type.Char r tt) refl
 result_alone_own (Some type.Bool) r ok = rw (type_alone_own type.Bool r tt) refl
 result_alone_own (Some type.Fn) r ok = rw (type_alone_own type.Fn r tt) refl
 result_alone_own (Some (type.Ptr n)) r ok = rw (type_alone_own (type.Ptr n) r ok) refl
-
--- a word of 64 bits
-abbrev pub is_word : ℤ → Type 0
-is_word (pos n) = n < 2 ^ 63
-is_word (negsuc n) = n < 2 ^ 63
-
-abbrev pub is_constant : CConst → Type 0
-is_constant (const.Word z) = is_word z
-is_constant (const.Char n) = n < 256
-is_constant (const.Bool b) = Unit {0}
-is_constant const.Null = Unit {0}
-is_constant (const.Static s g) = (s < 2 ^ 64) × (g < 2 ^ 64)
-is_constant (const.Fun f) = f < 2 ^ 64
-
-abbrev pub is_operand : COperand → Type 0
-is_operand (oper.Var v) = v < 2 ^ 64
-is_operand (oper.Const c) = is_constant c
 
 cast_constant_char : (n : ℕ) (r : List ℕ) → n < 256 → ends r ≡ true → cast_constant (codes "(Char)" ++ (decimal n ++ r)) ≡ Some (const.Char n, r)
 unfolding cast_constant
@@ -147,7 +123,7 @@ constant_minus n false r e ok =
     let small : suc n < 2 ^ 63 = grind (arith, common_steps) in
     ap (mapped const.Word) (minus_own n r small)
 
-pub constant_own : (c : CConst) (r : List ℕ) → is_constant c → ends r ≡ true → constant (spell.constant_text c ++ r) ≡ Some (c, r)
+pub constant_own : (c : CConst) (r : List ℕ) → IsConstant c → ends r ≡ true → constant (spell.constant_text c ++ r) ≡ Some (c, r)
 unfolding constant
 constant_own (const.Word (pos n)) r ok e = constant_word n r ok
 constant_own (const.Word (negsuc n)) r ok e = constant_minus n (n == 9223372036854775807) r refl ok
@@ -176,7 +152,7 @@ unfolding operand
 operand_minus true n r = refl
 operand_minus false n r = refl
 
-pub operand_own : (x : COperand) (r : List ℕ) → is_operand x → ends r ≡ true → operand (spell.operand_text x ++ r) ≡ Some (x, r)
+pub operand_own : (x : COperand) (r : List ℕ) → IsOperand x → ends r ≡ true → operand (spell.operand_text x ++ r) ≡ Some (x, r)
 unfolding operand
 operand_own (oper.Var v) r ok e = rw (number_own (2 ^ 64) v r ok ok e) refl
 operand_own (oper.Const (const.Word (pos n))) r ok e =

@@ -16,12 +16,13 @@ use Rattle.csub_tree.specs.declared.tree.CBinary.TheVariants as binary_op
 use Rattle.csub_tree.specs.declared.tree.CStmt.{CStmt}
 use Rattle.csub_tree.specs.declared.tree.CStmt.TheVariants as stmt
 use Rattle.csub_tree.specs.Spelling as spell
+use Rattle.csub_text.specs.Written.{All, IsNumberIfAny, IsType, IsTypeIfAny, IsWord, IsConstant, IsOperand, IsOperandIfAny, IsStatement, IsClosed, IsBlock, IsSomeBlocks, IsStruct, IsFunction}
 use Rattle.csub_text.specs.Read as read
 use Rattle.csub_text.specs.Read.{Got, and_then, after, stripped, begins, literal, name, number_below, ended, mapped, operand, type_alone, result_alone}
 use Rattle.csub_text.specs.ReadStatement as of
 use Rattle.csub_text.specs.ReadStatement.{rest_of, list_of, operands, types, arguments, set, unary, binary, looked_into, index, get, set_field, set_item, put_in, new_block, new_array, set_static, after_cast, cast_of, call, callee, call_fn, arg_len, arg, argument_or_set, next_unary, next_binary, operation, after_target, assignment, exc_set, fail, primitive, jump_if, jump, bracketed, statement}
 use Rattle.csub_text.proofs.Numbers.{ends, stripped_own, number_own, name_own, Digit, digit_first, is_other, below_is}
-use Rattle.csub_text.proofs.Names.{is_type, is_type_if_any, is_word, is_constant, is_operand, operand_own, cast_own, type_alone_own, result_alone_own}
+use Rattle.csub_text.proofs.Names.{operand_own, cast_own, type_alone_own, result_alone_own}
 
 pub two : (a b r : List ℕ) → (a ++ b) ++ r ≡ a ++ (b ++ r)
 two a b r = append_assoc a b r
@@ -59,7 +60,7 @@ looked_into_own s v r ok_s ok_v =
     ap looked_into (four (codes "(") (spell.cast s) (spell.variable_name v) (codes ")->") r)
     ∙ rw (cast_own s (spell.variable_name v ++ (codes ")->" ++ r)) ok_s, number_own (2 ^ 64) v (codes ")->" ++ r) ok_v ok_v refl) refl
 
-index_own : (x : COperand) (r : List ℕ) → is_operand x → index ((codes "items[" ++ spell.operand_text x ++ codes "]") ++ r) ≡ Some (x, r)
+index_own : (x : COperand) (r : List ℕ) → IsOperand x → index ((codes "items[" ++ spell.operand_text x ++ codes "]") ++ r) ≡ Some (x, r)
 unfolding index
 index_own x r ok =
     ap index (three (codes "items[") (spell.operand_text x) (codes "]") r) ∙ rw (operand_own x (codes "]" ++ r) ok refl) refl
@@ -74,7 +75,7 @@ no_bracket_minus : (smallest : Bool) (n : ℕ) (r : List ℕ) → begins (codes 
 no_bracket_minus true n r = refl
 no_bracket_minus false n r = refl
 
-no_bracket : (x : COperand) (r : List ℕ) → is_operand x → begins (codes ")") (spell.operand_text x ++ r) ≡ false
+no_bracket : (x : COperand) (r : List ℕ) → IsOperand x → begins (codes ")") (spell.operand_text x ++ r) ≡ false
 no_bracket (oper.Var v) r ok = refl
 no_bracket (oper.Const (const.Word (pos n))) r ok = no_bracket_digit (decimal n) (codes "L") r (digit_first n (omega arith))
 no_bracket (oper.Const (const.Word (negsuc n))) r ok = no_bracket_minus (n == 9223372036854775807) n r
@@ -87,16 +88,12 @@ no_bracket (oper.Const (const.Fun f)) r ok = refl
 
 -- ---- lists
 
-abbrev pub All : {A : Type 0} → (A → Type 0) → List A → Type 0
-All P [] = Unit {0}
-All P (x ∷ xs) = P x × All P xs
-
 more_text : {A : Type 0} → (A → List ℕ) → List A → List ℕ
 more_text text xs = flat_map (spell.more text) xs
 
 -- a part is read, where no number follows
-record Reads {A : Type 0} (text : A → List ℕ) (read : List ℕ → Got A) (ok : A → Type 0) : Type 0 where
-  one : (x : A) (r : List ℕ) → ok x → ends r ≡ true → read (text x ++ r) ≡ Some (x, r)
+pub record Reads {A : Type 0} (text : A → List ℕ) (read : List ℕ → Got A) (ok : A → Type 0) : Type 0 where
+  pub one : (x : A) (r : List ℕ) → ok x → ends r ≡ true → read (text x ++ r) ≡ Some (x, r)
 
 ends_more : {A : Type 0} (text : A → List ℕ) (xs : List A) (r : List ℕ) → ends r ≡ true → ends (flat_map (spell.more text) xs ++ r) ≡ true
 ends_more text [] r e = e
@@ -121,28 +118,28 @@ fits text (x ∷ xs) r =
     let before : length xs ≤ length (flat_map (spell.more text) xs ++ r) = fits text xs r in
     rw t (omega (arith, l))
 
-list_own : {A : Type 0} (text : A → List ℕ) (read : List ℕ → Got A) (ok : A → Type 0) → Reads text read ok → (x : A) (xs : List A) (r : List ℕ) → ok x → All ok xs
+pub list_own : {A : Type 0} (text : A → List ℕ) (read : List ℕ → Got A) (ok : A → Type 0) → Reads text read ok → (x : A) (xs : List A) (r : List ℕ) → ok x → All ok xs
     → ends r ≡ true → begins (codes ", ") r ≡ false → list_of read (text x ++ (flat_map (spell.more text) xs ++ r)) ≡ Some (x ∷ xs, r)
 list_own text read ok h x xs r one all e apart =
     rw (h.one x (flat_map (spell.more text) xs ++ r) one (ends_more text xs r e),
     rest_own text read ok h (length (flat_map (spell.more text) xs ++ r)) xs r (fits text xs r) all e apart) refl
 
-reads_operand : Reads spell.operand_text operand is_operand
+reads_operand : Reads spell.operand_text operand IsOperand
 reads_operand = record { one = operand_own }
 
-reads_type : Reads spell.type_alone type_alone is_type
+reads_type : Reads spell.type_alone type_alone IsType
 reads_type = record { one = λ t r ok e. type_alone_own t r ok }
 
 -- operands and what closes them
-operands_own : (xs : List COperand) (r : List ℕ) → All is_operand xs → operands (spell.listed spell.operand_text xs ++ (codes ")" ++ r)) ≡ Some (xs, codes ")" ++ r)
+operands_own : (xs : List COperand) (r : List ℕ) → All IsOperand xs → operands (spell.listed spell.operand_text xs ++ (codes ")" ++ r)) ≡ Some (xs, codes ")" ++ r)
 unfolding operands
 operands_own [] r all = refl
 operands_own (x ∷ xs) r all =
     ap operands (two (spell.operand_text x) (flat_map (spell.more spell.operand_text) xs) (codes ")" ++ r))
     ∙ rw (no_bracket x (flat_map (spell.more spell.operand_text) xs ++ (codes ")" ++ r)) all.0)
-    (list_own spell.operand_text operand is_operand reads_operand x xs (codes ")" ++ r) all.0 all.1 refl refl)
+    (list_own spell.operand_text operand IsOperand reads_operand x xs (codes ")" ++ r) all.0 all.1 refl refl)
 
-arguments_own : (xs : List COperand) (r : List ℕ) → All is_operand xs → arguments (spell.arguments xs ++ r) ≡ Some (xs, r)
+arguments_own : (xs : List COperand) (r : List ℕ) → All IsOperand xs → arguments (spell.arguments xs ++ r) ≡ Some (xs, r)
 unfolding arguments
 arguments_own xs r all =
     ap arguments (three (codes "(") (spell.listed spell.operand_text xs) (codes ")") r) ∙ rw (operands_own xs r all) refl
@@ -154,17 +151,17 @@ no_void type.Bool r = refl
 no_void type.Fn r = refl
 no_void (type.Ptr n) r = refl
 
-types_own : (ts : List CType) (r : List ℕ) → All is_type ts → types (spell.listed_or_void spell.type_alone ts ++ (codes "))" ++ r)) ≡ Some (ts, codes "))" ++ r)
+types_own : (ts : List CType) (r : List ℕ) → All IsType ts → types (spell.listed_or_void spell.type_alone ts ++ (codes "))" ++ r)) ≡ Some (ts, codes "))" ++ r)
 unfolding types
 types_own [] r all = refl
 types_own (x ∷ xs) r all =
     ap types (two (spell.type_alone x) (flat_map (spell.more spell.type_alone) xs) (codes "))" ++ r))
     ∙ rw (no_void x (flat_map (spell.more spell.type_alone) xs ++ (codes "))" ++ r)))
-    (list_own spell.type_alone type_alone is_type reads_type x xs (codes "))" ++ r) all.0 all.1 refl refl)
+    (list_own spell.type_alone type_alone IsType reads_type x xs (codes "))" ++ r) all.0 all.1 refl refl)
 
 -- ---- what a variable is given
 
-set_own : (a : ℕ) (x : COperand) (r : List ℕ) → is_operand x → set a (spell.operand_text x ++ (codes ";" ++ r)) ≡ Some (stmt.Set a x, r)
+set_own : (a : ℕ) (x : COperand) (r : List ℕ) → IsOperand x → set a (spell.operand_text x ++ (codes ";" ++ r)) ≡ Some (stmt.Set a x, r)
 unfolding set
 set_own a x r ok = rw (operand_own x (codes ";" ++ r) ok refl) refl
 
@@ -247,24 +244,24 @@ unary_is_operation unary_op.C2S a r = refl
 unary_is_operation unary_op.S2C a r = refl
 unary_is_operation unary_op.B2S a r = refl
 
-unary_own : (a : ℕ) (op : CUnary) (x : COperand) (r : List ℕ) → is_operand x → unary a op (spell.unary_name op ++ (codes "(" ++ (spell.operand_text x ++ (codes ");" ++ r)))) ≡ Some (stmt.Unary a op x, r)
+unary_own : (a : ℕ) (op : CUnary) (x : COperand) (r : List ℕ) → IsOperand x → unary a op (spell.unary_name op ++ (codes "(" ++ (spell.operand_text x ++ (codes ");" ++ r)))) ≡ Some (stmt.Unary a op x, r)
 unfolding unary
 unary_own a op x r ok = rw (stripped_own (spell.unary_name op) (codes "(" ++ (spell.operand_text x ++ (codes ");" ++ r))), operand_own x (codes ");" ++ r) ok refl) refl
 
-binary_own : (a : ℕ) (op : CBinary) (x y : COperand) (r : List ℕ) → is_operand x → is_operand y
+binary_own : (a : ℕ) (op : CBinary) (x y : COperand) (r : List ℕ) → IsOperand x → IsOperand y
     → binary a op (spell.binary_name op ++ (codes "(" ++ (spell.operand_text x ++ (codes ", " ++ (spell.operand_text y ++ (codes ");" ++ r)))))) ≡ Some (stmt.Binary a op x y, r)
 unfolding binary
 binary_own a op x y r ok_x ok_y =
     rw (stripped_own (spell.binary_name op) (codes "(" ++ (spell.operand_text x ++ (codes ", " ++ (spell.operand_text y ++ (codes ");" ++ r))))),
     operand_own x (codes ", " ++ (spell.operand_text y ++ (codes ");" ++ r))) ok_x refl, operand_own y (codes ");" ++ r) ok_y refl) refl
 
-after_unary : (a : ℕ) (op : CUnary) (x : COperand) (r : List ℕ) → is_operand x → after_target a (spell.unary_name op ++ (codes "(" ++ (spell.operand_text x ++ (codes ");" ++ r)))) ≡ Some (stmt.Unary a op x, r)
+after_unary : (a : ℕ) (op : CUnary) (x : COperand) (r : List ℕ) → IsOperand x → after_target a (spell.unary_name op ++ (codes "(" ++ (spell.operand_text x ++ (codes ");" ++ r)))) ≡ Some (stmt.Unary a op x, r)
 unfolding operation
 after_unary a op x r ok =
     unary_is_operation op a (codes "(" ++ (spell.operand_text x ++ (codes ");" ++ r)))
     ∙ rw (next_binary_unary op (spell.operand_text x ++ (codes ");" ++ r)), next_unary_own op (spell.operand_text x ++ (codes ");" ++ r))) (unary_own a op x r ok)
 
-after_binary : (a : ℕ) (op : CBinary) (x y : COperand) (r : List ℕ) → is_operand x → is_operand y
+after_binary : (a : ℕ) (op : CBinary) (x y : COperand) (r : List ℕ) → IsOperand x → IsOperand y
     → after_target a (spell.binary_name op ++ (codes "(" ++ (spell.operand_text x ++ (codes ", " ++ (spell.operand_text y ++ (codes ");" ++ r)))))) ≡ Some (stmt.Binary a op x y, r)
 unfolding operation
 after_binary a op x y r ok_x ok_y =
@@ -291,21 +288,21 @@ after_get_field a s b k r ok_s ok_b ok_k =
     to_get a (spell.looked_into s b ++ (spell.field_name k ++ (codes ";" ++ r))) refl refl (sees_own s b (spell.field_name k ++ (codes ";" ++ r)) ok_s)
     ∙ rw (looked_into_own s b (spell.field_name k ++ (codes ";" ++ r)) ok_s ok_b, number_own (2 ^ 64) k (codes ";" ++ r) ok_k ok_k refl) refl
 
-after_get_item : (a s b : ℕ) (x : COperand) (r : List ℕ) → s < 2 ^ 64 → b < 2 ^ 64 → is_operand x
+after_get_item : (a s b : ℕ) (x : COperand) (r : List ℕ) → s < 2 ^ 64 → b < 2 ^ 64 → IsOperand x
     → after_target a (spell.looked_into s b ++ ((codes "items[" ++ spell.operand_text x ++ codes "]") ++ (codes ";" ++ r))) ≡ Some (stmt.GetItem a s b x, r)
 unfolding get
 after_get_item a s b x r ok_s ok_b ok =
     to_get a (spell.looked_into s b ++ ((codes "items[" ++ spell.operand_text x ++ codes "]") ++ (codes ";" ++ r))) refl refl (sees_own s b ((codes "items[" ++ spell.operand_text x ++ codes "]") ++ (codes ";" ++ r)) ok_s)
     ∙ rw (looked_into_own s b ((codes "items[" ++ spell.operand_text x ++ codes "]") ++ (codes ";" ++ r)) ok_s ok_b, index_own x (codes ";" ++ r) ok) refl
 
-put_field : (s b k : ℕ) (x : COperand) (r : List ℕ) → s < 2 ^ 64 → b < 2 ^ 64 → k < 2 ^ 64 → is_operand x
+put_field : (s b k : ℕ) (x : COperand) (r : List ℕ) → s < 2 ^ 64 → b < 2 ^ 64 → k < 2 ^ 64 → IsOperand x
     → put_in (spell.looked_into s b ++ (spell.field_name k ++ (codes " = " ++ (spell.operand_text x ++ (codes ";" ++ r))))) ≡ Some (stmt.SetField s b k x, r)
 unfolding put_in set_field
 put_field s b k x r ok_s ok_b ok_k ok =
     rw (looked_into_own s b (spell.field_name k ++ (codes " = " ++ (spell.operand_text x ++ (codes ";" ++ r)))) ok_s ok_b,
     number_own (2 ^ 64) k (codes " = " ++ (spell.operand_text x ++ (codes ";" ++ r))) ok_k ok_k refl, operand_own x (codes ";" ++ r) ok refl) refl
 
-put_item : (s b : ℕ) (i x : COperand) (r : List ℕ) → s < 2 ^ 64 → b < 2 ^ 64 → is_operand i → is_operand x
+put_item : (s b : ℕ) (i x : COperand) (r : List ℕ) → s < 2 ^ 64 → b < 2 ^ 64 → IsOperand i → IsOperand x
     → put_in (spell.looked_into s b ++ ((codes "items[" ++ spell.operand_text i ++ codes "]") ++ (codes " = " ++ (spell.operand_text x ++ (codes ";" ++ r))))) ≡ Some (stmt.SetItem s b i x, r)
 unfolding put_in set_item
 put_item s b i x r ok_s ok_b ok_i ok =
@@ -324,7 +321,7 @@ after_new : (a m s : ℕ) (r : List ℕ) → s < 2 ^ 64 → after_cast a m (code
 unfolding after_cast new_block
 after_new a m s r ok = rw (number_own (2 ^ 64) s (codes ");" ++ r) ok ok refl) refl
 
-after_new_array : (a m s : ℕ) (x : COperand) (r : List ℕ) → s < 2 ^ 64 → is_operand x
+after_new_array : (a m s : ℕ) (x : COperand) (r : List ℕ) → s < 2 ^ 64 → IsOperand x
     → after_cast a m (codes "RPY_NEWARRAY(struct s" ++ (decimal s ++ (codes ", " ++ (spell.operand_text x ++ (codes ");" ++ r))))) ≡ Some (stmt.NewArray a m s x, r)
 unfolding after_cast new_array
 after_new_array a m s x r ok_s ok =
@@ -358,7 +355,7 @@ unfolding after_target operation next_binary next_unary argument_or_set
 minus_set true a n r = refl
 minus_set false a n r = refl
 
-after_set : (a : ℕ) (x : COperand) (r : List ℕ) → is_operand x → after_target a (spell.operand_text x ++ (codes ";" ++ r)) ≡ Some (stmt.Set a x, r)
+after_set : (a : ℕ) (x : COperand) (r : List ℕ) → IsOperand x → after_target a (spell.operand_text x ++ (codes ";" ++ r)) ≡ Some (stmt.Set a x, r)
 unfolding after_target operation next_binary next_unary argument_or_set read.cast
 after_set a (oper.Var v) r ok = set_own a (oper.Var v) r ok
 after_set a (oper.Const (const.Word (pos n))) r ok =
@@ -373,18 +370,18 @@ after_set a (oper.Const (const.Static s g)) r ok =
     ∙ to_cast a s (codes "&g" ++ (decimal g ++ (codes ";" ++ r))) ok.0 ∙ after_static a s g r ok.1
 after_set a (oper.Const (const.Fun f)) r ok = set_own a (oper.Const (const.Fun f)) r ok
 
-call_own : (a : Option ℕ) (f : ℕ) (xs : List COperand) (r : List ℕ) → f < 2 ^ 64 → All is_operand xs
+call_own : (a : Option ℕ) (f : ℕ) (xs : List COperand) (r : List ℕ) → f < 2 ^ 64 → All IsOperand xs
     → call a (spell.function_name f ++ (spell.arguments xs ++ (codes ";" ++ r))) ≡ Some (stmt.Call a f xs, r)
 unfolding call
 call_own a f xs r ok all =
     rw (number_own (2 ^ 64) f (spell.arguments xs ++ (codes ";" ++ r)) ok ok refl, arguments_own xs (codes ";" ++ r) all) refl
 
-after_call : (a f : ℕ) (xs : List COperand) (r : List ℕ) → f < 2 ^ 64 → All is_operand xs
+after_call : (a f : ℕ) (xs : List COperand) (r : List ℕ) → f < 2 ^ 64 → All IsOperand xs
     → after_target a (spell.function_name f ++ (spell.arguments xs ++ (codes ";" ++ r))) ≡ Some (stmt.Call (Some a) f xs, r)
 unfolding after_target
 after_call a f xs r ok all = call_own (Some a) f xs r ok all
 
-callee_own : (result : Option CType) (ts : List CType) (v : ℕ) (r : List ℕ) → is_type_if_any result → All is_type ts → v < 2 ^ 64
+callee_own : (result : Option CType) (ts : List CType) (v : ℕ) (r : List ℕ) → IsTypeIfAny result → All IsType ts → v < 2 ^ 64
     → callee (spell.callee result ts v ++ r) ≡ Some ((result, ts, v), r)
 unfolding callee
 callee_own result ts v r ok all ok_v =
@@ -393,7 +390,7 @@ callee_own result ts v r ok all ok_v =
     types_own ts (spell.variable_name v ++ (codes ")" ++ r)) all, number_own (2 ^ 64) v (codes ")" ++ r) ok_v ok_v refl) refl
 
 -- no block that is looked into: what is cast there is no pointer, or the cast goes on
-callee_no_look : (result : Option CType) (r : List ℕ) → is_type_if_any result → of.sees_looked_into (codes "((" ++ (spell.result_alone result ++ (codes " (*)(" ++ r))) ≡ false
+callee_no_look : (result : Option CType) (r : List ℕ) → IsTypeIfAny result → of.sees_looked_into (codes "((" ++ (spell.result_alone result ++ (codes " (*)(" ++ r))) ≡ false
 unfolding read.cast
 callee_no_look None r ok = refl
 callee_no_look (Some type.Signed) r ok = refl
@@ -402,28 +399,28 @@ callee_no_look (Some type.Bool) r ok = refl
 callee_no_look (Some type.Fn) r ok = refl
 callee_no_look (Some (type.Ptr n)) r ok = rw (two (decimal n) (codes " *") (codes " (*)(" ++ r), number_own (2 ^ 64) n (codes " *" ++ (codes " (*)(" ++ r)) ok ok refl) refl
 
-no_look : (result : Option CType) (ts : List CType) (v : ℕ) (r : List ℕ) → is_type_if_any result → of.sees_looked_into (spell.callee result ts v ++ r) ≡ false
+no_look : (result : Option CType) (ts : List CType) (v : ℕ) (r : List ℕ) → IsTypeIfAny result → of.sees_looked_into (spell.callee result ts v ++ r) ≡ false
 no_look result ts v r ok =
     ap of.sees_looked_into (seven (codes "((") (spell.result_alone result) (codes " (*)(") (spell.listed_or_void spell.type_alone ts) (codes "))") (spell.variable_name v) (codes ")") r)
     ∙ callee_no_look result (spell.listed_or_void spell.type_alone ts ++ (codes "))" ++ (spell.variable_name v ++ (codes ")" ++ r)))) ok
 
-call_fn_own : (a : Option ℕ) (result : Option CType) (ts : List CType) (v : ℕ) (xs : List COperand) (r : List ℕ) → is_type_if_any result → All is_type ts → v < 2 ^ 64 → All is_operand xs
+call_fn_own : (a : Option ℕ) (result : Option CType) (ts : List CType) (v : ℕ) (xs : List COperand) (r : List ℕ) → IsTypeIfAny result → All IsType ts → v < 2 ^ 64 → All IsOperand xs
     → call_fn a (spell.callee result ts v ++ (spell.arguments xs ++ (codes ";" ++ r))) ≡ Some (stmt.CallFn a result ts v xs, r)
 unfolding call_fn
 call_fn_own a result ts v xs r ok_r ok_t ok_v all =
     rw (callee_own result ts v (spell.arguments xs ++ (codes ";" ++ r)) ok_r ok_t ok_v, arguments_own xs (codes ";" ++ r) all) refl
 
-after_call_fn : (a : ℕ) (result : Option CType) (ts : List CType) (v : ℕ) (xs : List COperand) (r : List ℕ) → is_type_if_any result → All is_type ts → v < 2 ^ 64 → All is_operand xs
+after_call_fn : (a : ℕ) (result : Option CType) (ts : List CType) (v : ℕ) (xs : List COperand) (r : List ℕ) → IsTypeIfAny result → All IsType ts → v < 2 ^ 64 → All IsOperand xs
     → after_target a (spell.callee result ts v ++ (spell.arguments xs ++ (codes ";" ++ r))) ≡ Some (stmt.CallFn (Some a) result ts v xs, r)
 after_call_fn a result ts v xs r ok_r ok_t ok_v all =
     to_call_fn a (spell.callee result ts v ++ (spell.arguments xs ++ (codes ";" ++ r))) refl refl (no_look result ts v (spell.arguments xs ++ (codes ";" ++ r)) ok_r) refl
     ∙ call_fn_own (Some a) result ts v xs r ok_r ok_t ok_v all
 
-after_arg_len : (a : ℕ) (x : COperand) (r : List ℕ) → is_operand x → after_target a (codes "RPY_ARGLEN(" ++ (spell.operand_text x ++ (codes ");" ++ r))) ≡ Some (stmt.ArgLen a x, r)
+after_arg_len : (a : ℕ) (x : COperand) (r : List ℕ) → IsOperand x → after_target a (codes "RPY_ARGLEN(" ++ (spell.operand_text x ++ (codes ");" ++ r))) ≡ Some (stmt.ArgLen a x, r)
 unfolding after_target operation next_binary next_unary argument_or_set arg_len
 after_arg_len a x r ok = rw (operand_own x (codes ");" ++ r) ok refl) refl
 
-after_arg : (a : ℕ) (x y : COperand) (r : List ℕ) → is_operand x → is_operand y → after_target a (codes "RPY_ARG(" ++ (spell.operand_text x ++ (codes ", " ++ (spell.operand_text y ++ (codes ");" ++ r))))) ≡ Some (stmt.Arg a x y, r)
+after_arg : (a : ℕ) (x y : COperand) (r : List ℕ) → IsOperand x → IsOperand y → after_target a (codes "RPY_ARG(" ++ (spell.operand_text x ++ (codes ", " ++ (spell.operand_text y ++ (codes ");" ++ r))))) ≡ Some (stmt.Arg a x y, r)
 unfolding after_target operation next_binary next_unary argument_or_set arg
 after_arg a x y r ok_x ok_y = rw (operand_own x (codes ", " ++ (spell.operand_text y ++ (codes ");" ++ r))) ok_x refl, operand_own y (codes ");" ++ r) ok_y refl) refl
 
@@ -438,42 +435,6 @@ to_target a r ok =
 
 -- ---- whole statements
 
-abbrev pub is_variable_if_any : Option ℕ → Type 0
-is_variable_if_any None = Unit {0}
-is_variable_if_any (Some v) = v < 2 ^ 64
-
-abbrev pub is_operand_if_any : Option COperand → Type 0
-is_operand_if_any None = Unit {0}
-is_operand_if_any (Some x) = is_operand x
-
-abbrev pub is_statement : CStmt → Type 0
-is_statement (stmt.Set a x) = (a < 2 ^ 64) × is_operand x
-is_statement (stmt.Unary a op x) = (a < 2 ^ 64) × is_operand x
-is_statement (stmt.Binary a op x y) = (a < 2 ^ 64) × is_operand x × is_operand y
-is_statement (stmt.GetField a s b k) = (a < 2 ^ 64) × (s < 2 ^ 64) × (b < 2 ^ 64) × (k < 2 ^ 64)
-is_statement (stmt.SetField s b k x) = (s < 2 ^ 64) × (b < 2 ^ 64) × (k < 2 ^ 64) × is_operand x
-is_statement (stmt.GetItem a s b i) = (a < 2 ^ 64) × (s < 2 ^ 64) × (b < 2 ^ 64) × is_operand i
-is_statement (stmt.SetItem s b i x) = (s < 2 ^ 64) × (b < 2 ^ 64) × is_operand i × is_operand x
-is_statement (stmt.New a m s) = (a < 2 ^ 64) × (m < 2 ^ 64) × (s < 2 ^ 64)
-is_statement (stmt.NewArray a m s x) = (a < 2 ^ 64) × (m < 2 ^ 64) × (s < 2 ^ 64) × is_operand x
-is_statement (stmt.Free a) = a < 2 ^ 64
-is_statement (stmt.Step x) = is_operand x
-is_statement (stmt.Call a f xs) = is_variable_if_any a × (f < 2 ^ 64) × All is_operand xs
-is_statement (stmt.CallFn a result types b xs) = is_variable_if_any a × is_type_if_any result × All is_type types × (b < 2 ^ 64) × All is_operand xs
-is_statement (stmt.ExcType a s) = (a < 2 ^ 64) × (s < 2 ^ 64)
-is_statement (stmt.ExcValue a s) = (a < 2 ^ 64) × (s < 2 ^ 64)
-is_statement (stmt.ExcSet a b) = (a < 2 ^ 64) × (b < 2 ^ 64)
-is_statement stmt.ExcClear = Unit {0}
-is_statement (stmt.Argc a) = a < 2 ^ 64
-is_statement (stmt.ArgLen a x) = (a < 2 ^ 64) × is_operand x
-is_statement (stmt.Arg a x y) = (a < 2 ^ 64) × is_operand x × is_operand y
-is_statement (stmt.Put x) = is_operand x
-is_statement (stmt.Goto b) = b < 2 ^ 64
-is_statement (stmt.If a b c) = (a < 2 ^ 64) × (b < 2 ^ 64) × (c < 2 ^ 64)
-is_statement (stmt.Return x) = is_operand_if_any x
-is_statement (stmt.Fail n) = (1 ≤ n) × (n ≤ 5)
-is_statement (stmt.Raised a) = a < 2 ^ 64
-
 small_code : (n : ℕ) → 1 ≤ n → n ≤ 5 → (nat_le 1 n && nat_le n 5) ≡ true
 small_code n low high = grind (arith, common_steps)
 
@@ -481,7 +442,7 @@ fail_own : (n : ℕ) (r : List ℕ) → 1 ≤ n → n ≤ 5 → statement (codes
 unfolding statement primitive fail
 fail_own n r low high = rw (number_own 18446744073709551616 n (codes ");" ++ r) (omega arith) (omega arith) refl, small_code n low high) refl
 
-pub statement_own : (s : CStmt) (r : List ℕ) → is_statement s → statement (spell.statement_text s ++ r) ≡ Some (s, r)
+pub statement_own : (s : CStmt) (r : List ℕ) → IsStatement s → statement (spell.statement_text s ++ r) ≡ Some (s, r)
 unfolding statement primitive exc_set bracketed jump jump_if
 statement_own (stmt.Set a x) r ok =
     ap statement (three (spell.target a) (spell.operand_text x) (codes ";") r) ∙ to_target a (spell.operand_text x ++ (codes ";" ++ r)) ok.0 ∙ after_set a x r ok.1

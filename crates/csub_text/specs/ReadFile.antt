@@ -6,12 +6,14 @@ use Rattle.csub_tree.specs.declared.tree.CStruct.{CStruct}
 use Rattle.csub_tree.specs.declared.tree.CType.{CType}
 use Rattle.csub_tree.specs.declared.tree.CPrototype.{CPrototype}
 use Rattle.csub_tree.specs.declared.tree.CStatic.{CStatic}
+use Rattle.csub_tree.specs.declared.tree.CCell.{CCell}
+use Rattle.csub_tree.specs.declared.tree.CCell.TheVariants as cell
 use Rattle.csub_tree.specs.declared.tree.CFunction.{CFunction}
 use Rattle.csub_tree.specs.declared.tree.CStmt.{CStmt}
 use Rattle.csub_tree.specs.Checked.{ends_block, is_name_byte}
 use Rattle.csub_tree.specs.Spelling.{first_field}
-use Rattle.csub_text.specs.Read.{Got, and_then, after, stripped, begins, literal, name, ended, mapped, before_name, result_before_name}
-use Rattle.csub_text.specs.ReadStatement.{statement}
+use Rattle.csub_text.specs.Read.{Got, and_then, after, stripped, begins, literal, name, ended, mapped, before_name, result_before_name, constant}
+use Rattle.csub_text.specs.ReadStatement.{list_of, statement}
 
 -- a name with this number
 abbrev pub numbered_name : {B : Type 0} → List ℕ → ℕ → List ℕ → (List ℕ → Got B) → Got B
@@ -117,7 +119,64 @@ block k i = numbered_name (codes "b") k i (λ j. after (stripped (codes ":\n") j
 unfoldable pub blocks : List ℕ → Got (List (List CStmt))
 blocks i = some_while (begins (codes "b")) block (length i) 0 true i
 
+-- the locals and the blocks
+unfoldable pub insides : ℕ → List ℕ → Got (List CType × List (List CStmt))
+insides first i = and_then (local_lines first i) (λ locals j. mapped (λ found. (locals, found)) (blocks j))
+
 unfoldable pub function : ℕ → List ℕ → Got CFunction
 function n i =
-    and_then (heading n i) (λ h j. and_then (local_lines (length h.2) j) (λ locals k. and_then (blocks k) (λ found l.
-    literal (codes "}\n") (record { name = h.0; result = h.1; params = h.2; locals = locals; blocks = found }) l)))
+    and_then (heading n i) (λ h j. and_then (insides (length h.2) j) (λ b l.
+    literal (codes "}\n") (record { name = h.0; result = h.1; params = h.2; locals = b.0; blocks = b.1 }) l))
+
+-- ---- statics
+
+abbrev pub cell_with : (List ℕ → Got (List CCell)) → List ℕ → Got CCell
+cell_with cells i = cond (begins (codes "{") i) (mapped (λ c. cell.Braces c) (cells i)) (mapped (λ c. cell.Const c) (constant i))
+
+-- a list of cells, in which lists nest at most this deep
+unfoldable pub cells : ℕ → List ℕ → Got (List CCell)
+cells zero i = None
+cells (suc f) i = cond (begins (codes "{ }") i) (literal (codes "{ }") [] i) (after (stripped (codes "{ ") i) (λ j. ended (list_of (cell_with (cells f)) j) (codes " }")))
+
+unfoldable pub static_text : ℕ → List ℕ → Got CStatic
+static_text n i =
+    and_then (name (codes "static struct s") i) (λ kind j. numbered_name (codes " g") n j (λ k. after (stripped (codes " = ") k) (λ l.
+    mapped (λ found. record { kind = kind; cells = found }) (ended (cells (length l) l) (codes ";\n")))))
+
+-- ---- files
+
+abbrev pub sees_static : List ℕ → Bool
+sees_static i = is_some (and_then (name (codes "static struct s") i) (λ m j. literal (codes " g") m j))
+
+abbrev pub sees_prototype : List ℕ → Bool
+sees_prototype i = begins (codes "static ") i && not (sees_static i)
+
+abbrev pub sees_more : List ℕ → Bool
+sees_more [] = false
+sees_more (b ∷ bs) = true
+
+unfoldable pub structs : List ℕ → Got (List CStruct)
+structs i = parts_while (begins (codes "struct ")) struct_text (length i) 0 i
+
+unfoldable pub prototypes : List ℕ → Got (List CPrototype)
+prototypes i = parts_while sees_prototype prototype (length i) 0 i
+
+unfoldable pub statics : List ℕ → Got (List CStatic)
+statics i = parts_while (begins (codes "static ")) static_text (length i) 0 i
+
+unfoldable pub functions : List ℕ → Got (List CFunction)
+functions i = some_while sees_more function (length i) 0 true i
+
+unfoldable pub file : List ℕ → Got CFile
+file i =
+    after (stripped (codes "/* C-sub 1 */\n") i) (λ j. after (stripped (codes "#include \"rpy_prim.h\"\n") j) (λ k.
+    and_then (structs k) (λ a l. and_then (prototypes l) (λ b m. and_then (statics m) (λ c n. mapped (λ d. record { structs = a; prototypes = b; statics = c; functions = d }) (functions n))))))
+
+abbrev pub at_end : Got CFile → Option CFile
+at_end None = None
+at_end (Some (c, [])) = Some c
+at_end (Some (c, b ∷ bs)) = None
+
+-- the file that a text spells
+unfoldable pub whole : List ℕ → Option CFile
+whole i = at_end (file i)

@@ -1,7 +1,9 @@
-//! The texts of C files, as lines.
+//! What bytes are the text of a C file, and that they are so of one file alone.
 #![tactic(auto)]
+ghost use Rattle.csub_text.specs.Laws.{OneFile};
 
-use csub_tree::CFile;
-
-/// Nothing.
-pub fn nothing(_file: &CFile) {}
+/// The spelling of a file is the text of that file and of no other.
+pub fn spelling_is_of_one_file()
+    ensures { OneFile }
+{
+}
