@@ -22,7 +22,11 @@ strips_on [] b i j e = cc
 strips_on (c ∷ a) b [] j e = cc
 strips_on (c ∷ a) b (d ∷ i) j e = on_at (d == c) a b i j (strips_on a b i j) e
 
-pub strips_short : (start : List ℕ) (k : ℕ) (rest : List ℕ) → k < length start → rest ≡ [] → stripped (drop k start) rest ≡ None
+nothing : (rest : List ℕ) → length rest ≡ 0 → rest ≡ []
+nothing [] none = refl
+nothing (b ∷ bs) none = absurd (omega arith)
+
+pub strips_short : (start : List ℕ) (k : ℕ) (rest : List ℕ) → k < length start → length rest ≡ 0 → stripped (drop k start) rest ≡ None
 strips_short start k rest within none =
     let turn : drop k start ≡ get_or start k 0 ∷ drop (suc k) start = drop-cons start k 0 within in
-    ap (λ s. stripped s rest) turn ∙ ap (stripped (get_or start k 0 ∷ drop (suc k) start)) none
+    ap (λ s. stripped s rest) turn ∙ ap (stripped (get_or start k 0 ∷ drop (suc k) start)) (nothing rest none)

@@ -1,6 +1,7 @@
 // The bytes that are still to be read.
-ghost use Rattle.std.specs.Prelude.{◌≡◌, ◌++◌, [], true, OnOk, IfSome, Option};
+ghost use Rattle.std.specs.Prelude.{◌≡◌, ◌++◌, [], true, OnOk, IfSome, Option, not};
 ghost use Rattle.csub_text.specs.Read.{stripped, begins};
+ghost use Rattle.csub_text.specs.ReadFile.{sees_more};
 ghost use Rattle.csub_reader.specs.Reads.{Strips, Same};
 
 use crate::fault::Stop;
@@ -59,7 +60,8 @@ impl<'a> Cursor<'a> {
     }
 
     pub fn is_at_end(&self) -> bool
-        ensures { result ≡ true → self.now ≡ [] }
+        ensures nothing { result ≡ true → self.now ≡ [] }
+        ensures reads { result ≡ not (sees_more self.now) }
     {
         match self.rest {
             [] => true,

@@ -5,7 +5,7 @@ ghost use Rattle.std.specs.Option.{SomeIff};
 ghost use Rattle.csub_tree.specs.declared.tree.CConst.TheVariants as const;
 ghost use Rattle.csub_text.specs.Read as pure;
 ghost use Rattle.csub_text.specs.Read.{stripped, literal, after, and_then, mapped, lead};
-ghost use Rattle.csub_reader.specs.Reads.{Reads, Strips};
+ghost use Rattle.csub_reader.specs.Reads.{Reads, Finds, Strips};
 ghost use Rattle.std.specs.Fmt.{decimal, signed_decimal};
 ghost use Rattle.csub_tree.specs.Spelling.{struct_name, variable_name, before_name, result_before_name, type_alone, result_alone, word, cast, constant_text, operand_text};
 
@@ -54,7 +54,7 @@ pub fn expect_number(bytes: &mut Cursor<'_>, n: u64) -> Result<(), Stop>
 #[tactic(auto, unfolding(csub_text::specs::Read::number_below, csub_text::specs::Read::expect_number))]
 pub fn number(bytes: &mut Cursor<'_>) -> Result<u64, Stop>
     ensures spelled { IfOk result (λ n. bytes.old ≡ decimal n ++ bytes.new) }
-    ensures reads { Reads (pure.number_below (2 ^ 64) bytes.old) result bytes.new }
+    ensures reads { Finds (pure.number_below (2 ^ 64) bytes.old) result bytes.new }
 {
     let Some(n) = digits(bytes.rest()) else {
         return Err(Stop::NoText);
@@ -66,7 +66,7 @@ pub fn number(bytes: &mut Cursor<'_>) -> Result<u64, Stop>
 /// A letter, or more before the number, and a number.
 pub fn name(bytes: &mut Cursor<'_>, letter: &[u8]) -> Result<u64, Stop>
     ensures spelled { IfOk result (λ n. bytes.old ≡ (letter.now ++ decimal n) ++ bytes.new) }
-    ensures reads { Reads (pure.name letter.now bytes.old) result bytes.new }
+    ensures reads { Finds (pure.name letter.now bytes.old) result bytes.new }
 {
     bytes.expect(letter)?;
     number(bytes)
@@ -85,7 +85,7 @@ pub fn expect_name(bytes: &mut Cursor<'_>, letter: &[u8], n: u64) -> Result<(), 
 #[tactic(auto, unfolding(csub_text::specs::Read::pointer))]
 fn pointer(bytes: &mut Cursor<'_>) -> Result<CType, Stop>
     ensures spelled { IfOk result (λ kind. bytes.old ≡ before_name kind ++ bytes.new) }
-    ensures reads { Reads (pure.pointer bytes.old) result bytes.new }
+    ensures reads { Finds (pure.pointer bytes.old) result bytes.new }
 {
     let n = name(bytes, b"struct s")?;
     bytes.expect(b" *")?;
@@ -96,7 +96,7 @@ fn pointer(bytes: &mut Cursor<'_>) -> Result<CType, Stop>
 #[tactic(auto, unfolding(csub_text::specs::Read::before_name))]
 pub fn before_name(bytes: &mut Cursor<'_>) -> Result<CType, Stop>
     ensures spelled { IfOk result (λ kind. bytes.old ≡ before_name kind ++ bytes.new) }
-    ensures reads { Reads (pure.before_name bytes.old) result bytes.new }
+    ensures reads { Finds (pure.before_name bytes.old) result bytes.new }
 {
     if bytes.sees(b"Signed ") {
         bytes.expect(b"Signed ")?;
@@ -119,7 +119,7 @@ pub fn before_name(bytes: &mut Cursor<'_>) -> Result<CType, Stop>
 #[tactic(auto, unfolding(csub_text::specs::Read::cast))]
 pub fn cast(bytes: &mut Cursor<'_>) -> Result<u64, Stop>
     ensures spelled { IfOk result (λ n. bytes.old ≡ cast n ++ bytes.new) }
-    ensures reads { Reads (pure.cast bytes.old) result bytes.new }
+    ensures reads { Finds (pure.cast bytes.old) result bytes.new }
 {
     let n = name(bytes, b"(struct s")?;
     bytes.expect(b" *)")?;

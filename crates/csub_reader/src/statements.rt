@@ -140,7 +140,7 @@ fn more_operand(bytes: &mut Cursor<'_>) -> Result<COperand, Stop>
 }
 
 // The operands after the first, which is given.
-#[tactic(auto, unfolding(csub_text::specs::ReadStatement::rest_of))]
+#[tactic(auto, using(crate::proofs::Loops::rest_stop, crate::proofs::Loops::rest_done, crate::proofs::Loops::rest_fail))]
 fn operands_from(
     alloc: Global,
     bytes: &mut Cursor<'_>,
@@ -194,7 +194,7 @@ fn more_type(bytes: &mut Cursor<'_>) -> Result<CType, Stop>
 }
 
 // The types after the first, which is given.
-#[tactic(auto, unfolding(csub_text::specs::ReadStatement::rest_of))]
+#[tactic(auto, using(crate::proofs::Loops::rest_stop, crate::proofs::Loops::rest_done, crate::proofs::Loops::rest_fail))]
 fn types_from(alloc: Global, bytes: &mut Cursor<'_>, first: CType) -> Result<Seq<CType>, Stop>
     ensures spelled { IfOk result (λ kinds. type_alone first ++ bytes.old ≡ listed_or_void type_alone kinds ++ bytes.new) }
     ensures reads { Reads (mapped (λ xs. first ∷ xs) (pure.rest_of read.type_alone (length bytes.old) bytes.old)) result bytes.new }
@@ -828,9 +828,11 @@ fn is_end(s: &CStmt) -> bool
     }
 }
 
+#[tactic(auto, using(crate::proofs::Loops::statements_last, crate::proofs::Loops::statements_fail, crate::proofs::Loops::statements_done))]
 /// The statements of a block, of which the last ends it.
 pub fn statements(alloc: Global, bytes: &mut Cursor<'_>) -> Result<Seq<CStmt>, Stop>
-    ensures { IfOk result (λ stmts. bytes.old ≡ flat_map statement_line stmts ++ bytes.new) }
+    ensures spelled { IfOk result (λ stmts. bytes.old ≡ flat_map statement_line stmts ++ bytes.new) }
+    ensures reads { Reads (of_file.statements (length bytes.old) bytes.old) result bytes.new }
 {
     let mut stmts = Seq::new(alloc);
     for _turn in 0..bytes.rest().len() {

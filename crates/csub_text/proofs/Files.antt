@@ -16,7 +16,7 @@ use Rattle.csub_text.specs.Written.{All, IsNumberIfAny, IsType, IsTypeIfAny, IsS
 use Rattle.csub_text.specs.Text.{IsText}
 use Rattle.csub_text.specs.Read.{Got, and_then, after, stripped, begins, literal, name, ended, mapped}
 use Rattle.csub_text.specs.ReadFile as of
-use Rattle.csub_text.specs.ReadFile.{parts_while, some_while, struct_text, prototype, cells, static_text, function, structs, prototypes, statics, functions, file, whole}
+use Rattle.csub_text.specs.ReadFile.{parts_while, some_while, struct_text, prototype, cells, static_text, function, structs, prototypes, statics, functions, declarations, file, whole}
 use Rattle.csub_text.proofs.Numbers.{ends, stripped_own, number_own}
 use Rattle.csub_text.proofs.Statements.{two, three, four, five, six, seven}
 use Rattle.csub_text.proofs.Declarations.{Counted, all_own, struct_own, prototype_own, parts_fit}
@@ -82,7 +82,7 @@ unfolding static_text
 static_own n g r ok =
     ap (static_text n) (static_pieces (codes "static struct s") (decimal g.kind) (codes " g") (decimal n) (codes " = ") (spell.cells_text (map spell.cell_text g.cells)) (codes ";\n") r)
     ∙ rw (number_own (2 ^ 64) g.kind (codes " g" ++ (decimal n ++ (codes " = " ++ (spell.cells_text (map spell.cell_text g.cells) ++ (codes ";\n" ++ r))))) ok.0 ok.0 refl,
-    stripped_own (decimal n) (codes " = " ++ (spell.cells_text (map spell.cell_text g.cells) ++ (codes ";\n" ++ r))), cells_own g.cells (codes ";\n" ++ r) ok.1) refl
+    stripped_own (decimal n) (codes " = " ++ (spell.cells_text (map spell.cell_text g.cells) ++ (codes ";\n" ++ r))), cells_own g.cells (codes ";\n" ++ r) ok.1 refl) refl
 
 is_static : (n : ℕ) (g : CStatic) (r : List ℕ) → IsStatic g → of.sees_static (spell.static_text n g ++ r) ≡ true
 is_static n g r ok =
@@ -159,7 +159,7 @@ file_pieces : (h i s p g f : List ℕ) → (h ++ i) ++ s ++ p ++ g ++ f ≡ h ++
 file_pieces h i s p g f = simp append_assoc
 
 pub file_own : (c : CFile) → IsWritten c → file (spell.file_text c) ≡ Some (c, [])
-unfolding file structs prototypes statics
+unfolding file declarations structs prototypes statics
 file_own c ok =
     ap file (file_pieces (codes "/* C-sub 1 */\n") (codes "#include \"rpy_prim.h\"\n") (spell.numbered spell.struct_text 0 c.structs) (spell.numbered spell.prototype_text 0 c.prototypes) (spell.numbered spell.static_text 0 c.statics) (last c.functions))
     ∙ rw (all_own (begins (codes "struct ")) spell.struct_text struct_text IsStruct structs_counted 0 c.structs (later c.prototypes c.statics c.functions) ok.0 (ends_later c.prototypes c.statics c.functions) (later_no_struct c.prototypes c.statics c.functions),

@@ -1,5 +1,5 @@
 -- Functions are read as they are spelled.
-use Rattle.std.proofs.Common.{◌≡◌, ℕ, zero, suc, ◌+◌, ◌^◌, ◌<◌, ◌≤◌, ◌==◌, ◌&&◌, Bool, true, false, cond, List, [], ◌∷◌, ◌++◌, Option, Some, None, refl, ap, ◌∙◌, arith, sym, subst, append_assoc, length, length-append, codes}
+use Rattle.std.proofs.Common.{◌≡◌, ℕ, zero, suc, ◌+◌, ◌^◌, ◌<◌, ◌≤◌, ◌==◌, ◌&&◌, Bool, true, false, cond, List, [], ◌∷◌, ◌++◌, Option, Some, None, refl, ap, ◌∙◌, arith, sym, subst, append_assoc, length, length-append, codes, take}
 use Rattle.std.specs.List.{flat_map}
 use Rattle.std.specs.Fmt.{decimal}
 use Rattle.csub_tree.specs.declared.tree.CType.{CType}
@@ -11,7 +11,7 @@ use Rattle.csub_tree.specs.Spelling as spell
 use Rattle.csub_text.specs.Written.{All, IsNumberIfAny, IsType, IsTypeIfAny, IsWord, IsConstant, IsOperand, IsOperandIfAny, IsStatement, IsClosed, IsBlock, IsSomeBlocks, IsStruct, IsFunction}
 use Rattle.csub_text.specs.Read.{Got, and_then, after, stripped, begins, literal, name, ended, mapped}
 use Rattle.csub_text.specs.ReadFile as of
-use Rattle.csub_text.specs.ReadFile.{parts_while, some_while, parameter, head, statements, name_start, function_name, name_line, heading, local_line, local_lines, block, blocks, insides, function}
+use Rattle.csub_text.specs.ReadFile.{parts_while, some_while, parameter, head, statements, name_len, function_name, name_line, heading, local_line, local_lines, block, blocks, insides, function}
 use Rattle.csub_text.proofs.Numbers.{ends, stripped_own}
 use Rattle.csub_text.proofs.Statements.{statement_own, two, three, four, five, six}
 use Rattle.csub_text.proofs.Declarations.{Counted, all_own, some_own, longer, parameter_own, head_own, parts_fit, ends_parts}
@@ -87,14 +87,14 @@ blocks_own (b ∷ bs) r ok =
 
 -- ---- names
 
-name_start_at : (d m : Bool) (b : ℕ) (bs t : List ℕ) → (d && m) ≡ true → (m ≡ true → t ≡ bs) → cond d (b ∷ t) [] ≡ b ∷ bs
-name_start_at true m b bs t e h = ap (λ u. b ∷ u) (h e)
-name_start_at false m b bs t e h = cc
+name_start_at : (d m : Bool) (b n : ℕ) (bs t : List ℕ) → (d && m) ≡ true → (m ≡ true → take n t ≡ bs) → take (cond d (suc n) 0) (b ∷ t) ≡ b ∷ bs
+name_start_at true m b n bs t e h = ap (λ u. b ∷ u) (h e)
+name_start_at false m b n bs t e h = cc
 
-name_start_own : (bs r : List ℕ) → is_name bs ≡ true → name_start (bs ++ (codes " */\n" ++ r)) ≡ bs
-unfolding name_start
+name_start_own : (bs r : List ℕ) → is_name bs ≡ true → take (name_len (bs ++ (codes " */\n" ++ r))) (bs ++ (codes " */\n" ++ r)) ≡ bs
+unfolding name_len
 name_start_own [] r e = refl
-name_start_own (b ∷ bs) r e = name_start_at (is_name_byte b) (is_name bs) b bs (name_start (bs ++ (codes " */\n" ++ r))) e (λ h. name_start_own bs r h)
+name_start_own (b ∷ bs) r e = name_start_at (is_name_byte b) (is_name bs) b (name_len (bs ++ (codes " */\n" ++ r))) bs (bs ++ (codes " */\n" ++ r)) e (λ h. name_start_own bs r h)
 
 name_pieces : (s b e l r : List ℕ) → ((s ++ b ++ e) ++ l) ++ r ≡ s ++ (b ++ (e ++ (l ++ r)))
 name_pieces s b e l r = simp append_assoc

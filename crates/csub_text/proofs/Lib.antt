@@ -5,3 +5,4 @@ pub mod Functions
 pub mod Names
 pub mod Numbers
 pub mod Statements
+pub mod Valid

@@ -33,6 +33,11 @@ stripped [] i = Some i
 stripped (c ∷ s) [] = None
 stripped (c ∷ s) (d ∷ i) = cond (d == c) (stripped s i) None
 
+-- a second start after the first
+abbrev pub then_stripped : Option (List ℕ) → List ℕ → Option (List ℕ)
+then_stripped None s = None
+then_stripped (Some i) s = stripped s i
+
 abbrev pub begins : List ℕ → List ℕ → Bool
 begins s i = is_some (stripped s i)
 

@@ -1,12 +1,13 @@
 -- How declarations are read, from the front of bytes.
-use Rattle.std.specs.Prelude.{ℕ, zero, suc, ◌+◌, ◌++◌, ◌&&◌, ◌||◌, not, Bool, true, false, cond, List, [], ◌∷◌, Option, Some, None, is_some, is_none, codes, length}
+use Rattle.std.specs.Prelude.{ℕ, zero, suc, ◌+◌, ◌++◌, ◌&&◌, ◌||◌, not, Bool, true, false, cond, List, [], ◌∷◌, Option, Some, None, is_some, is_none, codes, length, take}
 use Rattle.std.specs.Fmt.{decimal}
 use Rattle.csub_tree.specs.declared.tree.CFile.{CFile}
 use Rattle.csub_tree.specs.declared.tree.CStruct.{CStruct}
 use Rattle.csub_tree.specs.declared.tree.CType.{CType}
 use Rattle.csub_tree.specs.declared.tree.CPrototype.{CPrototype}
 use Rattle.csub_tree.specs.declared.tree.CStatic.{CStatic}
-use Rattle.csub_tree.specs.declared.tree.CCell.{CCell}
+use Rattle.csub_tree.specs.declared.tree.CCell.{CCell, out-CCell}
+use Rattle.csub_tree.specs.declared.tree.CCell.TheOpen.{CCell-F}
 use Rattle.csub_tree.specs.declared.tree.CCell.TheVariants as cell
 use Rattle.csub_tree.specs.declared.tree.CFunction.{CFunction}
 use Rattle.csub_tree.specs.declared.tree.CStmt.{CStmt}
@@ -84,17 +85,13 @@ unfoldable pub statements : ℕ → List ℕ → Got (List CStmt)
 statements zero i = None
 statements (suc f) i = and_then (statement_line i) (λ s j. cond (ends_block s) (Some (s ∷ [], j)) (mapped (λ ss. s ∷ ss) (statements f j)))
 
-abbrev pub is_name_byte_at : List ℕ → Bool
-is_name_byte_at [] = false
-is_name_byte_at (b ∷ bs) = is_name_byte b
-
--- the letters, digits, `_` and `.` at the front
-unfoldable pub name_start : List ℕ → List ℕ
-name_start [] = []
-name_start (b ∷ bs) = cond (is_name_byte b) (b ∷ name_start bs) []
+-- how many letters, digits, `_` and `.` stand at the front
+unfoldable pub name_len : List ℕ → ℕ
+name_len [] = 0
+name_len (b ∷ bs) = cond (is_name_byte b) (suc (name_len bs)) 0
 
 unfoldable pub function_name : List ℕ → Got (List ℕ)
-function_name i = literal (name_start i) (name_start i) i
+function_name i = literal (take (name_len i) i) (take (name_len i) i) i
 
 unfoldable pub name_line : List ℕ → Got (List ℕ)
 name_line i = after (stripped (codes "/* ") i) (λ j. ended (function_name j) (codes " */\n"))
@@ -130,18 +127,61 @@ function n i =
 
 -- ---- statics
 
-abbrev pub cell_with : (List ℕ → Got (List CCell)) → List ℕ → Got CCell
-cell_with cells i = cond (begins (codes "{") i) (mapped (λ c. cell.Braces c) (cells i)) (mapped (λ c. cell.Const c) (constant i))
+-- the lists that are open, the outermost first
+abbrev pub Open : Type 0
+Open = List (List CCell)
 
--- a list of cells, in which lists nest at most this deep
-unfoldable pub cells : ℕ → List ℕ → Got (List CCell)
-cells zero i = None
-cells (suc f) i = cond (begins (codes "{ }") i) (literal (codes "{ }") [] i) (after (stripped (codes "{ ") i) (λ j. ended (list_of (cell_with (cells f)) j) (codes " }")))
+-- where a cell may begin: the open lists then, and the cell that was read, if it is whole
+unfoldable pub begin : Open → List ℕ → Got (Open × Option CCell)
+begin lists i =
+    cond (begins (codes "{ }") i) (literal (codes "{ }") (lists, Some (cell.Braces [])) i)
+    (cond (begins (codes "{") i) (literal (codes "{ ") (lists ++ [] ∷ [], None) i)
+    (mapped (λ c. (lists, Some (cell.Const c))) (constant i)))
+
+-- after a cell of a list
+unfoldable pub follow : Open → List CCell → CCell → List ℕ → Got (Open × Option CCell)
+follow outer cells c i =
+    cond (begins (codes ", ") i) (literal (codes ", ") (outer ++ (cells ++ c ∷ []) ∷ [], None) i)
+    (literal (codes " }") (outer, Some (cell.Braces (cells ++ c ∷ []))) i)
+
+-- all but the last, and the last
+abbrev pub with_last : {A : Type 0} → A → Option (List A × A) → Option (List A × A)
+with_last x None = Some ([], x)
+with_last x (Some p) = Some (x ∷ p.0, p.1)
+
+unfoldable pub last_of : {A : Type 0} → List A → Option (List A × A)
+last_of [] = None
+last_of (x ∷ xs) = with_last x (last_of xs)
+
+-- the outermost cell has to be a list
+abbrev pub list_in : CCell-F CCell → Option (List CCell)
+list_in (CCell-F.Const c) = None
+list_in (CCell-F.Braces cells) = Some cells
+
+abbrev pub whole_list : CCell → Option (List CCell)
+whole_list c = list_in (out-CCell c)
+
+abbrev pub with_rest : {A : Type 0} → List ℕ → Option A → Got A
+with_rest i None = None
+with_rest i (Some x) = Some (x, i)
+
+abbrev pub after_cell : (Open → Option CCell → List ℕ → Got (List CCell)) → Option (Open × List CCell) → CCell → List ℕ → Got (List CCell)
+after_cell go None c i = with_rest i (whole_list c)
+after_cell go (Some p) c i = and_then (follow p.0 p.1 c i) (λ s j. go s.0 s.1 j)
+
+-- cells, in at most this many turns
+unfoldable pub turns : ℕ → Open → Option CCell → List ℕ → Got (List CCell)
+turns zero lists pending i = None
+turns (suc f) lists None i = and_then (begin lists i) (λ s j. turns f s.0 s.1 j)
+turns (suc f) lists (Some c) i = after_cell (turns f) (last_of lists) c i
+
+unfoldable pub cells : List ℕ → Got (List CCell)
+cells i = turns (length i) [] None i
 
 unfoldable pub static_text : ℕ → List ℕ → Got CStatic
 static_text n i =
     and_then (name (codes "static struct s") i) (λ kind j. numbered_name (codes " g") n j (λ k. after (stripped (codes " = ") k) (λ l.
-    mapped (λ found. record { kind = kind; cells = found }) (ended (cells (length l) l) (codes ";\n")))))
+    mapped (λ found. record { kind = kind; cells = found }) (ended (cells l) (codes ";\n")))))
 
 -- ---- files
 
@@ -167,10 +207,12 @@ statics i = parts_while (begins (codes "static ")) static_text (length i) 0 i
 unfoldable pub functions : List ℕ → Got (List CFunction)
 functions i = some_while sees_more function (length i) 0 true i
 
+unfoldable pub declarations : List ℕ → Got CFile
+declarations i =
+    and_then (structs i) (λ a j. and_then (prototypes j) (λ b k. and_then (statics k) (λ c l. mapped (λ d. record { structs = a; prototypes = b; statics = c; functions = d }) (functions l))))
+
 unfoldable pub file : List ℕ → Got CFile
-file i =
-    after (stripped (codes "/* C-sub 1 */\n") i) (λ j. after (stripped (codes "#include \"rpy_prim.h\"\n") j) (λ k.
-    and_then (structs k) (λ a l. and_then (prototypes l) (λ b m. and_then (statics m) (λ c n. mapped (λ d. record { structs = a; prototypes = b; statics = c; functions = d }) (functions n))))))
+file i = after (stripped (codes "/* C-sub 1 */\n") i) (λ j. after (stripped (codes "#include \"rpy_prim.h\"\n") j) declarations)
 
 abbrev pub at_end : Got CFile → Option CFile
 at_end None = None
