@@ -30,16 +30,16 @@ follow_turn f outer next cells c pending i j is = rw (last_own outer cells, is) 
 
 pub follow_next : (n t : ℕ) (lists outer next : Open) (cells : List CCell) (c : CCell) (pending : Option CCell) (i j : List ℕ) (all : Got (List CCell)) → t < n → lists ≡ outer ++ cells ∷ [] → follow outer cells c i ≡ Some ((next, pending), j)
     → all ≡ turns (n - t) lists (Some c) i → all ≡ turns (n - (t + 1)) next pending j
-follow_next n t lists outer next cells c pending i j all within open is so_far =
-    so_far ∙ ap (λ f. turns f lists (Some c) i) (less t n within) ∙ ap (λ l. turns (suc (n - (t + 1))) l (Some c) i) open ∙ follow_turn (n - (t + 1)) outer next cells c pending i j is
+follow_next n t lists outer next cells c pending i j all within is_open is so_far =
+    so_far ∙ ap (λ f. turns f lists (Some c) i) (less t n within) ∙ ap (λ l. turns (suc (n - (t + 1))) l (Some c) i) is_open ∙ follow_turn (n - (t + 1)) outer next cells c pending i j is
 
 follow_none : (f : ℕ) (outer : Open) (cells : List CCell) (c : CCell) (i : List ℕ) → follow outer cells c i ≡ None → turns (suc f) (outer ++ cells ∷ []) (Some c) i ≡ None
 unfolding turns
 follow_none f outer cells c i is = rw (last_own outer cells, is) refl
 
 pub follow_fails : (n t : ℕ) (lists outer : Open) (cells : List CCell) (c : CCell) (i : List ℕ) → t < n → lists ≡ outer ++ cells ∷ [] → follow outer cells c i ≡ None → turns (n - t) lists (Some c) i ≡ None
-follow_fails n t lists outer cells c i within open is =
-    ap (λ f. turns f lists (Some c) i) (less t n within) ∙ ap (λ l. turns (suc (n - (t + 1))) l (Some c) i) open ∙ follow_none (n - (t + 1)) outer cells c i is
+follow_fails n t lists outer cells c i within is_open is =
+    ap (λ f. turns f lists (Some c) i) (less t n within) ∙ ap (λ l. turns (suc (n - (t + 1))) l (Some c) i) is_open ∙ follow_none (n - (t + 1)) outer cells c i is
 
 whole_turn : (f : ℕ) (c : CCell) (cells : List CCell) (i : List ℕ) → whole_list c ≡ Some cells → turns (suc f) [] (Some c) i ≡ Some (cells, i)
 unfolding turns last_of

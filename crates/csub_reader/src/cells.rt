@@ -130,7 +130,7 @@ fn follow(
 }
 
 /// The cells of a static, with their braces.
-#[tactic(auto, using(crate::proofs::Turns::turns_whole, crate::proofs::Turns::turns_bare, crate::proofs::Turns::turns_done, crate::proofs::Turns::begin_fails, crate::proofs::Turns::follow_fails), unfolding(csub_text::specs::ReadFile::cells))]
+#[tactic(auto, using(crate::proofs::Turns::begin_next, crate::proofs::Turns::follow_next, crate::proofs::Turns::turns_whole, crate::proofs::Turns::turns_bare, crate::proofs::Turns::turns_done, crate::proofs::Turns::begin_fails, crate::proofs::Turns::follow_fails), unfolding(csub_text::specs::ReadFile::cells))]
 pub fn cells(alloc: Global, bytes: &mut Cursor<'_>) -> Result<Seq<CCell>, Stop>
     ensures spelled { IfOk result (λ cells. bytes.old ≡ cells_text (map cell_text cells) ++ bytes.new) }
     ensures reads { Reads (pure.cells bytes.old) result bytes.new }

@@ -8,6 +8,7 @@ ghost use Rattle.csub_reader.specs.Reads.{Reads, ReadsWhole, Strips};
 ghost use Rattle.csub_reader.specs.Parts.{none_yet};
 ghost use Rattle.csub_reader.specs.Functions.{ReadsHeading, ReadsInsides};
 ghost use Rattle.csub_reader.specs.Refused.{IsRefused};
+ghost use Rattle.csub_text.specs.Text.{IsText};
 ghost use Rattle.csub_tree.specs.Spelling.{numbered, local_line, block_text, function_start, function_body, function_text, struct_text, prototype_text, static_text, cell_text, cells_text, file_text, head, line};
 
 use crate::cells::cells;
@@ -375,9 +376,12 @@ fn line_of(text: &Text, rest: &[u8]) -> u64 {
         .saturating_add(1)
 }
 
-/// The file that a text spells, whether or not it keeps the further rules of a C file.
+/// The file that a text spells, whether or not it keeps the further rules of a C file. It is
+/// refused exactly where the bytes are the text of no file, but that memory may fail.
+#[tactic(auto, using(csub_text::proofs::Files::none_whole, csub_text::proofs::Files::whole_text))]
 pub fn read_text(alloc: Global, text: &Text) -> Result<CFile, CFault>
     ensures spelled { IfOk result (λ file. text.now ≡ file_text file) }
+    ensures text { IfOk result (λ file. IsText text.now file) }
     ensures refused { IfErr result (λ fault. IsRefused text.now fault) }
 {
     let mut bytes = Cursor::new(text.bytes());
@@ -391,6 +395,7 @@ pub fn read_text(alloc: Global, text: &Text) -> Result<CFile, CFault>
 /// The file that a text spells, which keeps the rules of a C file.
 pub fn read_c(alloc: Global, text: &Text) -> Result<CFile, CFault>
     ensures spelled { IfOk result (λ file. text.now ≡ file_text file) }
+    ensures text { IfOk result (λ file. IsText text.now file) }
     ensures checked { IfOk result (λ file. IsChecked file) }
     ensures refused { IfErr result (λ fault. IsRefused text.now fault) }
 {

@@ -91,7 +91,7 @@ all_cells : (cs : List CCell) → all_true (map cell_fits cs) ≡ true → All I
 all_cells [] e = tt
 all_cells (c ∷ cs) e = (first_true (cell_fits c) (all_true (map cell_fits cs)) e, all_cells cs (second_true (cell_fits c) (all_true (map cell_fits cs)) e))
 
-braces_fit : (cs : List CCell) → IsCell (roll-CCell (CCell-F.Braces cs)) → All IsCell cs
+pub braces_fit : (cs : List CCell) → IsCell (roll-CCell (CCell-F.Braces cs)) → All IsCell cs
 braces_fit cs ok = all_cells cs (sym (fold-roll-CCell Bool cell_step (CCell-F.Braces cs)) ∙ ok)
 
 opens : (cs : List CCell) (r : List ℕ) → begins (codes "{") (spell.cells_text (map spell.cell_text cs) ++ r) ≡ true

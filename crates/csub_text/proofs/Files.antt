@@ -13,7 +13,7 @@ use Rattle.csub_tree.specs.declared.tree.CCell.{CCell}
 use Rattle.csub_tree.specs.declared.tree.CFunction.{CFunction}
 use Rattle.csub_tree.specs.Spelling as spell
 use Rattle.csub_text.specs.Written.{All, IsNumberIfAny, IsType, IsTypeIfAny, IsStruct, IsPrototype, IsCell, IsStatic, IsFunction, IsWritten, IsSome}
-use Rattle.csub_text.specs.Text.{IsText}
+use Rattle.csub_text.specs.Text.{IsText, IsNoText}
 use Rattle.csub_text.specs.Read.{Got, and_then, after, stripped, begins, literal, name, ended, mapped}
 use Rattle.csub_text.specs.ReadFile as of
 use Rattle.csub_text.specs.ReadFile.{parts_while, some_while, struct_text, prototype, cells, static_text, function, structs, prototypes, statics, functions, declarations, file, whole}
@@ -22,6 +22,7 @@ use Rattle.csub_text.proofs.Statements.{two, three, four, five, six, seven}
 use Rattle.csub_text.proofs.Declarations.{Counted, all_own, struct_own, prototype_own, parts_fit}
 use Rattle.csub_text.proofs.Functions.{function_own, whole_own}
 use Rattle.csub_text.proofs.Cells.{cells_own}
+use Rattle.csub_text.proofs.ValidFile.{whole_written}
 
 counted_by : (a r : List ℕ) → 2 ≤ length a → suc (length r) ≤ length (a ++ r)
 counted_by a r some =
@@ -179,3 +180,11 @@ one_file c d ok_c ok_d e =
 
 pub texts_of_one_file : (bytes : List ℕ) (c d : CFile) → IsText bytes c → IsText bytes d → c ≡ d
 texts_of_one_file bytes c d is_c is_d = one_file c d is_c.1 is_d.1 (sym is_c.0 ∙ is_d.0)
+
+pub none_whole : (i : List ℕ) → whole i ≡ None → IsNoText i
+none_whole i e c is =
+    let t : None ≡ Some c = sym e ∙ ap whole is.0 ∙ whole_file c is.1 in
+    cc
+
+pub whole_text : (i : List ℕ) (c : CFile) → whole i ≡ Some c → i ≡ spell.file_text c → IsText i c
+whole_text i c e is = (is, whole_written i c e)

@@ -6,3 +6,4 @@ pub mod Names
 pub mod Numbers
 pub mod Statements
 pub mod Valid
+pub mod ValidFile

@@ -8,6 +8,10 @@ use Rattle.csub_text.specs.Written.{IsWritten}
 abbrev pub IsText : List ℕ → CFile → Type 0
 IsText bytes file = (bytes ≡ file_text file) × IsWritten file
 
+-- the bytes are the text of no file
+abbrev pub IsNoText : List ℕ → Type 0
+IsNoText bytes = (file : CFile) → IsText bytes file → ⊥
+
 -- some text begins with these bytes
 abbrev pub Begins : List ℕ → Type 0
 Begins bytes = (rest : List ℕ) × (file : CFile) × IsText (bytes ++ rest) file
@@ -40,4 +44,4 @@ pub record IsDead (bytes : List ℕ) (k : ℕ) : Type 0 where
   pub number : k ≡ suc (line_ends before)
   pub fits : Begins before
   pub line : has_line after ≡ true → Begins (before ++ first_line after) → ⊥
-  pub whole : after ≡ [] → (file : CFile) → IsText bytes file → ⊥
+  pub whole : after ≡ [] → IsNoText bytes

@@ -14,7 +14,7 @@ loop-turn-preserved c = record {
       (parameter 0 c.args.first ++ c.args.bytes.now) c.loop-turn.bytes c.more_parameter.new.bytes
       (search rules) c.loop-turn.invariant.some (search rules) c.loop-turn.invariant.text (search rules);
   reads =
-      while_next (begins (codes ", ")) pure.more_parameter c.loop-turn.kinds c.push-in-loop-turn.new.self c.in_ok-kind.kind (length c.rest.result.now) c.loop-turn._turn (length c.loop-turn.kinds) (length c.push-in-loop-turn.new.self) c.loop-turn.bytes c.more_parameter.new.bytes
+      while_next (begins (codes ", ")) pure.more_parameter c.loop-turn.kinds c.push-in-loop-turn.new.self c.in_ok-kind.kind (length c.rest-turn-end.result.now) c.loop-turn._turn (length c.loop-turn.kinds) (length c.push-in-loop-turn.new.self) c.loop-turn.bytes c.more_parameter.new.bytes
       (mapped (λ ys. c.args.first ∷ ys) (pure.parts_while (begins (codes ", ")) pure.more_parameter (length c.args.bytes.now) 1 c.args.bytes.now))
       (search rules) (search rules) (search rules) (search rules) (grind (arith, length-append)) c.loop-turn.invariant.reads;
 }

@@ -14,7 +14,7 @@ loop-turn-preserved c = record {
       c.args.bytes.now c.loop-turn.bytes c.block.new.bytes
       (search rules) (omega (arith, c.len.ensures)) c.loop-turn.invariant.text (search rules);
   reads =
-      some_next (begins (codes "b")) pure.block c.loop-turn.blocks c.push.new.self c.in_ok-stmts.stmts (length c.rest.result.now) c.loop-turn._turn (0 + length c.loop-turn.blocks) (0 + length c.push.new.self) (none_yet c.loop-turn.blocks) c.loop-turn.bytes c.block.new.bytes
+      some_next (begins (codes "b")) pure.block c.loop-turn.blocks c.push.new.self c.in_ok-stmts.stmts (length c.rest-turn-end.result.now) c.loop-turn._turn (0 + length c.loop-turn.blocks) (0 + length c.push.new.self) (none_yet c.loop-turn.blocks) c.loop-turn.bytes c.block.new.bytes
       (pure.some_while (begins (codes "b")) pure.block (length c.args.bytes.now) 0 true c.args.bytes.now)
-      (search rules) (search rules) (search rules) (search rules) (grind arith) c.loop-turn.invariant.reads ∙ none_longer c.loop-turn.blocks c.push.new.self c.in_ok-stmts.stmts (λ b. extended c.push.new.self (pure.some_while (begins (codes "b")) pure.block ((length c.rest.result.now) - (c.loop-turn._turn + 1)) (0 + length c.push.new.self) b c.block.new.bytes)) (search rules);
+      (search rules) (search rules) (search rules) (search rules) (grind arith) c.loop-turn.invariant.reads ∙ none_longer c.loop-turn.blocks c.push.new.self c.in_ok-stmts.stmts (λ b. extended c.push.new.self (pure.some_while (begins (codes "b")) pure.block ((length c.rest-turn-end.result.now) - (c.loop-turn._turn + 1)) (0 + length c.push.new.self) b c.block.new.bytes)) (search rules);
 }

@@ -14,7 +14,7 @@ loop-turn-preserved c = record {
       c.args.bytes.now c.loop-turn.bytes c.function.new.bytes
       (search rules) (omega (arith, c.len.ensures)) c.loop-turn.invariant.text (search rules);
   reads =
-      some_next (pure.sees_more) pure.function c.loop-turn.items c.push.new.self c.in_ok-item.item (length c.rest.result.now) c.loop-turn._turn (0 + length c.loop-turn.items) (0 + length c.push.new.self) (none_yet c.loop-turn.items) c.loop-turn.bytes c.function.new.bytes
+      some_next (pure.sees_more) pure.function c.loop-turn.items c.push.new.self c.in_ok-item.item (length c.rest-turn-end.result.now) c.loop-turn._turn (0 + length c.loop-turn.items) (0 + length c.push.new.self) (none_yet c.loop-turn.items) c.loop-turn.bytes c.function.new.bytes
       (pure.some_while (pure.sees_more) pure.function (length c.args.bytes.now) 0 true c.args.bytes.now)
-      (search rules) (search rules) (search rules) (search rules) (grind arith) c.loop-turn.invariant.reads ∙ none_longer c.loop-turn.items c.push.new.self c.in_ok-item.item (λ b. extended c.push.new.self (pure.some_while (pure.sees_more) pure.function ((length c.rest.result.now) - (c.loop-turn._turn + 1)) (0 + length c.push.new.self) b c.function.new.bytes)) (search rules);
+      (search rules) (search rules) (search rules) (search rules) (grind arith) c.loop-turn.invariant.reads ∙ none_longer c.loop-turn.items c.push.new.self c.in_ok-item.item (λ b. extended c.push.new.self (pure.some_while (pure.sees_more) pure.function ((length c.rest-turn-end.result.now) - (c.loop-turn._turn + 1)) (0 + length c.push.new.self) b c.function.new.bytes)) (search rules);
 }

@@ -14,7 +14,7 @@ loop-turn-preserved c = record {
       c.args.bytes.now c.loop-turn.bytes c.local_line.new.bytes
       (search rules) (omega (arith, c.len.ensures)) c.loop-turn.invariant.text (search rules);
   reads =
-      while_next (begins (codes "    ")) pure.local_line c.loop-turn.kinds c.push.new.self c.in_ok-kind.kind (length c.rest.result.now) c.loop-turn._turn (c.args.first + length c.loop-turn.kinds) (c.args.first + length c.push.new.self) c.loop-turn.bytes c.local_line.new.bytes
+      while_next (begins (codes "    ")) pure.local_line c.loop-turn.kinds c.push.new.self c.in_ok-kind.kind (length c.rest-turn-end.result.now) c.loop-turn._turn (c.args.first + length c.loop-turn.kinds) (c.args.first + length c.push.new.self) c.loop-turn.bytes c.local_line.new.bytes
       (pure.parts_while (begins (codes "    ")) pure.local_line (length c.args.bytes.now) c.args.first c.args.bytes.now)
       (search rules) (search rules) (search rules) (search rules) (grind arith) c.loop-turn.invariant.reads;
 }

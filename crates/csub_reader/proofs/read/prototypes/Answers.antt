@@ -14,7 +14,7 @@ loop-turn-preserved c = record {
       c.args.bytes.now c.loop-turn.bytes c.prototype.new.bytes
       (search rules) (omega (arith, c.len.ensures)) c.loop-turn.invariant.text (search rules);
   reads =
-      while_next (pure.sees_prototype) pure.prototype c.loop-turn.items c.push.new.self c.in_ok-item.item (length c.rest.result.now) c.loop-turn._turn (0 + length c.loop-turn.items) (0 + length c.push.new.self) c.loop-turn.bytes c.prototype.new.bytes
+      while_next (pure.sees_prototype) pure.prototype c.loop-turn.items c.push.new.self c.in_ok-item.item (length c.rest-turn-end.result.now) c.loop-turn._turn (0 + length c.loop-turn.items) (0 + length c.push.new.self) c.loop-turn.bytes c.prototype.new.bytes
       (pure.parts_while (pure.sees_prototype) pure.prototype (length c.args.bytes.now) 0 c.args.bytes.now)
       (search rules) (search rules) (search rules) (search rules) (grind arith) c.loop-turn.invariant.reads;
 }

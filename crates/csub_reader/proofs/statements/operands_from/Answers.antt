@@ -15,7 +15,7 @@ loop-turn-preserved c = record {
       (operand_text c.args.first ++ c.args.bytes.now) c.loop-turn.bytes c.more_operand.new.bytes
       (search rules) c.loop-turn.invariant.some c.loop-turn.invariant.text (search rules);
   reads =
-      rest_next read.operand c.loop-turn.xs c.push-in-loop-turn.new.self c.in_ok-x.x (length c.rest.result.now) c.loop-turn._turn c.loop-turn.bytes c.more_operand.new.bytes
+      rest_next read.operand c.loop-turn.xs c.push-in-loop-turn.new.self c.in_ok-x.x (length c.rest-turn-end.result.now) c.loop-turn._turn c.loop-turn.bytes c.more_operand.new.bytes
       (mapped (λ ys. c.args.first ∷ ys) (rest_of read.operand (length c.args.bytes.now) c.args.bytes.now))
       (search rules) (search rules) (search rules) (search rules) c.loop-turn.invariant.reads;
 }

@@ -12,7 +12,7 @@ loop-turn-preserved c = record {
       c.args.bytes.now c.loop-turn.bytes c.statement_line.new.bytes
       (search rules) c.loop-turn.invariant.text (search rules);
   reads =
-      statements_next c.loop-turn.stmts c.push.new.self c.in_ok-s.s (length c.rest.result.now) c.loop-turn._turn c.loop-turn.bytes c.statement_line.new.bytes
+      statements_next c.loop-turn.stmts c.push.new.self c.in_ok-s.s (length c.rest-turn-end.result.now) c.loop-turn._turn c.loop-turn.bytes c.statement_line.new.bytes
       (pure.statements (length c.args.bytes.now) c.args.bytes.now)
       (search rules) (search rules) (search rules) (search rules) c.loop-turn.invariant.reads;
 }
