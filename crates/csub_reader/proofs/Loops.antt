@@ -1,5 +1,5 @@
 -- Loops that read parts, one after the other.
-use Rattle.std.proofs.Common.{◌≡◌, ℕ, zero, suc, ◌+◌, ◌-◌, ◌<◌, ◌≤◌, Bool, true, false, cond, ◌||◌, List, [], ◌∷◌, ◌++◌, Option, Some, None, refl, ap, ◌∙◌, arith, sym, subst, append_assoc, length, codes}
+use Rattle.std.proofs.Common.{◌≡◌, ℕ, zero, suc, ◌+◌, ◌-◌, ◌<◌, ◌≤◌, Bool, true, false, cond, ◌||◌, List, [], ◌∷◌, ◌++◌, Option, Some, None, refl, ap, ◌∙◌, arith, sym, subst, append_assoc, length, length-append, codes}
 use Rattle.std.proofs.lemmas.List.{append-nil}
 use Rattle.csub_text.specs.Read.{Got, and_then, mapped, begins}
 use Rattle.csub_text.specs.ReadStatement.{more_item, rest_of}
@@ -173,3 +173,9 @@ statements_done ss n t i done =
 pub none_longer : {A : Type 0} (xs longer : List A) (x : A) (f : Bool → Got (List A)) → longer ≡ xs ++ x ∷ [] → f false ≡ f (none_yet longer)
 none_longer [] longer x f is = ap (λ ys. f (none_yet ys)) (sym is)
 none_longer (y ∷ ys) longer x f is = ap (λ zs. f (none_yet zs)) (sym is)
+
+-- the number of the next part
+pub counted_more : {A : Type 0} (before : ℕ) (xs longer : List A) (x : A) → longer ≡ xs ++ x ∷ [] → before + length longer ≡ (before + length xs) + 1
+counted_more before xs longer x is =
+    let l : length longer ≡ length xs + length (x ∷ []) = ap length is ∙ length-append xs (x ∷ []) in
+    omega arith

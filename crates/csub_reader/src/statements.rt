@@ -107,12 +107,31 @@ fn sees_call(bytes: &Cursor<'_>, name: &[u8]) -> bool
     start.expect(name).is_ok() && start.sees(b"(")
 }
 
+// The first of these whose name and a bracket come next.
+fn first_unary(ops: &[CUnary], bytes: &Cursor<'_>) -> Option<CUnary>
+    ensures { result ≡ pure.first_called unary_name ops.now bytes.now }
+{
+    for op in ops {
+        if sees_call(bytes, name_of_unary(*op)) {
+            return Some(*op);
+        }
+    }
+    None
+}
+
 #[tactic(auto, unfolding(csub_text::specs::ReadStatement::next_unary))]
 fn next_unary(bytes: &Cursor<'_>) -> Option<CUnary>
     ensures { result ≡ pure.next_unary bytes.now }
 {
-    for op in &UNARY {
-        if sees_call(bytes, name_of_unary(*op)) {
+    first_unary(&UNARY, bytes)
+}
+
+// The first of these whose name and a bracket come next.
+fn first_binary(ops: &[CBinary], bytes: &Cursor<'_>) -> Option<CBinary>
+    ensures { result ≡ pure.first_called binary_name ops.now bytes.now }
+{
+    for op in ops {
+        if sees_call(bytes, name_of_binary(*op)) {
             return Some(*op);
         }
     }
@@ -123,12 +142,7 @@ fn next_unary(bytes: &Cursor<'_>) -> Option<CUnary>
 fn next_binary(bytes: &Cursor<'_>) -> Option<CBinary>
     ensures { result ≡ pure.next_binary bytes.now }
 {
-    for op in &BINARY {
-        if sees_call(bytes, name_of_binary(*op)) {
-            return Some(*op);
-        }
-    }
-    None
+    first_binary(&BINARY, bytes)
 }
 
 fn more_operand(bytes: &mut Cursor<'_>) -> Result<COperand, Stop>

@@ -128,7 +128,7 @@ no_empty (const.Static s g) r ok = refl
 no_empty (const.Fun f) r ok = refl
 
 
-last_own : {A : Type 0} (xs : List A) (x : A) → last_of (xs ++ x ∷ []) ≡ Some (xs, x)
+pub last_own : {A : Type 0} (xs : List A) (x : A) → last_of (xs ++ x ∷ []) ≡ Some (xs, x)
 unfolding last_of
 last_own [] x = refl
 last_own (y ∷ ys) x = rw (last_own ys x) refl

@@ -4,7 +4,7 @@ use Rattle.csub_text.specs.Read.{begins}
 use Rattle.csub_text.specs.ReadFile as pure
 use Rattle.csub_reader.specs.Parts.{extended, none_yet}
 use Rattle.csub_reader.proofs.Longer.{numbered_next}
-use Rattle.csub_reader.proofs.Loops.{while_next}
+use Rattle.csub_reader.proofs.Loops.{counted_more, while_next}
 use Rattle.csub_reader.proofs.read.local_lines.Goals as goal
 
 pub loop-turn-preserved : goal.loop-turn-preserved
@@ -16,5 +16,5 @@ loop-turn-preserved c = record {
   reads =
       while_next (begins (codes "    ")) pure.local_line c.loop-turn.kinds c.push.new.self c.in_ok-kind.kind (length c.rest-turn-end.result.now) c.loop-turn._turn (c.args.first + length c.loop-turn.kinds) (c.args.first + length c.push.new.self) c.loop-turn.bytes c.local_line.new.bytes
       (pure.parts_while (begins (codes "    ")) pure.local_line (length c.args.bytes.now) c.args.first c.args.bytes.now)
-      (search rules) (search rules) (search rules) (search rules) (grind arith) c.loop-turn.invariant.reads;
+      (search rules) (search rules) (search rules) (search rules) (counted_more c.args.first c.loop-turn.kinds c.push.new.self c.in_ok-kind.kind (search rules)) c.loop-turn.invariant.reads;
 }

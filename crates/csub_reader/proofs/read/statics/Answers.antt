@@ -4,7 +4,7 @@ use Rattle.csub_text.specs.Read.{begins}
 use Rattle.csub_text.specs.ReadFile as pure
 use Rattle.csub_reader.specs.Parts.{extended, none_yet}
 use Rattle.csub_reader.proofs.Longer.{numbered_next}
-use Rattle.csub_reader.proofs.Loops.{while_next}
+use Rattle.csub_reader.proofs.Loops.{counted_more, while_next}
 use Rattle.csub_reader.proofs.read.statics.Goals as goal
 
 pub loop-turn-preserved : goal.loop-turn-preserved
@@ -16,5 +16,5 @@ loop-turn-preserved c = record {
   reads =
       while_next (begins (codes "static ")) pure.static_text c.loop-turn.items c.push.new.self c.in_ok-item.item (length c.rest-turn-end.result.now) c.loop-turn._turn (0 + length c.loop-turn.items) (0 + length c.push.new.self) c.loop-turn.bytes c.static_text.new.bytes
       (pure.parts_while (begins (codes "static ")) pure.static_text (length c.args.bytes.now) 0 c.args.bytes.now)
-      (search rules) (search rules) (search rules) (search rules) (grind arith) c.loop-turn.invariant.reads;
+      (search rules) (search rules) (search rules) (search rules) (counted_more 0 c.loop-turn.items c.push.new.self c.in_ok-item.item (search rules)) c.loop-turn.invariant.reads;
 }
