@@ -2,7 +2,6 @@
 use Rattle.std.proofs.Common.{◌≡◌, ℕ, suc, ◌+◌, ◌*◌, ◌-◌, ◌^◌, ◌<◌, ◌≤◌, Bool, true, false, cond, List, [], ◌∷◌, ap, ◌∙◌, arith, sym, drop, get_or, length, refl}
 use Rattle.std.proofs.Math.Seq.{drop-cons}
 use Rattle.std.proofs.lemmas.List.{at_drop_all}
-use Rattle.std.proofs.lemmas.Grind.{common_steps}
 use Rattle.csub_text.specs.Read.{lead, is_digit}
 
 grows_at : (d : Bool) (n b : ℕ) (more : ℕ) → (n * 10 + (b - 48)) ≤ more → n ≤ cond d more n

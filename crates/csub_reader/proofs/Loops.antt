@@ -1,7 +1,7 @@
 -- Loops that read parts, one after the other.
-use Rattle.std.proofs.Common.{◌≡◌, ℕ, zero, suc, ◌+◌, ◌-◌, ◌<◌, ◌≤◌, Bool, true, false, cond, ◌||◌, List, [], ◌∷◌, ◌++◌, Option, Some, None, refl, ap, ◌∙◌, arith, sym, subst, append_assoc, length, length-append, codes}
+use Rattle.std.proofs.Common.{◌≡◌, ℕ, zero, suc, ◌+◌, ◌-◌, ◌<◌, ◌≤◌, Bool, true, false, ◌||◌, List, [], ◌∷◌, ◌++◌, Some, None, refl, ap, ◌∙◌, arith, sym, append_assoc, length, length-append, codes}
 use Rattle.std.proofs.lemmas.List.{append-nil}
-use Rattle.csub_text.specs.Read.{Got, and_then, mapped, begins}
+use Rattle.csub_text.specs.Read.{Got, mapped, begins}
 use Rattle.csub_text.specs.ReadStatement.{more_item, rest_of}
 use Rattle.csub_tree.specs.declared.tree.CStmt.{CStmt}
 use Rattle.csub_tree.specs.Checked.{ends_block}

@@ -1,7 +1,6 @@
 -- Starts in two pieces, and starts that are longer than what is left.
-use Rattle.std.proofs.Common.{◌≡◌, ℕ, suc, ◌+◌, ◌<◌, ◌==◌, Bool, true, false, cond, List, [], ◌∷◌, ◌++◌, Option, Some, None, refl, ap, ◌∙◌, arith, sym, drop, get_or, length}
+use Rattle.std.proofs.Common.{◌≡◌, ℕ, suc, ◌<◌, ◌==◌, Bool, true, false, cond, List, [], ◌∷◌, ◌++◌, Some, None, refl, ap, ◌∙◌, arith, drop, get_or, length}
 use Rattle.std.proofs.Math.Seq.{drop-cons}
-use Rattle.std.proofs.lemmas.Grind.{common_steps}
 use Rattle.csub_text.specs.Read.{stripped}
 
 fail_at : (d : Bool) (a b i : List ℕ) → (stripped a i ≡ None → stripped (a ++ b) i ≡ None) → cond d (stripped a i) None ≡ None → cond d (stripped (a ++ b) i) None ≡ None

@@ -1,7 +1,7 @@
 -- The turns of the reader of cells.
-use Rattle.std.proofs.Common.{◌≡◌, ℕ, zero, suc, ◌+◌, ◌-◌, ◌<◌, ◌≤◌, List, [], ◌∷◌, ◌++◌, Option, Some, None, refl, ap, ◌∙◌, arith, sym}
+use Rattle.std.proofs.Common.{◌≡◌, ℕ, suc, ◌+◌, ◌-◌, ◌<◌, ◌≤◌, List, [], ◌∷◌, ◌++◌, Option, Some, None, refl, ap, ◌∙◌, arith}
 use Rattle.csub_tree.specs.declared.tree.CCell.{CCell}
-use Rattle.csub_text.specs.Read.{Got, and_then}
+use Rattle.csub_text.specs.Read.{Got}
 use Rattle.csub_text.specs.ReadFile.{Open, begin, follow, last_of, turns, whole_list}
 use Rattle.csub_text.proofs.Cells.{last_own}
 

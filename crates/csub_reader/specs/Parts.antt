@@ -1,5 +1,5 @@
 -- Parts that were read before others.
-use Rattle.std.specs.Prelude.{List, [], ◌∷◌, ◌++◌, Bool, true, false, Option, Some, None}
+use Rattle.std.specs.Prelude.{List, [], ◌∷◌, ◌++◌, Bool, true, false, Some, None}
 use Rattle.csub_text.specs.Read.{Got}
 
 abbrev pub extended : {A : Type 0} → List A → Got (List A) → Got (List A)

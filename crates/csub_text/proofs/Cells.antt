@@ -1,12 +1,12 @@
 -- The cells of statics are read as they are spelled.
-use Rattle.std.proofs.Common.{◌≡◌, ℕ, ℤ, pos, negsuc, zero, suc, ◌+◌, ◌^◌, ◌<◌, ◌≤◌, ◌-◌, ◌==◌, ◌&&◌, nat_lt, Bool, true, false, cond, List, [], ◌∷◌, ◌++◌, Option, Some, None, refl, ap, ◌∙◌, arith, sym, subst, rules, append_assoc, length, length-append, codes, map}
+use Rattle.std.proofs.Common.{◌≡◌, ℕ, pos, negsuc, suc, ◌+◌, ◌^◌, ◌<◌, ◌≤◌, ◌-◌, ◌==◌, ◌&&◌, nat_lt, Bool, true, false, cond, List, [], ◌∷◌, ◌++◌, Some, None, refl, ap, ◌∙◌, arith, sym, subst, append_assoc, length, length-append, codes, map}
 use Rattle.std.specs.List.{flat_map}
 use Rattle.std.specs.Fmt.{decimal, signed_decimal}
 use Rattle.std.proofs.lemmas.Grind.{common_steps}
 use Rattle.std.proofs.lemmas.List.{append-nil}
 use Rattle.csub_tree.specs.declared.tree.CConst.{CConst}
 use Rattle.csub_tree.specs.declared.tree.CConst.TheVariants as const
-use Rattle.csub_tree.specs.declared.tree.CCell.{CCell, fold-CCell, roll-CCell, out-CCell, map-CCell}
+use Rattle.csub_tree.specs.declared.tree.CCell.{CCell, fold-CCell, roll-CCell, map-CCell}
 use Rattle.csub_tree.specs.declared.tree.CCell.TheOpen.{CCell-F}
 use Rattle.csub_tree.specs.declared.tree.CCell.TheFolds.{fold-roll-CCell, ind-CCell}
 use Rattle.csub_tree.specs.declared.tree.CCell.TheViews.{outs-Braces}
@@ -14,13 +14,11 @@ use Rattle.csub_tree.specs.declared.tree.CCell.TheVariants as cell
 use Rattle.csub_tree.specs.declared.tree.CCell.TheVariants.{rolls-Const, rolls-Braces}
 use Rattle.csub_tree.specs.Spelling as spell
 use Rattle.csub_text.specs.Written.{All, IsConstant, IsCell, cell_fits, cell_step, constant_fits, all_true}
-use Rattle.csub_text.specs.Read.{Got, and_then, after, stripped, begins, literal, ended, mapped, constant}
-use Rattle.csub_text.specs.ReadStatement.{list_of}
+use Rattle.csub_text.specs.Read.{after, begins}
 use Rattle.csub_text.specs.ReadFile as of
 use Rattle.csub_text.specs.ReadFile.{cells, Open, begin, follow, last_of, turns, whole_list}
-use Rattle.csub_text.proofs.Numbers.{ends, Digit, digit_first, is_other}
+use Rattle.csub_text.proofs.Numbers.{ends, Digit, digit_first}
 use Rattle.csub_text.proofs.Names.{constant_own}
-use Rattle.csub_text.proofs.Statements.{Reads, list_own, two, three}
 
 fits_below : (n m : ℕ) → nat_lt n m ≡ true → n < m
 fits_below n m e = grind (arith, common_steps)
@@ -107,9 +105,10 @@ abbrev Unclosed : CCell → Type 0
 Unclosed c = IsCell c → (r : List ℕ) → begins (codes "}") (spell.cell_text c ++ r) ≡ false
 
 unclosed : (c : CCell) → Unclosed c
-unclosed = ind-CCell Unclosed (λ x y is ok r. (elim x as (λ z. IsCell (roll-CCell z) → begins (codes "}") (spell.cell_text (roll-CCell z) ++ r) ≡ false)
-  [ CCell-F.Const c ↦ λ o. ap (λ t. begins (codes "}") (t ++ r)) (const_text c) ∙ no_close c r (const_fits c o)
-  | CCell-F.Braces cs ↦ λ o. ap (λ t. begins (codes "}") (t ++ r)) (braces_text cs) ∙ not_closed cs r ]) ok)
+unclosed = ind-CCell Unclosed (λ x y is ok r. (elim x as (λ z. IsCell (roll-CCell z) → begins (codes "}") (spell.cell_text (roll-CCell z) ++ r) ≡ false) [
+  | CCell-F.Const c ↦ λ o. ap (λ t. begins (codes "}") (t ++ r)) (const_text c) ∙ no_close c r (const_fits c o)
+  | CCell-F.Braces cs ↦ λ o. ap (λ t. begins (codes "}") (t ++ r)) (braces_text cs) ∙ not_closed cs r
+]) ok)
 
 -- ---- turns
 
@@ -126,7 +125,6 @@ no_empty (const.Bool false) r ok = refl
 no_empty const.Null r ok = refl
 no_empty (const.Static s g) r ok = refl
 no_empty (const.Fun f) r ok = refl
-
 
 pub last_own : {A : Type 0} (xs : List A) (x : A) → last_of (xs ++ x ∷ []) ≡ Some (xs, x)
 unfolding last_of
@@ -230,7 +228,7 @@ back_list [] backs ok f lists r e = ap (λ m. turns m lists None (codes "{ }" ++
 back_list (c ∷ cs) backs ok f lists r e =
     let after : List ℕ = flat_map (spell.more spell.cell_text) cs ++ (codes " }" ++ r) in
     let t : spell.cells_text (map spell.cell_text (c ∷ cs)) ++ r ≡ codes "{ " ++ (spell.cell_text c ++ after) =
-        ap (λ m. (codes "{ " ++ (spell.cell_text c ++ m) ++ codes " }") ++ r) (same_list cs) ∙ list_pieces (codes "{ ") (spell.cell_text c) (flat_map (spell.more spell.cell_text) cs) (codes " }") r in
+    ap (λ m. (codes "{ " ++ (spell.cell_text c ++ m) ++ codes " }") ++ r) (same_list cs) ∙ list_pieces (codes "{ ") (spell.cell_text c) (flat_map (spell.more spell.cell_text) cs) (codes " }") r in
     ap (λ m. turns m lists None (spell.cells_text (map spell.cell_text (c ∷ cs)) ++ r)) (first_turns (spent c) (each (map spent cs)) f)
     ∙ ap (turns (suc (spent c + (suc (each (map spent cs)) + f))) lists None) t
     ∙ after_open (spent c + (suc (each (map spent cs)) + f)) lists (spell.cell_text c ++ after) (unclosed c ok.0 after)
@@ -291,7 +289,7 @@ short_list [] all = omega arith
 short_list (c ∷ cs) all =
     let more : List ℕ = flat_map (spell.more spell.cell_text) cs in
     let l : length (spell.cells_text (map spell.cell_text (c ∷ cs))) ≡ length (codes "{ " ++ ((spell.cell_text c ++ more) ++ codes " }")) =
-        ap (λ m. length (codes "{ " ++ (spell.cell_text c ++ m) ++ codes " }")) (same_list cs) in
+    ap (λ m. length (codes "{ " ++ (spell.cell_text c ++ m) ++ codes " }")) (same_list cs) in
     let l2 : length ((spell.cell_text c ++ more) ++ codes " }") ≡ length (spell.cell_text c ++ more) + length (codes " }") = length-append (spell.cell_text c ++ more) (codes " }") in
     let l3 : length (spell.cell_text c ++ more) ≡ length (spell.cell_text c) + length more = length-append (spell.cell_text c) more in
     let rest : each (map spent cs) ≤ length more = short_rest cs all.1 in

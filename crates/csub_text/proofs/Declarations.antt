@@ -1,20 +1,16 @@
 -- Declarations are read as they are spelled.
-use Rattle.std.proofs.Common.{◌≡◌, ℕ, zero, suc, ◌+◌, ◌^◌, ◌<◌, ◌≤◌, ◌==◌, ◌&&◌, Bool, true, false, cond, List, [], ◌∷◌, ◌++◌, Option, Some, None, refl, ap, ◌∙◌, arith, sym, append_assoc, length, length-append, codes}
+use Rattle.std.proofs.Common.{◌≡◌, ℕ, zero, suc, ◌+◌, ◌^◌, ◌<◌, ◌≤◌, Bool, true, false, List, [], ◌∷◌, ◌++◌, Option, Some, None, refl, ap, ◌∙◌, arith, append_assoc, length, length-append, codes}
 use Rattle.std.specs.Fmt.{decimal}
-use Rattle.std.proofs.lemmas.Grind.{common_steps}
-use Rattle.csub_tree.specs.declared.tree.CFile.{CFile}
-use Rattle.csub_tree.specs.declared.tree.CStruct.{CStruct}
 use Rattle.csub_tree.specs.declared.tree.CType.{CType}
 use Rattle.csub_tree.specs.declared.tree.CType.TheVariants as type
-use Rattle.csub_tree.specs.declared.tree.CPrototype.{CPrototype}
 use Rattle.csub_tree.specs.Spelling as spell
-use Rattle.csub_text.specs.Written.{All, IsNumberIfAny, IsType, IsTypeIfAny, IsWord, IsConstant, IsOperand, IsOperandIfAny, IsStatement, IsClosed, IsBlock, IsSomeBlocks, IsStruct, IsFunction}
-use Rattle.csub_text.specs.Read.{Got, and_then, after, stripped, begins, literal, name, ended, mapped, before_name, result_before_name}
+use Rattle.csub_text.specs.Written.{All, IsNumberIfAny, IsType, IsTypeIfAny}
+use Rattle.csub_text.specs.Read.{Got, begins}
 use Rattle.csub_text.specs.ReadFile as of
 use Rattle.csub_text.specs.ReadFile.{parts_while, some_while, base_line, field_line, field_lines, items_line, struct_text, parameter, more_parameter, parameters, head, prototype}
 use Rattle.csub_text.proofs.Numbers.{ends, stripped_own, number_own}
 use Rattle.csub_text.proofs.Names.{before_name_own, result_before_name_own}
-use Rattle.csub_text.proofs.Statements.{two, three, four, five, six, seven}
+use Rattle.csub_text.proofs.Statements.{two, three}
 
 -- an inner line with a type and a numbered name
 seven_of : (i t a n e l r : List ℕ) → (i ++ (t ++ (a ++ n) ++ e) ++ l) ++ r ≡ i ++ (t ++ (a ++ (n ++ (e ++ (l ++ r)))))
@@ -176,8 +172,12 @@ pub struct_own : (n : ℕ) (base : Option ℕ) (ts : List CType) (items : Option
 unfolding struct_text
 struct_own n base ts items r ok all ok_i =
     ap (struct_text n) (struct_pieces (codes "struct s") (decimal n) (codes " {") (codes "\n") (spell.base_line base) (spell.numbered spell.field_line (spell.first_field base) ts) (spell.items_line items) (codes "};\n") r)
-    ∙ rw (stripped_own (decimal n) (codes " {\n" ++ (spell.base_line base ++ (spell.numbered spell.field_line (spell.first_field base) ts ++ tail items r))),
-    base_own base ts items r ok all ok_i, fields_own (spell.first_field base) ts items r all ok_i, items_own items r ok_i) refl
+    ∙ rw (
+      stripped_own (decimal n) (codes " {\n" ++ (spell.base_line base ++ (spell.numbered spell.field_line (spell.first_field base) ts ++ tail items r))),
+      base_own base ts items r ok all ok_i,
+      fields_own (spell.first_field base) ts items r all ok_i,
+      items_own items r ok_i,
+    ) refl
 
 -- ---- heads of functions
 
@@ -212,8 +212,11 @@ parameters_own [] r all = refl
 parameters_own (t ∷ ts) r all =
     let rest : List ℕ = spell.numbered spell.more_parameter 1 ts ++ (codes ")" ++ r) in
     ap parameters (two (spell.parameter 0 t) (spell.numbered spell.more_parameter 1 ts) (codes ")" ++ r))
-    ∙ rw (ap (begins (codes "void")) (three_of (spell.before_name t) (codes "v") (decimal 0) rest) ∙ no_void t (codes "v" ++ (decimal 0 ++ rest)),
-    parameter_own 0 t rest all.0, all_own (begins (codes ", ")) spell.more_parameter more_parameter IsType more_parameters 1 ts (codes ")" ++ r) all.1 refl refl) refl
+    ∙ rw (
+      ap (begins (codes "void")) (three_of (spell.before_name t) (codes "v") (decimal 0) rest) ∙ no_void t (codes "v" ++ (decimal 0 ++ rest)),
+      parameter_own 0 t rest all.0,
+      all_own (begins (codes ", ")) spell.more_parameter more_parameter IsType more_parameters 1 ts (codes ")" ++ r) all.1 refl refl,
+    ) refl
 
 head_pieces : (s t f n o p c r : List ℕ) → (s ++ t ++ (f ++ n) ++ o ++ p ++ c) ++ r ≡ s ++ (t ++ (f ++ (n ++ (o ++ (p ++ (c ++ r))))))
 head_pieces s t f n o p c r = simp append_assoc
@@ -223,8 +226,11 @@ pub head_own : (n : ℕ) (result : Option CType) (params : List CType) (r : List
 unfolding head
 head_own n result params r ok all =
     ap (head n) (head_pieces (codes "static ") (spell.result_before_name result) (codes "f") (decimal n) (codes "(") (spell.parameters params) (codes ")") r)
-    ∙ rw (result_before_name_own result (codes "f" ++ (decimal n ++ (codes "(" ++ (spell.parameters params ++ (codes ")" ++ r))))) ok,
-    stripped_own (decimal n) (codes "(" ++ (spell.parameters params ++ (codes ")" ++ r))), parameters_own params r all) refl
+    ∙ rw (
+      result_before_name_own result (codes "f" ++ (decimal n ++ (codes "(" ++ (spell.parameters params ++ (codes ")" ++ r))))) ok,
+      stripped_own (decimal n) (codes "(" ++ (spell.parameters params ++ (codes ")" ++ r))),
+      parameters_own params r all,
+    ) refl
 
 pub prototype_own : (n : ℕ) (result : Option CType) (params : List CType) (r : List ℕ) → IsTypeIfAny result → All IsType params
     → prototype n (spell.prototype_text n (record { result = result; params = params }) ++ r) ≡ Some (record { result = result; params = params }, r)

@@ -1,6 +1,5 @@
 -- Files are read as they are spelled, so that no two files have one spelling.
-use Rattle.std.proofs.Common.{◌≡◌, ℕ, zero, suc, ◌+◌, ◌^◌, ◌<◌, ◌≤◌, ◌==◌, ◌&&◌, not, Bool, true, false, cond, List, [], ◌∷◌, ◌++◌, Option, Some, None, refl, ap, ◌∙◌, arith, sym, append_assoc, length, length-append, codes, map}
-use Rattle.std.specs.List.{flat_map}
+use Rattle.std.proofs.Common.{◌≡◌, ℕ, suc, ◌+◌, ◌^◌, ◌≤◌, true, false, List, [], ◌∷◌, ◌++◌, Option, Some, None, refl, ap, ◌∙◌, arith, sym, append_assoc, length, length-append, codes, map}
 use Rattle.std.specs.Fmt.{decimal}
 use Rattle.std.proofs.lemmas.List.{append-nil}
 use Rattle.csub_tree.specs.declared.tree.CFile.{CFile}
@@ -9,16 +8,15 @@ use Rattle.csub_tree.specs.declared.tree.CType.{CType}
 use Rattle.csub_tree.specs.declared.tree.CType.TheVariants as type
 use Rattle.csub_tree.specs.declared.tree.CPrototype.{CPrototype}
 use Rattle.csub_tree.specs.declared.tree.CStatic.{CStatic}
-use Rattle.csub_tree.specs.declared.tree.CCell.{CCell}
 use Rattle.csub_tree.specs.declared.tree.CFunction.{CFunction}
 use Rattle.csub_tree.specs.Spelling as spell
-use Rattle.csub_text.specs.Written.{All, IsNumberIfAny, IsType, IsTypeIfAny, IsStruct, IsPrototype, IsCell, IsStatic, IsFunction, IsWritten, IsSome}
+use Rattle.csub_text.specs.Written.{All, IsTypeIfAny, IsStruct, IsPrototype, IsStatic, IsFunction, IsWritten, IsSome}
 use Rattle.csub_text.specs.Text.{IsText, IsNoText}
-use Rattle.csub_text.specs.Read.{Got, and_then, after, stripped, begins, literal, name, ended, mapped}
+use Rattle.csub_text.specs.Read.{begins}
 use Rattle.csub_text.specs.ReadFile as of
 use Rattle.csub_text.specs.ReadFile.{parts_while, some_while, struct_text, prototype, cells, static_text, function, structs, prototypes, statics, functions, declarations, file, whole}
 use Rattle.csub_text.proofs.Numbers.{ends, stripped_own, number_own}
-use Rattle.csub_text.proofs.Statements.{two, three, four, five, six, seven}
+use Rattle.csub_text.proofs.Statements.{two}
 use Rattle.csub_text.proofs.Declarations.{Counted, all_own, struct_own, prototype_own, parts_fit}
 use Rattle.csub_text.proofs.Functions.{function_own, whole_own}
 use Rattle.csub_text.proofs.Cells.{cells_own}
@@ -82,8 +80,11 @@ static_own : (n : ℕ) (g : CStatic) (r : List ℕ) → IsStatic g → static_te
 unfolding static_text
 static_own n g r ok =
     ap (static_text n) (static_pieces (codes "static struct s") (decimal g.kind) (codes " g") (decimal n) (codes " = ") (spell.cells_text (map spell.cell_text g.cells)) (codes ";\n") r)
-    ∙ rw (number_own (2 ^ 64) g.kind (codes " g" ++ (decimal n ++ (codes " = " ++ (spell.cells_text (map spell.cell_text g.cells) ++ (codes ";\n" ++ r))))) ok.0 ok.0 refl,
-    stripped_own (decimal n) (codes " = " ++ (spell.cells_text (map spell.cell_text g.cells) ++ (codes ";\n" ++ r))), cells_own g.cells (codes ";\n" ++ r) ok.1 refl) refl
+    ∙ rw (
+      number_own (2 ^ 64) g.kind (codes " g" ++ (decimal n ++ (codes " = " ++ (spell.cells_text (map spell.cell_text g.cells) ++ (codes ";\n" ++ r))))) ok.0 ok.0 refl,
+      stripped_own (decimal n) (codes " = " ++ (spell.cells_text (map spell.cell_text g.cells) ++ (codes ";\n" ++ r))),
+      cells_own g.cells (codes ";\n" ++ r) ok.1 refl,
+    ) refl
 
 is_static : (n : ℕ) (g : CStatic) (r : List ℕ) → IsStatic g → of.sees_static (spell.static_text n g ++ r) ≡ true
 is_static n g r ok =
@@ -152,7 +153,7 @@ functions_own (f ∷ fs) all some =
     let e : last (f ∷ fs) ++ [] ≡ last (f ∷ fs) = append-nil (last (f ∷ fs)) in
     let more : length fs ≤ length (spell.numbered spell.function_text 1 fs ++ []) = omega (arith, parts_fit of.sees_more spell.function_text function IsFunction functions_counted 1 fs []) in
     let split : length (last (f ∷ fs) ++ []) ≡ length (spell.function_text 0 f) + length (spell.numbered spell.function_text 1 fs ++ []) =
-        ap length (two (spell.function_text 0 f) (spell.numbered spell.function_text 1 fs) []) ∙ length-append (spell.function_text 0 f) (spell.numbered spell.function_text 1 fs ++ []) in
+    ap length (two (spell.function_text 0 f) (spell.numbered spell.function_text 1 fs) []) ∙ length-append (spell.function_text 0 f) (spell.numbered spell.function_text 1 fs ++ []) in
     let few = starts_function 0 f in
     ap functions (sym e) ∙ whole_own of.sees_more spell.function_text function IsFunction functions_counted (length (last (f ∷ fs) ++ [])) f fs [] refl (omega arith) all refl refl
 
@@ -163,10 +164,12 @@ pub file_own : (c : CFile) → IsWritten c → file (spell.file_text c) ≡ Some
 unfolding file declarations structs prototypes statics
 file_own c ok =
     ap file (file_pieces (codes "/* C-sub 1 */\n") (codes "#include \"rpy_prim.h\"\n") (spell.numbered spell.struct_text 0 c.structs) (spell.numbered spell.prototype_text 0 c.prototypes) (spell.numbered spell.static_text 0 c.statics) (last c.functions))
-    ∙ rw (all_own (begins (codes "struct ")) spell.struct_text struct_text IsStruct structs_counted 0 c.structs (later c.prototypes c.statics c.functions) ok.0 (ends_later c.prototypes c.statics c.functions) (later_no_struct c.prototypes c.statics c.functions),
-    all_own of.sees_prototype spell.prototype_text prototype IsPrototype prototypes_counted 0 c.prototypes (late c.statics c.functions) ok.1 (ends_late c.statics c.functions) (late_no_prototype c.statics c.functions ok.2),
-    all_own (begins (codes "static ")) spell.static_text static_text IsStatic statics_counted 0 c.statics (last c.functions) ok.2 (ends_last c.functions) (last_no_static c.functions),
-    functions_own c.functions ok.3 ok.4) refl
+    ∙ rw (
+      all_own (begins (codes "struct ")) spell.struct_text struct_text IsStruct structs_counted 0 c.structs (later c.prototypes c.statics c.functions) ok.0 (ends_later c.prototypes c.statics c.functions) (later_no_struct c.prototypes c.statics c.functions),
+      all_own of.sees_prototype spell.prototype_text prototype IsPrototype prototypes_counted 0 c.prototypes (late c.statics c.functions) ok.1 (ends_late c.statics c.functions) (late_no_prototype c.statics c.functions ok.2),
+      all_own (begins (codes "static ")) spell.static_text static_text IsStatic statics_counted 0 c.statics (last c.functions) ok.2 (ends_last c.functions) (last_no_static c.functions),
+      functions_own c.functions ok.3 ok.4,
+    ) refl
 
 pub whole_file : (c : CFile) → IsWritten c → whole (spell.file_text c) ≡ Some c
 unfolding whole

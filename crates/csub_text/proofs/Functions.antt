@@ -1,19 +1,18 @@
 -- Functions are read as they are spelled.
-use Rattle.std.proofs.Common.{◌≡◌, ℕ, zero, suc, ◌+◌, ◌^◌, ◌<◌, ◌≤◌, ◌==◌, ◌&&◌, Bool, true, false, cond, List, [], ◌∷◌, ◌++◌, Option, Some, None, refl, ap, ◌∙◌, arith, sym, subst, append_assoc, length, length-append, codes, take}
+use Rattle.std.proofs.Common.{◌≡◌, ℕ, zero, suc, ◌+◌, ◌<◌, ◌≤◌, ◌&&◌, Bool, true, false, cond, List, [], ◌∷◌, ◌++◌, Option, Some, refl, ap, ◌∙◌, arith, sym, subst, append_assoc, length, length-append, codes, take}
 use Rattle.std.specs.List.{flat_map}
 use Rattle.std.specs.Fmt.{decimal}
 use Rattle.csub_tree.specs.declared.tree.CType.{CType}
-use Rattle.csub_tree.specs.declared.tree.CPrototype.{CPrototype}
 use Rattle.csub_tree.specs.declared.tree.CFunction.{CFunction}
 use Rattle.csub_tree.specs.declared.tree.CStmt.{CStmt}
-use Rattle.csub_tree.specs.Checked.{ends_block, is_name_byte, is_name}
+use Rattle.csub_tree.specs.Checked.{is_name_byte, is_name}
 use Rattle.csub_tree.specs.Spelling as spell
-use Rattle.csub_text.specs.Written.{All, IsNumberIfAny, IsType, IsTypeIfAny, IsWord, IsConstant, IsOperand, IsOperandIfAny, IsStatement, IsClosed, IsBlock, IsSomeBlocks, IsStruct, IsFunction}
-use Rattle.csub_text.specs.Read.{Got, and_then, after, stripped, begins, literal, name, ended, mapped}
+use Rattle.csub_text.specs.Written.{All, IsType, IsTypeIfAny, IsStatement, IsClosed, IsBlock, IsSomeBlocks, IsFunction}
+use Rattle.csub_text.specs.Read.{Got, begins}
 use Rattle.csub_text.specs.ReadFile as of
 use Rattle.csub_text.specs.ReadFile.{parts_while, some_while, parameter, head, statements, name_len, function_name, name_line, heading, local_line, local_lines, block, blocks, insides, function}
 use Rattle.csub_text.proofs.Numbers.{ends, stripped_own}
-use Rattle.csub_text.proofs.Statements.{statement_own, two, three, four, five, six}
+use Rattle.csub_text.proofs.Statements.{statement_own, two, three}
 use Rattle.csub_text.proofs.Declarations.{Counted, all_own, some_own, longer, parameter_own, head_own, parts_fit, ends_parts}
 
 -- ---- blocks
@@ -47,8 +46,10 @@ block_own : (k : ℕ) (ss : List CStmt) (r : List ℕ) → IsBlock ss → block 
 unfolding block
 block_own k ss r ok =
     ap (block k) (block_pieces (codes "b") (decimal k) (codes ":") (codes "\n") (flat_map spell.statement_line ss) r)
-    ∙ rw (stripped_own (decimal k) (codes ":\n" ++ (flat_map spell.statement_line ss ++ r)),
-    statements_own (length (flat_map spell.statement_line ss ++ r)) ss r (statements_fit ss r) ok.0 ok.1) refl
+    ∙ rw (
+      stripped_own (decimal k) (codes ":\n" ++ (flat_map spell.statement_line ss ++ r)),
+      statements_own (length (flat_map spell.statement_line ss ++ r)) ss r (statements_fit ss r) ok.0 ok.1,
+    ) refl
 
 longer_block : (k : ℕ) (ss : List CStmt) (r : List ℕ) → suc (length r) ≤ length (spell.block_text k ss ++ r)
 longer_block k ss r =
@@ -155,5 +156,8 @@ pub function_own : (n : ℕ) (f : CFunction) (r : List ℕ) → IsFunction f →
 unfolding function insides
 function_own n f r ok =
     ap (function n) (function_pieces (spell.function_start n f) (spell.numbered spell.local_line (length f.params) f.locals) (spell.numbered spell.block_text 0 f.blocks) (codes "}\n") r)
-    ∙ rw (heading_own n f.name f.result f.params (spell.numbered spell.local_line (length f.params) f.locals ++ (spell.numbered spell.block_text 0 f.blocks ++ (codes "}\n" ++ r))) ok.0 ok.1 ok.2,
-    locals_own (length f.params) f.locals f.blocks r ok.3, blocks_own f.blocks r ok.4) refl
+    ∙ rw (
+      heading_own n f.name f.result f.params (spell.numbered spell.local_line (length f.params) f.locals ++ (spell.numbered spell.block_text 0 f.blocks ++ (codes "}\n" ++ r))) ok.0 ok.1 ok.2,
+      locals_own (length f.params) f.locals f.blocks r ok.3,
+      blocks_own f.blocks r ok.4,
+    ) refl

@@ -1,5 +1,5 @@
 -- Types, constants and operands are read as they are spelled.
-use Rattle.std.proofs.Common.{◌≡◌, ℕ, ℤ, pos, negsuc, suc, ◌+◌, ◌^◌, ◌<◌, ◌≤◌, ◌==◌, Bool, true, false, cond, List, [], ◌∷◌, ◌++◌, Option, Some, None, refl, ap, ◌∙◌, arith, sym, append_assoc, length, codes}
+use Rattle.std.proofs.Common.{◌≡◌, ℕ, pos, negsuc, suc, ◌^◌, ◌<◌, ◌≤◌, ◌==◌, Bool, true, false, cond, List, ◌∷◌, ◌++◌, Option, Some, None, refl, ap, ◌∙◌, arith, append_assoc, codes}
 use Rattle.std.specs.Fmt.{decimal, signed_decimal}
 use Rattle.std.proofs.lemmas.Grind.{common_steps}
 use Rattle.csub_tree.specs.declared.tree.CType.{CType}
@@ -9,9 +9,9 @@ use Rattle.csub_tree.specs.declared.tree.CConst.TheVariants as const
 use Rattle.csub_tree.specs.declared.tree.COperand.{COperand}
 use Rattle.csub_tree.specs.declared.tree.COperand.TheVariants as oper
 use Rattle.csub_tree.specs.Spelling as spell
-use Rattle.csub_text.specs.Written.{All, IsNumberIfAny, IsType, IsTypeIfAny, IsWord, IsConstant, IsOperand, IsOperandIfAny, IsStatement, IsClosed, IsBlock, IsSomeBlocks, IsStruct, IsFunction}
-use Rattle.csub_text.specs.Read.{stripped, begins, literal, number_below, after, name, pointer, before_name, type_alone, result_before_name, result_alone, cast_constant, constant, operand, decimal_word, word_value, small, lead, mapped, cast}
-use Rattle.csub_text.proofs.Numbers.{ends, stripped_own, number_own, name_own, lead_of, below_is, Digit, digit_first, is_other}
+use Rattle.csub_text.specs.Written.{IsType, IsTypeIfAny, IsConstant, IsOperand}
+use Rattle.csub_text.specs.Read.{pointer, before_name, type_alone, result_before_name, result_alone, cast_constant, constant, operand, decimal_word, word_value, small, lead, mapped, cast}
+use Rattle.csub_text.proofs.Numbers.{ends, stripped_own, number_own, lead_of, below_is, Digit, digit_first, is_other}
 
 pub pointer_own : (n : ℕ) (r : List ℕ) → n < 2 ^ 64 → pointer (codes "struct s" ++ (decimal n ++ (codes " *" ++ r))) ≡ Some (type.Ptr n, r)
 unfolding pointer

@@ -1,11 +1,10 @@
 -- Statements are read as they are spelled.
-use Rattle.std.proofs.Common.{◌≡◌, ℕ, ℤ, pos, negsuc, zero, suc, ◌+◌, ◌^◌, ◌<◌, ◌≤◌, ◌==◌, ◌&&◌, nat_le, Bool, true, false, cond, List, [], ◌∷◌, ◌++◌, Option, Some, None, refl, ap, ◌∙◌, arith, sym, append_assoc, length, length-append, codes}
+use Rattle.std.proofs.Common.{◌≡◌, ℕ, pos, negsuc, zero, suc, ◌+◌, ◌^◌, ◌<◌, ◌≤◌, ◌==◌, ◌&&◌, nat_le, Bool, true, false, cond, List, [], ◌∷◌, ◌++◌, Option, Some, None, refl, ap, ◌∙◌, arith, append_assoc, length, length-append, codes}
 use Rattle.std.specs.List.{flat_map}
 use Rattle.std.specs.Fmt.{decimal, signed_decimal}
 use Rattle.std.proofs.lemmas.Grind.{common_steps}
 use Rattle.csub_tree.specs.declared.tree.CType.{CType}
 use Rattle.csub_tree.specs.declared.tree.CType.TheVariants as type
-use Rattle.csub_tree.specs.declared.tree.CConst.{CConst}
 use Rattle.csub_tree.specs.declared.tree.CConst.TheVariants as const
 use Rattle.csub_tree.specs.declared.tree.COperand.{COperand}
 use Rattle.csub_tree.specs.declared.tree.COperand.TheVariants as oper
@@ -16,12 +15,12 @@ use Rattle.csub_tree.specs.declared.tree.CBinary.TheVariants as binary_op
 use Rattle.csub_tree.specs.declared.tree.CStmt.{CStmt}
 use Rattle.csub_tree.specs.declared.tree.CStmt.TheVariants as stmt
 use Rattle.csub_tree.specs.Spelling as spell
-use Rattle.csub_text.specs.Written.{All, IsNumberIfAny, IsType, IsTypeIfAny, IsWord, IsConstant, IsOperand, IsOperandIfAny, IsStatement, IsClosed, IsBlock, IsSomeBlocks, IsStruct, IsFunction}
+use Rattle.csub_text.specs.Written.{All, IsType, IsTypeIfAny, IsOperand, IsStatement}
 use Rattle.csub_text.specs.Read as read
 use Rattle.csub_text.specs.Read.{Got, and_then, after, stripped, begins, literal, name, number_below, ended, mapped, operand, type_alone, result_alone}
 use Rattle.csub_text.specs.ReadStatement as of
 use Rattle.csub_text.specs.ReadStatement.{rest_of, list_of, operands, types, arguments, set, unary, binary, looked_into, index, get, set_field, set_item, put_in, new_block, new_array, set_static, after_cast, cast_of, call, callee, call_fn, arg_len, arg, argument_or_set, next_unary, next_binary, operation, after_target, assignment, exc_set, fail, primitive, jump_if, jump, bracketed, statement}
-use Rattle.csub_text.proofs.Numbers.{ends, stripped_own, number_own, name_own, Digit, digit_first, is_other, below_is}
+use Rattle.csub_text.proofs.Numbers.{ends, stripped_own, number_own, name_own, Digit, digit_first, is_other}
 use Rattle.csub_text.proofs.Names.{operand_own, cast_own, type_alone_own, result_alone_own}
 
 pub two : (a b r : List ℕ) → (a ++ b) ++ r ≡ a ++ (b ++ r)
@@ -67,7 +66,7 @@ index_own x r ok =
 
 -- what an operand begins with
 no_bracket_digit : (ds s r : List ℕ) → Digit ds → begins (codes ")") ((ds ++ s) ++ r) ≡ false
-no_bracket_digit ds s r h = 
+no_bracket_digit ds s r h =
     let t : (ds ++ s) ++ r ≡ h.first ∷ ((h.rest ++ s) ++ r) = ap (λ t. (t ++ s) ++ r) h.is in
     rw (t, is_other h.first 41 h.low h.high refl) refl
 
@@ -121,8 +120,10 @@ fits text (x ∷ xs) r =
 pub list_own : {A : Type 0} (text : A → List ℕ) (read : List ℕ → Got A) (ok : A → Type 0) → Reads text read ok → (x : A) (xs : List A) (r : List ℕ) → ok x → All ok xs
     → ends r ≡ true → begins (codes ", ") r ≡ false → list_of read (text x ++ (flat_map (spell.more text) xs ++ r)) ≡ Some (x ∷ xs, r)
 list_own text read ok h x xs r one all e apart =
-    rw (h.one x (flat_map (spell.more text) xs ++ r) one (ends_more text xs r e),
-    rest_own text read ok h (length (flat_map (spell.more text) xs ++ r)) xs r (fits text xs r) all e apart) refl
+    rw (
+      h.one x (flat_map (spell.more text) xs ++ r) one (ends_more text xs r e),
+      rest_own text read ok h (length (flat_map (spell.more text) xs ++ r)) xs r (fits text xs r) all e apart,
+    ) refl
 
 reads_operand : Reads spell.operand_text operand IsOperand
 reads_operand = record { one = operand_own }
@@ -252,8 +253,11 @@ binary_own : (a : ℕ) (op : CBinary) (x y : COperand) (r : List ℕ) → IsOper
     → binary a op (spell.binary_name op ++ (codes "(" ++ (spell.operand_text x ++ (codes ", " ++ (spell.operand_text y ++ (codes ");" ++ r)))))) ≡ Some (stmt.Binary a op x y, r)
 unfolding binary
 binary_own a op x y r ok_x ok_y =
-    rw (stripped_own (spell.binary_name op) (codes "(" ++ (spell.operand_text x ++ (codes ", " ++ (spell.operand_text y ++ (codes ");" ++ r))))),
-    operand_own x (codes ", " ++ (spell.operand_text y ++ (codes ");" ++ r))) ok_x refl, operand_own y (codes ");" ++ r) ok_y refl) refl
+    rw (
+      stripped_own (spell.binary_name op) (codes "(" ++ (spell.operand_text x ++ (codes ", " ++ (spell.operand_text y ++ (codes ");" ++ r))))),
+      operand_own x (codes ", " ++ (spell.operand_text y ++ (codes ");" ++ r))) ok_x refl,
+      operand_own y (codes ");" ++ r) ok_y refl,
+    ) refl
 
 after_unary : (a : ℕ) (op : CUnary) (x : COperand) (r : List ℕ) → IsOperand x → after_target a (spell.unary_name op ++ (codes "(" ++ (spell.operand_text x ++ (codes ");" ++ r)))) ≡ Some (stmt.Unary a op x, r)
 unfolding operation
@@ -299,15 +303,21 @@ put_field : (s b k : ℕ) (x : COperand) (r : List ℕ) → s < 2 ^ 64 → b < 2
     → put_in (spell.looked_into s b ++ (spell.field_name k ++ (codes " = " ++ (spell.operand_text x ++ (codes ";" ++ r))))) ≡ Some (stmt.SetField s b k x, r)
 unfolding put_in set_field
 put_field s b k x r ok_s ok_b ok_k ok =
-    rw (looked_into_own s b (spell.field_name k ++ (codes " = " ++ (spell.operand_text x ++ (codes ";" ++ r)))) ok_s ok_b,
-    number_own (2 ^ 64) k (codes " = " ++ (spell.operand_text x ++ (codes ";" ++ r))) ok_k ok_k refl, operand_own x (codes ";" ++ r) ok refl) refl
+    rw (
+      looked_into_own s b (spell.field_name k ++ (codes " = " ++ (spell.operand_text x ++ (codes ";" ++ r)))) ok_s ok_b,
+      number_own (2 ^ 64) k (codes " = " ++ (spell.operand_text x ++ (codes ";" ++ r))) ok_k ok_k refl,
+      operand_own x (codes ";" ++ r) ok refl,
+    ) refl
 
 put_item : (s b : ℕ) (i x : COperand) (r : List ℕ) → s < 2 ^ 64 → b < 2 ^ 64 → IsOperand i → IsOperand x
     → put_in (spell.looked_into s b ++ ((codes "items[" ++ spell.operand_text i ++ codes "]") ++ (codes " = " ++ (spell.operand_text x ++ (codes ";" ++ r))))) ≡ Some (stmt.SetItem s b i x, r)
 unfolding put_in set_item
 put_item s b i x r ok_s ok_b ok_i ok =
-    rw (looked_into_own s b ((codes "items[" ++ spell.operand_text i ++ codes "]") ++ (codes " = " ++ (spell.operand_text x ++ (codes ";" ++ r)))) ok_s ok_b,
-    index_own i (codes " = " ++ (spell.operand_text x ++ (codes ";" ++ r))) ok_i, operand_own x (codes ";" ++ r) ok refl) refl
+    rw (
+      looked_into_own s b ((codes "items[" ++ spell.operand_text i ++ codes "]") ++ (codes " = " ++ (spell.operand_text x ++ (codes ";" ++ r)))) ok_s ok_b,
+      index_own i (codes " = " ++ (spell.operand_text x ++ (codes ";" ++ r))) ok_i,
+      operand_own x (codes ";" ++ r) ok refl,
+    ) refl
 
 cast_no_look : (m : ℕ) (i : List ℕ) → of.sees_looked_into (spell.cast m ++ i) ≡ false
 unfolding read.cast
@@ -386,8 +396,11 @@ callee_own : (result : Option CType) (ts : List CType) (v : ℕ) (r : List ℕ) 
 unfolding callee
 callee_own result ts v r ok all ok_v =
     ap callee (seven (codes "((") (spell.result_alone result) (codes " (*)(") (spell.listed_or_void spell.type_alone ts) (codes "))") (spell.variable_name v) (codes ")") r)
-    ∙ rw (result_alone_own result (codes " (*)(" ++ (spell.listed_or_void spell.type_alone ts ++ (codes "))" ++ (spell.variable_name v ++ (codes ")" ++ r))))) ok,
-    types_own ts (spell.variable_name v ++ (codes ")" ++ r)) all, number_own (2 ^ 64) v (codes ")" ++ r) ok_v ok_v refl) refl
+    ∙ rw (
+      result_alone_own result (codes " (*)(" ++ (spell.listed_or_void spell.type_alone ts ++ (codes "))" ++ (spell.variable_name v ++ (codes ")" ++ r))))) ok,
+      types_own ts (spell.variable_name v ++ (codes ")" ++ r)) all,
+      number_own (2 ^ 64) v (codes ")" ++ r) ok_v ok_v refl,
+    ) refl
 
 -- no block that is looked into: what is cast there is no pointer, or the cast goes on
 callee_no_look : (result : Option CType) (r : List ℕ) → IsTypeIfAny result → of.sees_looked_into (codes "((" ++ (spell.result_alone result ++ (codes " (*)(" ++ r))) ≡ false
@@ -496,7 +509,7 @@ statement_own (stmt.ExcSet a b) r ok =
     ∙ rw (number_own (2 ^ 64) a (codes ", " ++ (spell.variable_name b ++ (codes ");" ++ r))) ok.0 ok.0 refl, number_own (2 ^ 64) b (codes ");" ++ r) ok.1 ok.1 refl) refl
 statement_own stmt.ExcClear r ok = refl
 statement_own (stmt.Argc a) r ok = ap statement (two (spell.target a) (codes "RPY_ARGC();") r) ∙ to_target a (codes "RPY_ARGC();" ++ r) ok ∙ after_argc a r
-statement_own (stmt.ArgLen a x) r ok = 
+statement_own (stmt.ArgLen a x) r ok =
     ap statement (four (spell.target a) (codes "RPY_ARGLEN(") (spell.operand_text x) (codes ");") r) ∙ to_target a (codes "RPY_ARGLEN(" ++ (spell.operand_text x ++ (codes ");" ++ r))) ok.0 ∙ after_arg_len a x r ok.1
 statement_own (stmt.Arg a x y) r ok =
     ap statement (six (spell.target a) (codes "RPY_ARG(") (spell.operand_text x) (codes ", ") (spell.operand_text y) (codes ");") r)
@@ -505,8 +518,11 @@ statement_own (stmt.Put x) r ok = ap statement (three (codes "RPY_PUT(") (spell.
 statement_own (stmt.Goto b) r ok = ap statement (three (codes "goto ") (spell.block_name b) (codes ";") r) ∙ rw (number_own (2 ^ 64) b (codes ";" ++ r) ok ok refl) refl
 statement_own (stmt.If a b c) r ok =
     ap statement (seven (codes "if (") (spell.variable_name a) (codes ") goto ") (spell.block_name b) (codes "; else goto ") (spell.block_name c) (codes ";") r)
-    ∙ rw (number_own (2 ^ 64) a (codes ") goto " ++ (spell.block_name b ++ (codes "; else goto " ++ (spell.block_name c ++ (codes ";" ++ r))))) ok.0 ok.0 refl,
-    number_own (2 ^ 64) b (codes "; else goto " ++ (spell.block_name c ++ (codes ";" ++ r))) ok.1 ok.1 refl, number_own (2 ^ 64) c (codes ";" ++ r) ok.2 ok.2 refl) refl
+    ∙ rw (
+      number_own (2 ^ 64) a (codes ") goto " ++ (spell.block_name b ++ (codes "; else goto " ++ (spell.block_name c ++ (codes ";" ++ r))))) ok.0 ok.0 refl,
+      number_own (2 ^ 64) b (codes "; else goto " ++ (spell.block_name c ++ (codes ";" ++ r))) ok.1 ok.1 refl,
+      number_own (2 ^ 64) c (codes ";" ++ r) ok.2 ok.2 refl,
+    ) refl
 statement_own (stmt.Return None) r ok = refl
 statement_own (stmt.Return (Some x)) r ok = ap statement (three (codes "return ") (spell.operand_text x) (codes ";") r) ∙ rw (operand_own x (codes ";" ++ r) ok refl) refl
 statement_own (stmt.Fail n) r ok = ap statement (three (codes "RPY_FAIL(") (decimal n) (codes ");") r) ∙ fail_own n r ok.0 ok.1

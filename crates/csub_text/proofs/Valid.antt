@@ -1,20 +1,16 @@
 -- What is read can be written.
-use Rattle.std.proofs.Common.{◌≡◌, ℕ, ℤ, pos, negsuc, zero, suc, ◌+◌, ◌^◌, ◌<◌, ◌≤◌, ◌==◌, ◌&&◌, nat_lt, nat_le, Bool, true, false, cond, List, [], ◌∷◌, ◌++◌, Option, Some, None, refl, arith, sym, length, codes}
+use Rattle.std.proofs.Common.{◌≡◌, ℕ, ℤ, pos, negsuc, zero, suc, ◌^◌, ◌<◌, ◌≤◌, ◌&&◌, nat_lt, nat_le, Bool, true, false, cond, List, [], ◌∷◌, Option, Some, None, refl, arith, length, codes}
 use Rattle.std.specs.Fmt.{decimal}
 use Rattle.std.proofs.lemmas.Grind.{common_steps}
-use Rattle.csub_tree.specs.declared.tree.CType.{CType}
 use Rattle.csub_tree.specs.declared.tree.CType.TheVariants as type
-use Rattle.csub_tree.specs.declared.tree.CConst.{CConst}
 use Rattle.csub_tree.specs.declared.tree.CConst.TheVariants as const
-use Rattle.csub_tree.specs.declared.tree.COperand.{COperand}
 use Rattle.csub_tree.specs.declared.tree.COperand.TheVariants as oper
-use Rattle.csub_tree.specs.declared.tree.CStmt.{CStmt}
 use Rattle.csub_tree.specs.declared.tree.CStmt.TheVariants as stmt
 use Rattle.csub_tree.specs.declared.tree.CUnary.{CUnary}
 use Rattle.csub_tree.specs.declared.tree.CBinary.{CBinary}
 use Rattle.csub_tree.specs.Spelling as spell
-use Rattle.csub_text.specs.Written.{All, IsNumber, IsNumberIfAny, IsType, IsTypeIfAny, IsWord, IsConstant, IsOperand, IsOperandIfAny, IsStatement}
-use Rattle.csub_text.specs.Read.{Got, and_then, after, stripped, begins, literal, lead, number_below, expect_number, name, ended, mapped, pointer, before_name, type_alone, result_before_name, result_alone, cast, small, signed, minus, word_value, expect_word, decimal_word, cast_constant, constant, operand}
+use Rattle.csub_text.specs.Written.{All, IsNumberIfAny, IsType, IsTypeIfAny, IsWord, IsConstant, IsOperand, IsStatement}
+use Rattle.csub_text.specs.Read.{Got, and_then, after, stripped, begins, literal, lead, number_below, expect_number, name, ended, mapped, pointer, before_name, type_alone, result_before_name, result_alone, cast, signed, minus, word_value, expect_word, decimal_word, cast_constant, constant, operand}
 use Rattle.csub_text.specs.ReadStatement as of
 use Rattle.csub_text.specs.ReadStatement.{more_item, rest_of, list_of, operands, types, arguments, set, unary, binary, looked_into, index, get, set_field, set_item, put_in, new_block, new_array, set_static, after_cast, cast_of, call, Callee, callee, call_fn, arg_len, arg, argument_or_set, next_unary, next_binary, by_unary, by_binary, operation, after_target, assignment, around, exc_set, fail, primitive, jump_if, jump, bracketed, statement}
 

@@ -1,27 +1,21 @@
 -- Declarations that are read can be written.
-use Rattle.std.proofs.Common.{◌≡◌, ℕ, ℤ, pos, negsuc, nat_lt, subst, zero, suc, ◌+◌, ◌^◌, ◌<◌, ◌≤◌, ◌==◌, ◌&&◌, ◌||◌, Bool, true, false, cond, List, [], ◌∷◌, ◌++◌, Option, Some, None, refl, ap, ◌∙◌, arith, sym, length, codes, take, map}
+use Rattle.std.proofs.Common.{◌≡◌, ℕ, pos, negsuc, nat_lt, subst, zero, suc, ◌+◌, ◌^◌, ◌<◌, ◌||◌, Bool, true, false, cond, List, [], ◌∷◌, ◌++◌, Option, Some, None, refl, ap, ◌∙◌, arith, sym, length, codes, take, map}
 use Rattle.std.specs.Fmt.{decimal}
 use Rattle.std.proofs.lemmas.Grind.{common_steps}
 use Rattle.csub_tree.specs.declared.tree.CFile.{CFile}
-use Rattle.csub_tree.specs.declared.tree.CStruct.{CStruct}
-use Rattle.csub_tree.specs.declared.tree.CType.{CType}
 use Rattle.csub_tree.specs.declared.tree.CConst.{CConst}
 use Rattle.csub_tree.specs.declared.tree.CConst.TheVariants as const
-use Rattle.csub_tree.specs.declared.tree.CCell.{CCell, fold-CCell, roll-CCell, out-CCell}
+use Rattle.csub_tree.specs.declared.tree.CCell.{CCell, roll-CCell, out-CCell}
 use Rattle.csub_tree.specs.declared.tree.CCell.TheOpen.{CCell-F}
 use Rattle.csub_tree.specs.declared.tree.CCell.TheFolds.{fold-roll-CCell}
 use Rattle.csub_tree.specs.declared.tree.CCell.TheVariants as cell
 use Rattle.csub_tree.specs.declared.tree.CCell.TheVariants.{rolls-Const, rolls-Braces}
 use Rattle.csub_tree.specs.declared.tree.CCell.TheViews.{roll-out-CCell}
-use Rattle.csub_tree.specs.declared.tree.CPrototype.{CPrototype}
-use Rattle.csub_tree.specs.declared.tree.CStatic.{CStatic}
-use Rattle.csub_tree.specs.declared.tree.CFunction.{CFunction}
 use Rattle.csub_tree.specs.declared.tree.CStmt.{CStmt}
 use Rattle.csub_tree.specs.Checked.{ends_block, is_name_byte, is_name}
 use Rattle.csub_tree.specs.Spelling.{first_field}
 use Rattle.csub_text.specs.Written.{All, IsNumberIfAny, IsType, IsTypeIfAny, IsConstant, IsStatement, IsClosed, IsBlock, IsSomeBlocks, IsStruct, IsFunction, IsCell, cell_fits, cell_step, constant_fits, all_true, IsStatic, IsPrototype, IsSome, IsWritten}
-use Rattle.csub_text.specs.Read.{Got, and_then, after, stripped, begins, literal, name, ended, mapped, before_name, result_before_name, constant}
-use Rattle.csub_text.specs.ReadStatement.{statement}
+use Rattle.csub_text.specs.Read.{Got, stripped, begins, mapped}
 use Rattle.csub_text.specs.ReadFile as of
 use Rattle.csub_text.specs.ReadFile.{parts_while, some_while, base_line, field_line, field_lines, items_line, struct_text, parameter, more_parameter, parameters, head, prototype, statements, name_len, function_name, name_line, Heading, heading, local_line, local_lines, block, blocks, insides, function, Open, begin, follow, last_of, turns, whole_list, cells, static_text, structs, prototypes, statics, functions, declarations, file, whole}
 use Rattle.csub_text.proofs.Cells.{braces_fit}

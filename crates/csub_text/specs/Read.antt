@@ -1,19 +1,13 @@
 -- How the parts of a line are read, from the front of bytes: the part and what is left, or nothing.
-use Rattle.std.specs.Prelude.{ℕ, ℤ, zero, suc, pos, negsuc, ◌+◌, ◌*◌, ◌-◌, ◌^◌, ◌++◌, ◌==◌, ◌&&◌, ◌||◌, nat_lt, nat_le, Bool, true, false, cond, List, [], ◌∷◌, Option, Some, None, is_some, codes, length}
-use Rattle.std.specs.Fmt.{decimal, signed_decimal}
+use Rattle.std.specs.Prelude.{ℕ, ℤ, zero, suc, pos, negsuc, ◌+◌, ◌*◌, ◌-◌, ◌^◌, ◌==◌, ◌&&◌, nat_lt, nat_le, Bool, true, false, cond, List, [], ◌∷◌, Option, Some, None, is_some, codes}
+use Rattle.std.specs.Fmt.{decimal}
 use Rattle.csub_tree.specs.declared.tree.CType.{CType}
 use Rattle.csub_tree.specs.declared.tree.CType.TheVariants as type
 use Rattle.csub_tree.specs.declared.tree.CConst.{CConst}
 use Rattle.csub_tree.specs.declared.tree.CConst.TheVariants as const
 use Rattle.csub_tree.specs.declared.tree.COperand.{COperand}
 use Rattle.csub_tree.specs.declared.tree.COperand.TheVariants as oper
-use Rattle.csub_tree.specs.declared.tree.CUnary.{CUnary}
-use Rattle.csub_tree.specs.declared.tree.CUnary.TheVariants as unary
-use Rattle.csub_tree.specs.declared.tree.CBinary.{CBinary}
-use Rattle.csub_tree.specs.declared.tree.CBinary.TheVariants as binary
-use Rattle.csub_tree.specs.declared.tree.CStmt.{CStmt}
-use Rattle.csub_tree.specs.declared.tree.CStmt.TheVariants as stmt
-use Rattle.csub_tree.specs.Spelling.{word, unary_name, binary_name}
+use Rattle.csub_tree.specs.Spelling.{word}
 
 -- a part and the bytes after it
 abbrev pub Got : Type 0 → Type 0

@@ -1,5 +1,5 @@
 -- How declarations are read, from the front of bytes.
-use Rattle.std.specs.Prelude.{ℕ, zero, suc, ◌+◌, ◌++◌, ◌&&◌, ◌||◌, not, Bool, true, false, cond, List, [], ◌∷◌, Option, Some, None, is_some, is_none, codes, length, take}
+use Rattle.std.specs.Prelude.{ℕ, zero, suc, ◌+◌, ◌++◌, ◌&&◌, ◌||◌, not, Bool, true, false, cond, List, [], ◌∷◌, Option, Some, None, is_some, codes, length, take}
 use Rattle.std.specs.Fmt.{decimal}
 use Rattle.csub_tree.specs.declared.tree.CFile.{CFile}
 use Rattle.csub_tree.specs.declared.tree.CStruct.{CStruct}
@@ -14,7 +14,7 @@ use Rattle.csub_tree.specs.declared.tree.CStmt.{CStmt}
 use Rattle.csub_tree.specs.Checked.{ends_block, is_name_byte}
 use Rattle.csub_tree.specs.Spelling.{first_field}
 use Rattle.csub_text.specs.Read.{Got, and_then, after, stripped, begins, literal, name, ended, mapped, before_name, result_before_name, constant}
-use Rattle.csub_text.specs.ReadStatement.{list_of, statement}
+use Rattle.csub_text.specs.ReadStatement.{statement}
 
 -- a name with this number
 abbrev pub numbered_name : {B : Type 0} → List ℕ → ℕ → List ℕ → (List ℕ → Got B) → Got B

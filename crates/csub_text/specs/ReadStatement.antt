@@ -1,5 +1,5 @@
 -- How a statement is read, from the front of bytes.
-use Rattle.std.specs.Prelude.{ℕ, zero, suc, ◌++◌, ◌&&◌, nat_lt, nat_le, Bool, true, false, cond, List, [], ◌∷◌, Option, Some, None, is_some, codes, length}
+use Rattle.std.specs.Prelude.{ℕ, zero, suc, ◌&&◌, nat_le, Bool, cond, List, [], ◌∷◌, Option, Some, None, is_some, codes, length}
 use Rattle.csub_tree.specs.declared.tree.CType.{CType}
 use Rattle.csub_tree.specs.declared.tree.CConst.TheVariants as const
 use Rattle.csub_tree.specs.declared.tree.COperand.{COperand}

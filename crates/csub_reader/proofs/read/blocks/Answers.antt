@@ -1,4 +1,4 @@
-use Rattle.std.proofs.Common.{◌≡◌, ◌∙◌, ◌+◌, ◌-◌, length, rules, arith, codes, true}
+use Rattle.std.proofs.Common.{◌∙◌, ◌+◌, ◌-◌, length, rules, arith, codes, true}
 use Rattle.csub_tree.specs.Spelling.{block_text}
 use Rattle.csub_text.specs.Read.{begins}
 use Rattle.csub_text.specs.ReadFile as pure

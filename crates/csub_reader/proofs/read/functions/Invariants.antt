@@ -1,6 +1,5 @@
 use Rattle.std.proofs.Common.{◌≡◌, ◌+◌, ◌-◌, ◌++◌, length, true}
 use Rattle.csub_tree.specs.Spelling.{numbered, function_text}
-use Rattle.csub_text.specs.Read.{begins}
 use Rattle.csub_text.specs.ReadFile as pure
 use Rattle.csub_reader.specs.Parts.{extended, none_yet}
 use Rattle.csub_reader.proofs.read.functions.Given as goal

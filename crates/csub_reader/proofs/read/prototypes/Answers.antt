@@ -1,8 +1,6 @@
-use Rattle.std.proofs.Common.{◌≡◌, ◌+◌, length, rules, arith}
+use Rattle.std.proofs.Common.{◌+◌, length, rules, arith}
 use Rattle.csub_tree.specs.Spelling.{prototype_text}
-use Rattle.csub_text.specs.Read.{begins}
 use Rattle.csub_text.specs.ReadFile as pure
-use Rattle.csub_reader.specs.Parts.{extended, none_yet}
 use Rattle.csub_reader.proofs.Longer.{numbered_next}
 use Rattle.csub_reader.proofs.Loops.{counted_more, while_next}
 use Rattle.csub_reader.proofs.read.prototypes.Goals as goal

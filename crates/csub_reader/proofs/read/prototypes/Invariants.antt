@@ -1,8 +1,7 @@
 use Rattle.std.proofs.Common.{◌≡◌, ◌+◌, ◌-◌, ◌++◌, length}
 use Rattle.csub_tree.specs.Spelling.{numbered, prototype_text}
-use Rattle.csub_text.specs.Read.{begins}
 use Rattle.csub_text.specs.ReadFile as pure
-use Rattle.csub_reader.specs.Parts.{extended, none_yet}
+use Rattle.csub_reader.specs.Parts.{extended}
 use Rattle.csub_reader.proofs.read.prototypes.Given as goal
 
 abbrev pub invariant-loop-turn : goal.invariant-loop-turn

@@ -1,8 +1,7 @@
-use Rattle.std.proofs.Common.{◌≡◌, ◌+◌, length, rules, arith, codes}
+use Rattle.std.proofs.Common.{◌+◌, length, rules, arith, codes}
 use Rattle.csub_tree.specs.Spelling.{static_text}
 use Rattle.csub_text.specs.Read.{begins}
 use Rattle.csub_text.specs.ReadFile as pure
-use Rattle.csub_reader.specs.Parts.{extended, none_yet}
 use Rattle.csub_reader.proofs.Longer.{numbered_next}
 use Rattle.csub_reader.proofs.Loops.{counted_more, while_next}
 use Rattle.csub_reader.proofs.read.statics.Goals as goal

@@ -1,4 +1,4 @@
-use Rattle.std.proofs.Common.{◌≡◌, ◌∙◌, length, rules}
+use Rattle.std.proofs.Common.{◌∙◌, length, rules}
 use Rattle.csub_tree.specs.Spelling.{statement_line}
 use Rattle.csub_text.specs.ReadFile as pure
 use Rattle.csub_reader.proofs.Longer.{flat_map_next}
