@@ -1,3 +1,7 @@
+pub mod Strip
+pub mod Digits
 pub mod Longer
+pub mod Loops
 pub mod Nested
 pub mod Pieces
+pub mod Turns

@@ -1,2 +1,7 @@
+pub mod Callee
+pub mod Functions
 pub mod OpenCells
 pub mod Refused
+pub mod Parts
+pub mod Reads
+pub mod Turns

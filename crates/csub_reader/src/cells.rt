@@ -1,7 +1,13 @@
 // The cells of a static, which may be nested without bound: a loop with the open lists beside it.
-ghost use Rattle.std.specs.Prelude.{◌≡◌, ◌++◌, OnOk, IfOk, codes, [], ◌∷◌, map};
+ghost use Rattle.std.specs.Prelude.{◌≡◌, ◌++◌, OnOk, IfOk, Some, None, codes, [], ◌∷◌, map};
 ghost use Rattle.csub_tree.specs.Spelling.{constant_text, cell_text, cells_text};
 ghost use Rattle.csub_reader.specs.OpenCells.{open_text, pending_text};
+ghost use Rattle.csub_tree.specs.declared.tree.CCell.TheVariants as variant;
+ghost use Rattle.csub_text.specs.Read as read;
+ghost use Rattle.csub_text.specs.Read.{literal, mapped};
+ghost use Rattle.csub_text.specs.ReadFile as pure;
+ghost use Rattle.csub_reader.specs.Reads.{Reads};
+ghost use Rattle.csub_reader.specs.Turns.{Turns, Takes};
 
 use crate::cursor::Cursor;
 use crate::fault::Stop;
@@ -15,14 +21,16 @@ use std::alloc::Global;
 const MOST_LEVELS: usize = 2_000;
 
 fn empty_braces(alloc: Global, bytes: &mut Cursor<'_>) -> Result<Option<CCell>, Stop>
-    ensures { IfOk result (λ cell. bytes.old ≡ pending_text cell ++ bytes.new) }
+    ensures spelled { IfOk result (λ cell. bytes.old ≡ pending_text cell ++ bytes.new) }
+    ensures reads { Reads (literal (codes "{ }") (Some (variant.Braces [])) bytes.old) result bytes.new }
 {
     bytes.expect(b"{ }")?;
     Ok(Some(CCell::Braces(Seq::new(alloc))))
 }
 
 fn constant_cell(bytes: &mut Cursor<'_>) -> Result<Option<CCell>, Stop>
-    ensures { IfOk result (λ cell. bytes.old ≡ pending_text cell ++ bytes.new) }
+    ensures spelled { IfOk result (λ cell. bytes.old ≡ pending_text cell ++ bytes.new) }
+    ensures reads { Reads (mapped (λ c. Some (variant.Const c)) (read.constant bytes.old)) result bytes.new }
 {
     Ok(Some(CCell::Const(constant(bytes)?)))
 }
@@ -33,7 +41,8 @@ fn open_list(
     bytes: &mut Cursor<'_>,
     lists: &mut Seq<Seq<CCell>>,
 ) -> Result<Option<CCell>, Stop>
-    ensures { IfOk result (λ cell. open_text lists.old ++ bytes.old ≡ open_text lists.new ++ (pending_text cell ++ bytes.new)) }
+    ensures spelled { IfOk result (λ cell. open_text lists.old ++ bytes.old ≡ open_text lists.new ++ (pending_text cell ++ bytes.new)) }
+    ensures reads { Turns (literal (codes "{ ") (lists.old ++ [] ∷ [], None) bytes.old) result lists.new bytes.new }
 {
     if lists.len() >= MOST_LEVELS {
         return Err(Stop::NoMem);
@@ -44,12 +53,14 @@ fn open_list(
 }
 
 // What comes where a cell may begin: a cell, or the start of a list of cells.
+#[tactic(auto, unfolding(csub_text::specs::ReadFile::begin))]
 fn begin(
     alloc: Global,
     bytes: &mut Cursor<'_>,
     lists: &mut Seq<Seq<CCell>>,
 ) -> Result<Option<CCell>, Stop>
-    ensures { IfOk result (λ cell. open_text lists.old ++ bytes.old ≡ open_text lists.new ++ (pending_text cell ++ bytes.new)) }
+    ensures spelled { IfOk result (λ cell. open_text lists.old ++ bytes.old ≡ open_text lists.new ++ (pending_text cell ++ bytes.new)) }
+    ensures reads { Turns (pure.begin lists.old bytes.old) result lists.new bytes.new }
 {
     if bytes.sees(b"{ }") {
         empty_braces(alloc, bytes)
@@ -61,7 +72,8 @@ fn begin(
 }
 
 fn braces(cells: Seq<CCell>) -> CCell
-    ensures { cell_text result ≡ cells_text (map cell_text cells) }
+    ensures spelled { cell_text result ≡ cells_text (map cell_text cells) }
+    ensures is { result ≡ variant.Braces cells }
 {
     CCell::Braces(cells)
 }
@@ -73,7 +85,8 @@ fn go_on(
     cells: Seq<CCell>,
     cell: CCell,
 ) -> Result<Option<CCell>, Stop>
-    ensures { IfOk result (λ next. open_text (lists.old ++ cells ∷ []) ++ (cell_text cell ++ bytes.old) ≡ open_text lists.new ++ (pending_text next ++ bytes.new)) }
+    ensures spelled { IfOk result (λ next. open_text (lists.old ++ cells ∷ []) ++ (cell_text cell ++ bytes.old) ≡ open_text lists.new ++ (pending_text next ++ bytes.new)) }
+    ensures reads { Turns (literal (codes ", ") (lists.old ++ (cells ++ cell ∷ []) ∷ [], None) bytes.old) result lists.new bytes.new }
 {
     let mut more = cells;
     more.push(cell)?;
@@ -89,7 +102,8 @@ fn end_list(
     cells: Seq<CCell>,
     cell: CCell,
 ) -> Result<CCell, Stop>
-    ensures { IfOk result (λ whole. open_text (lists.now ++ cells ∷ []) ++ (cell_text cell ++ bytes.old) ≡ open_text lists.now ++ (cell_text whole ++ bytes.new)) }
+    ensures spelled { IfOk result (λ whole. open_text (lists.now ++ cells ∷ []) ++ (cell_text cell ++ bytes.old) ≡ open_text lists.now ++ (cell_text whole ++ bytes.new)) }
+    ensures reads { Reads (literal (codes " }") (variant.Braces (cells ++ cell ∷ [])) bytes.old) result bytes.new }
 {
     let mut more = cells;
     more.push(cell)?;
@@ -98,13 +112,15 @@ fn end_list(
 }
 
 // What comes after a cell of this list: another cell of it, or its end.
+#[tactic(auto, unfolding(csub_text::specs::ReadFile::follow))]
 fn follow(
     bytes: &mut Cursor<'_>,
     lists: &mut Seq<Seq<CCell>>,
     cells: Seq<CCell>,
     cell: CCell,
 ) -> Result<Option<CCell>, Stop>
-    ensures { IfOk result (λ next. open_text (lists.old ++ cells ∷ []) ++ (cell_text cell ++ bytes.old) ≡ open_text lists.new ++ (pending_text next ++ bytes.new)) }
+    ensures spelled { IfOk result (λ next. open_text (lists.old ++ cells ∷ []) ++ (cell_text cell ++ bytes.old) ≡ open_text lists.new ++ (pending_text next ++ bytes.new)) }
+    ensures reads { Turns (pure.follow lists.old cells cell bytes.old) result lists.new bytes.new }
 {
     if bytes.sees(b", ") {
         go_on(bytes, lists, cells, cell)
@@ -114,8 +130,10 @@ fn follow(
 }
 
 /// The cells of a static, with their braces.
+#[tactic(auto, using(crate::proofs::Turns::begin_next, crate::proofs::Turns::follow_next, crate::proofs::Turns::turns_whole, crate::proofs::Turns::turns_bare, crate::proofs::Turns::turns_done, crate::proofs::Turns::begin_fails, crate::proofs::Turns::follow_fails), unfolding(csub_text::specs::ReadFile::cells))]
 pub fn cells(alloc: Global, bytes: &mut Cursor<'_>) -> Result<Seq<CCell>, Stop>
-    ensures { IfOk result (λ cells. bytes.old ≡ cells_text (map cell_text cells) ++ bytes.new) }
+    ensures spelled { IfOk result (λ cells. bytes.old ≡ cells_text (map cell_text cells) ++ bytes.new) }
+    ensures reads { Reads (pure.cells bytes.old) result bytes.new }
 {
     let mut lists = Seq::new(alloc);
     let mut pending = None;
@@ -133,7 +151,8 @@ pub fn cells(alloc: Global, bytes: &mut Cursor<'_>) -> Result<Seq<CCell>, Stop>
 
 // The outermost cell has to be a list.
 fn whole(cell: CCell) -> Result<Seq<CCell>, Stop>
-    ensures { IfOk result (λ cells. cell_text cell ≡ cells_text (map cell_text cells)) }
+    ensures spelled { IfOk result (λ cells. cell_text cell ≡ cells_text (map cell_text cells)) }
+    ensures reads { Takes (pure.whole_list cell) result }
 {
     match cell {
         CCell::Braces(cells) => Ok(cells),

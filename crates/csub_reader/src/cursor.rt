@@ -1,5 +1,8 @@
 // The bytes that are still to be read.
-ghost use Rattle.std.specs.Prelude.{◌≡◌, ◌++◌, [], true, OnOk, IfSome};
+ghost use Rattle.std.specs.Prelude.{◌≡◌, ◌++◌, [], true, OnOk, IfSome, Option, not};
+ghost use Rattle.csub_text.specs.Read.{stripped, begins};
+ghost use Rattle.csub_text.specs.ReadFile.{sees_more};
+ghost use Rattle.csub_reader.specs.Reads.{Strips, Same};
 
 use crate::fault::Stop;
 use std::marker::Model;
@@ -18,8 +21,10 @@ impl<'a> Model for Cursor<'a> {
 }
 
 // The bytes after this start.
+#[tactic(auto, using(crate::proofs::Strip::strips_short))]
 fn stripped<'a>(bytes: &'a [u8], start: &[u8]) -> Option<&'a [u8]>
-    ensures { IfSome result (λ rest. bytes.now ≡ start.now ++ rest.now) }
+    ensures spelled { IfSome result (λ rest. bytes.now ≡ start.now ++ rest.now) }
+    ensures reads { Same (stripped start.now bytes.now) result }
 {
     let mut rest = bytes;
     for p in start {
@@ -35,7 +40,9 @@ fn stripped<'a>(bytes: &'a [u8], start: &[u8]) -> Option<&'a [u8]>
 }
 
 /// Whether the bytes begin with this start.
-pub fn begins(bytes: &[u8], start: &[u8]) -> bool {
+pub fn begins(bytes: &[u8], start: &[u8]) -> bool
+    ensures { result ≡ begins start.now bytes.now }
+{
     stripped(bytes, start).is_some()
 }
 
@@ -53,7 +60,8 @@ impl<'a> Cursor<'a> {
     }
 
     pub fn is_at_end(&self) -> bool
-        ensures { result ≡ true → self.now ≡ [] }
+        ensures nothing { result ≡ true → self.now ≡ [] }
+        ensures reads { result ≡ not (sees_more self.now) }
     {
         match self.rest {
             [] => true,
@@ -62,13 +70,16 @@ impl<'a> Cursor<'a> {
     }
 
     /// Whether these bytes come next.
-    pub fn sees(&self, start: &[u8]) -> bool {
+    pub fn sees(&self, start: &[u8]) -> bool
+        ensures { result ≡ begins start.now self.now }
+    {
         begins(self.rest, start)
     }
 
     /// Goes past these bytes, which have to come next. Where they do not, nothing is passed.
     pub fn expect(&mut self, start: &[u8]) -> Result<(), Stop>
-        ensures { OnOk result (self.old ≡ start.now ++ self.new) }
+        ensures spelled { OnOk result (self.old ≡ start.now ++ self.new) }
+        ensures reads { Strips (stripped start.now self.old) result self.new }
     {
         match stripped(self.rest, start) {
             Some(rest) => {

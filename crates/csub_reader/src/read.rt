@@ -1,12 +1,18 @@
 // Statics, functions and files.
-ghost use Rattle.std.specs.Prelude.{◌≡◌, ◌+◌, ◌++◌, ◌<◌, ◌^◌, OnOk, IfOk, IfErr, codes, [], ◌∷◌, length, true};
+ghost use Rattle.std.specs.Prelude.{◌≡◌, ◌+◌, ◌++◌, ◌<◌, ◌≤◌, ◌^◌, OnOk, IfOk, IfErr, codes, [], ◌∷◌, length, true, ◌||◌};
 ghost use Rattle.std.specs.Fmt.{decimal};
-ghost use Rattle.csub_tree.specs.Checked.{IsChecked, first_unchecked};
+ghost use Rattle.csub_tree.specs.Checked.{IsChecked, first_unchecked, is_name_byte};
+ghost use Rattle.csub_text.specs.Read.{stripped, then_stripped, begins, literal, after, and_then, mapped, ended};
+ghost use Rattle.csub_text.specs.ReadFile as pure;
+ghost use Rattle.csub_reader.specs.Reads.{Reads, ReadsWhole, Strips};
+ghost use Rattle.csub_reader.specs.Parts.{none_yet};
+ghost use Rattle.csub_reader.specs.Functions.{ReadsHeading, ReadsInsides};
 ghost use Rattle.csub_reader.specs.Refused.{IsRefused};
+ghost use Rattle.csub_text.specs.Text.{IsText};
 ghost use Rattle.csub_tree.specs.Spelling.{numbered, local_line, block_text, function_start, function_body, function_text, struct_text, prototype_text, static_text, cell_text, cells_text, file_text, head, line};
 
 use crate::cells::cells;
-use crate::cursor::Cursor;
+use crate::cursor::{Cursor, begins};
 use crate::fault::{CFault, Stop};
 use crate::names::{expect_name, name};
 use crate::parts::{head, parameter, prototype, struct_text};
@@ -15,8 +21,10 @@ use csub_tree::{CFile, CFunction, CPrototype, CStatic, CStmt, CStruct, CType, ch
 use rpy_base::{Seq, Text};
 use std::alloc::Global;
 
+#[tactic(auto, unfolding(csub_text::specs::ReadFile::static_text))]
 fn static_text(alloc: Global, bytes: &mut Cursor<'_>, n: u64) -> Result<CStatic, Stop>
-    ensures { IfOk result (λ item. bytes.old ≡ static_text n item ++ bytes.new) }
+    ensures spelled { IfOk result (λ item. bytes.old ≡ static_text n item ++ bytes.new) }
+    ensures reads { Reads (pure.static_text n bytes.old) result bytes.new }
 {
     let kind = name(bytes, b"static struct s")?;
     expect_name(bytes, b" g", n)?;
@@ -26,7 +34,9 @@ fn static_text(alloc: Global, bytes: &mut Cursor<'_>, n: u64) -> Result<CStatic,
     Ok(CStatic { kind, cells })
 }
 
-fn is_name_byte(b: u8) -> bool {
+fn is_name_byte(b: u8) -> bool
+    ensures { result ≡ is_name_byte b }
+{
     (b'a' <= b && b <= b'z')
         || (b'A' <= b && b <= b'Z')
         || (b'0' <= b && b <= b'9')
@@ -34,27 +44,38 @@ fn is_name_byte(b: u8) -> bool {
         || b == b'.'
 }
 
-// The letters, digits, `_` and `.` at the front.
-fn name_start(bytes: &[u8]) -> &[u8] {
-    for i in 0..bytes.len() {
-        if !is_name_byte(bytes[i]) {
-            return &bytes[..i];
+// How many letters, digits, `_` and `.` stand at the front.
+#[tactic(auto, unfolding(csub_text::specs::ReadFile::name_len))]
+fn name_len(bytes: &[u8]) -> usize
+    ensures value { result ≡ pure.name_len bytes.now }
+    ensures within { result ≤ length bytes.now }
+{
+    let mut n = 0;
+    for b in bytes {
+        if !is_name_byte(*b) {
+            return n;
         }
+        n += 1;
     }
-    bytes
+    n
 }
 
 // The name of a function, which may be empty.
+#[tactic(auto, unfolding(csub_text::specs::ReadFile::function_name))]
 fn function_name(alloc: Global, bytes: &mut Cursor<'_>) -> Result<Text, Stop>
-    ensures { IfOk result (λ name. bytes.old ≡ name ++ bytes.new) }
+    ensures spelled { IfOk result (λ name. bytes.old ≡ name ++ bytes.new) }
+    ensures reads { Reads (pure.function_name bytes.old) result bytes.new }
 {
-    let name = name_start(bytes.rest());
+    let rest = bytes.rest();
+    let name = &rest[..name_len(rest)];
     bytes.expect(name)?;
     Ok(Text::from_bytes(alloc, name)?)
 }
 
+#[tactic(auto, unfolding(csub_text::specs::ReadFile::name_line))]
 fn name_line(alloc: Global, bytes: &mut Cursor<'_>) -> Result<Text, Stop>
-    ensures { IfOk result (λ name. bytes.old ≡ (codes "/* " ++ name ++ codes " */\n") ++ bytes.new) }
+    ensures spelled { IfOk result (λ name. bytes.old ≡ (codes "/* " ++ name ++ codes " */\n") ++ bytes.new) }
+    ensures reads { Reads (pure.name_line bytes.old) result bytes.new }
 {
     bytes.expect(b"/* ")?;
     let name = function_name(alloc, bytes)?;
@@ -71,8 +92,10 @@ struct Heading {
 }
 
 // The name, the head and the opening brace.
+#[tactic(auto, unfolding(csub_text::specs::ReadFile::heading))]
 fn start(alloc: Global, bytes: &mut Cursor<'_>, n: u64) -> Result<Heading, Stop>
-    ensures { IfOk result (λ s. bytes.old ≡ (line (codes "/* " ++ s.name ++ codes " */") ++ line (head n s.result s.params) ++ line (codes "{")) ++ bytes.new) }
+    ensures spelled { IfOk result (λ s. bytes.old ≡ (line (codes "/* " ++ s.name ++ codes " */") ++ line (head n s.result s.params) ++ line (codes "{")) ++ bytes.new) }
+    ensures reads { ReadsHeading (pure.heading n bytes.old) result bytes.new }
 {
     let name = name_line(alloc, bytes)?;
     let head_of = head(alloc, bytes, n)?;
@@ -85,8 +108,10 @@ fn start(alloc: Global, bytes: &mut Cursor<'_>, n: u64) -> Result<Heading, Stop>
     })
 }
 
+#[tactic(auto, unfolding(csub_text::specs::ReadFile::local_line))]
 fn local_line(bytes: &mut Cursor<'_>, k: u64) -> Result<CType, Stop>
-    ensures { IfOk result (λ kind. bytes.old ≡ local_line k kind ++ bytes.new) }
+    ensures spelled { IfOk result (λ kind. bytes.old ≡ local_line k kind ++ bytes.new) }
+    ensures reads { Reads (pure.local_line k bytes.old) result bytes.new }
 {
     bytes.expect(b"    ")?;
     let kind = parameter(bytes, k)?;
@@ -94,9 +119,11 @@ fn local_line(bytes: &mut Cursor<'_>, k: u64) -> Result<CType, Stop>
     Ok(kind)
 }
 
+#[tactic(auto, using(crate::proofs::Loops::while_stop, crate::proofs::Loops::while_done, crate::proofs::Loops::while_fail), unfolding(csub_text::specs::ReadFile::local_lines))]
 fn local_lines(alloc: Global, bytes: &mut Cursor<'_>, first: u64) -> Result<Seq<CType>, Stop>
     requires { first < 2 ^ 63 }
-    ensures { IfOk result (λ kinds. bytes.old ≡ numbered local_line first kinds ++ bytes.new) }
+    ensures spelled { IfOk result (λ kinds. bytes.old ≡ numbered local_line first kinds ++ bytes.new) }
+    ensures reads { Reads (pure.local_lines first bytes.old) result bytes.new }
 {
     let mut kinds = Seq::new(alloc);
     for _turn in 0..bytes.rest().len() {
@@ -109,21 +136,49 @@ fn local_lines(alloc: Global, bytes: &mut Cursor<'_>, first: u64) -> Result<Seq<
     Ok(kinds)
 }
 
+#[tactic(auto, unfolding(csub_text::specs::ReadFile::block))]
 fn block(alloc: Global, bytes: &mut Cursor<'_>, k: u64) -> Result<Seq<CStmt>, Stop>
-    ensures { IfOk result (λ stmts. bytes.old ≡ block_text k stmts ++ bytes.new) }
+    ensures spelled { IfOk result (λ stmts. bytes.old ≡ block_text k stmts ++ bytes.new) }
+    ensures reads { Reads (pure.block k bytes.old) result bytes.new }
 {
     expect_name(bytes, b"b", k)?;
     bytes.expect(b":\n")?;
     statements(alloc, bytes)
 }
 
+// Whether nothing was read yet.
+fn is_none<T>(items: &[T]) -> bool
+    ensures { result ≡ none_yet items.now }
+{
+    match items {
+        [] => true,
+        [_, ..] => false,
+    }
+}
+
+// Whether a block is to be read: the first, or a further one that comes next.
+fn another_block(blocks: &Seq<Seq<CStmt>>, bytes: &Cursor<'_>) -> bool
+    ensures { result ≡ (none_yet blocks.now || begins (codes "b") bytes.now) }
+{
+    is_none(blocks.as_slice()) || bytes.sees(b"b")
+}
+
+// Whether a function is to be read: the first, or a further one where something comes next.
+fn another_function(items: &Seq<CFunction>, bytes: &Cursor<'_>) -> bool
+    ensures { result ≡ (none_yet items.now || pure.sees_more bytes.now) }
+{
+    is_none(items.as_slice()) || !bytes.is_at_end()
+}
+
 // One or more blocks.
+#[tactic(auto, using(crate::proofs::Loops::some_stop, crate::proofs::Loops::some_done, crate::proofs::Loops::some_fail), unfolding(csub_text::specs::ReadFile::blocks))]
 fn blocks(alloc: Global, bytes: &mut Cursor<'_>) -> Result<Seq<Seq<CStmt>>, Stop>
-    ensures { IfOk result (λ blocks. bytes.old ≡ numbered block_text 0 blocks ++ bytes.new) }
+    ensures spelled { IfOk result (λ blocks. bytes.old ≡ numbered block_text 0 blocks ++ bytes.new) }
+    ensures reads { Reads (pure.blocks bytes.old) result bytes.new }
 {
     let mut blocks = Seq::new(alloc);
     for _turn in 0..bytes.rest().len() {
-        if !blocks.is_empty() && !bytes.sees(b"b") {
+        if !another_block(&blocks, bytes) {
             return Ok(blocks);
         }
         let stmts = block(alloc, bytes, blocks.len() as u64)?;
@@ -140,17 +195,21 @@ struct Insides {
 }
 
 // The locals are numbered on from the parameters.
+#[tactic(auto, unfolding(csub_text::specs::ReadFile::insides))]
 fn body(alloc: Global, bytes: &mut Cursor<'_>, first: u64) -> Result<Insides, Stop>
     requires { first < 2 ^ 63 }
-    ensures { IfOk result (λ b. bytes.old ≡ (numbered local_line first b.locals ++ numbered block_text 0 b.blocks) ++ bytes.new) }
+    ensures spelled { IfOk result (λ b. bytes.old ≡ (numbered local_line first b.locals ++ numbered block_text 0 b.blocks) ++ bytes.new) }
+    ensures reads { ReadsInsides (pure.insides first bytes.old) result bytes.new }
 {
     let locals = local_lines(alloc, bytes, first)?;
     let blocks = blocks(alloc, bytes)?;
     Ok(Insides { locals, blocks })
 }
 
+#[tactic(auto, unfolding(csub_text::specs::ReadFile::function))]
 fn function(alloc: Global, bytes: &mut Cursor<'_>, n: u64) -> Result<CFunction, Stop>
-    ensures { IfOk result (λ function. bytes.old ≡ function_text n function ++ bytes.new) }
+    ensures spelled { IfOk result (λ function. bytes.old ≡ function_text n function ++ bytes.new) }
+    ensures reads { Reads (pure.function n bytes.old) result bytes.new }
 {
     let start = start(alloc, bytes, n)?;
     let first = start.params.as_slice().len() as u64;
@@ -165,8 +224,10 @@ fn function(alloc: Global, bytes: &mut Cursor<'_>, n: u64) -> Result<CFunction, 
     })
 }
 
+#[tactic(auto, using(crate::proofs::Loops::while_stop, crate::proofs::Loops::while_done, crate::proofs::Loops::while_fail), unfolding(csub_text::specs::ReadFile::structs))]
 fn structs(alloc: Global, bytes: &mut Cursor<'_>) -> Result<Seq<CStruct>, Stop>
-    ensures { IfOk result (λ items. bytes.old ≡ numbered struct_text 0 items ++ bytes.new) }
+    ensures spelled { IfOk result (λ items. bytes.old ≡ numbered struct_text 0 items ++ bytes.new) }
+    ensures reads { Reads (pure.structs bytes.old) result bytes.new }
 {
     let mut items = Seq::new(alloc);
     for _turn in 0..bytes.rest().len() {
@@ -180,17 +241,28 @@ fn structs(alloc: Global, bytes: &mut Cursor<'_>) -> Result<Seq<CStruct>, Stop>
 }
 
 // Whether the next line is of a static, and not of a prototype with a pointer as its result.
-fn sees_static(bytes: &[u8]) -> bool {
+fn sees_static(bytes: &[u8]) -> bool
+    ensures { result ≡ pure.sees_static bytes.now }
+{
     let mut start = Cursor::new(bytes);
     name(&mut start, b"static struct s").is_ok() && start.sees(b" g")
 }
 
+// Whether the next line is the head of a function.
+fn sees_prototype(bytes: &[u8]) -> bool
+    ensures { result ≡ pure.sees_prototype bytes.now }
+{
+    begins(bytes, b"static ") && !sees_static(bytes)
+}
+
+#[tactic(auto, using(crate::proofs::Loops::while_stop, crate::proofs::Loops::while_done, crate::proofs::Loops::while_fail), unfolding(csub_text::specs::ReadFile::prototypes))]
 fn prototypes(alloc: Global, bytes: &mut Cursor<'_>) -> Result<Seq<CPrototype>, Stop>
-    ensures { IfOk result (λ items. bytes.old ≡ numbered prototype_text 0 items ++ bytes.new) }
+    ensures spelled { IfOk result (λ items. bytes.old ≡ numbered prototype_text 0 items ++ bytes.new) }
+    ensures reads { Reads (pure.prototypes bytes.old) result bytes.new }
 {
     let mut items = Seq::new(alloc);
     for _turn in 0..bytes.rest().len() {
-        if !bytes.sees(b"static ") || sees_static(bytes.rest()) {
+        if !sees_prototype(bytes.rest()) {
             return Ok(items);
         }
         let item = prototype(alloc, bytes, items.len() as u64)?;
@@ -199,8 +271,10 @@ fn prototypes(alloc: Global, bytes: &mut Cursor<'_>) -> Result<Seq<CPrototype>, 
     Ok(items)
 }
 
+#[tactic(auto, using(crate::proofs::Loops::while_stop, crate::proofs::Loops::while_done, crate::proofs::Loops::while_fail), unfolding(csub_text::specs::ReadFile::statics))]
 fn statics(alloc: Global, bytes: &mut Cursor<'_>) -> Result<Seq<CStatic>, Stop>
-    ensures { IfOk result (λ items. bytes.old ≡ numbered static_text 0 items ++ bytes.new) }
+    ensures spelled { IfOk result (λ items. bytes.old ≡ numbered static_text 0 items ++ bytes.new) }
+    ensures reads { Reads (pure.statics bytes.old) result bytes.new }
 {
     let mut items = Seq::new(alloc);
     for _turn in 0..bytes.rest().len() {
@@ -214,12 +288,14 @@ fn statics(alloc: Global, bytes: &mut Cursor<'_>) -> Result<Seq<CStatic>, Stop>
 }
 
 // One or more functions, up to the end.
+#[tactic(auto, using(crate::proofs::Loops::some_stop, crate::proofs::Loops::some_done, crate::proofs::Loops::some_fail), unfolding(csub_text::specs::ReadFile::functions))]
 fn functions(alloc: Global, bytes: &mut Cursor<'_>) -> Result<Seq<CFunction>, Stop>
-    ensures { IfOk result (λ items. bytes.old ≡ numbered function_text 0 items ++ bytes.new) }
+    ensures spelled { IfOk result (λ items. bytes.old ≡ numbered function_text 0 items ++ bytes.new) }
+    ensures reads { Reads (pure.functions bytes.old) result bytes.new }
 {
     let mut items = Seq::new(alloc);
     for _turn in 0..bytes.rest().len() {
-        if !items.is_empty() && bytes.is_at_end() {
+        if !another_function(&items, bytes) {
             return Ok(items);
         }
         let item = function(alloc, bytes, items.len() as u64)?;
@@ -230,20 +306,23 @@ fn functions(alloc: Global, bytes: &mut Cursor<'_>) -> Result<Seq<CFunction>, St
 
 // A line of its own, and another one.
 fn two_lines(bytes: &mut Cursor<'_>, first: &[u8], second: &[u8]) -> Result<(), Stop>
-    ensures { OnOk result (bytes.old ≡ (first.now ++ second.now) ++ bytes.new) }
+    ensures spelled { OnOk result (bytes.old ≡ (first.now ++ second.now) ++ bytes.new) }
+    ensures reads { Strips (then_stripped (stripped first.now bytes.old) second.now) result bytes.new }
 {
     bytes.expect(first)?;
     bytes.expect(second)
 }
 
 // All declarations, after two lines at the head.
+#[tactic(auto, unfolding(csub_text::specs::ReadFile::declarations))]
 fn file_after(
     alloc: Global,
     bytes: &mut Cursor<'_>,
     first: &[u8],
     second: &[u8],
 ) -> Result<CFile, Stop>
-    ensures { IfOk result (λ c. bytes.old ≡ (first.now ++ second.now ++ numbered struct_text 0 c.structs ++ numbered prototype_text 0 c.prototypes ++ numbered static_text 0 c.statics ++ numbered function_text 0 c.functions) ++ bytes.new) }
+    ensures spelled { IfOk result (λ c. bytes.old ≡ (first.now ++ second.now ++ numbered struct_text 0 c.structs ++ numbered prototype_text 0 c.prototypes ++ numbered static_text 0 c.statics ++ numbered function_text 0 c.functions) ++ bytes.new) }
+    ensures reads { Reads (after (stripped first.now bytes.old) (λ i. after (stripped second.now i) pure.declarations)) result bytes.new }
 {
     two_lines(bytes, first, second)?;
     let structs = structs(alloc, bytes)?;
@@ -258,8 +337,10 @@ fn file_after(
     })
 }
 
+#[tactic(auto, unfolding(csub_text::specs::ReadFile::file))]
 fn file(alloc: Global, bytes: &mut Cursor<'_>) -> Result<CFile, Stop>
-    ensures { IfOk result (λ file. bytes.old ≡ file_text file ++ bytes.new) }
+    ensures spelled { IfOk result (λ file. bytes.old ≡ file_text file ++ bytes.new) }
+    ensures reads { Reads (pure.file bytes.old) result bytes.new }
 {
     file_after(
         alloc,
@@ -270,8 +351,10 @@ fn file(alloc: Global, bytes: &mut Cursor<'_>) -> Result<CFile, Stop>
 }
 
 // A file, after which nothing is left.
+#[tactic(auto, unfolding(csub_text::specs::ReadFile::whole))]
 fn whole(alloc: Global, bytes: &mut Cursor<'_>) -> Result<CFile, Stop>
-    ensures { IfOk result (λ file. bytes.old ≡ file_text file) }
+    ensures spelled { IfOk result (λ file. bytes.old ≡ file_text file) }
+    ensures reads { ReadsWhole (pure.whole bytes.old) result }
 {
     let file = file(alloc, bytes)?;
     if bytes.is_at_end() {
@@ -293,9 +376,12 @@ fn line_of(text: &Text, rest: &[u8]) -> u64 {
         .saturating_add(1)
 }
 
-/// The file that a text spells, whether or not it keeps the further rules of a C file.
+/// The file that a text spells, whether or not it keeps the further rules of a C file. It is
+/// refused exactly where the bytes are the text of no file, but that memory may fail.
+#[tactic(auto, using(csub_text::proofs::Files::none_whole, csub_text::proofs::Files::whole_text))]
 pub fn read_text(alloc: Global, text: &Text) -> Result<CFile, CFault>
     ensures spelled { IfOk result (λ file. text.now ≡ file_text file) }
+    ensures text { IfOk result (λ file. IsText text.now file) }
     ensures refused { IfErr result (λ fault. IsRefused text.now fault) }
 {
     let mut bytes = Cursor::new(text.bytes());
@@ -309,6 +395,7 @@ pub fn read_text(alloc: Global, text: &Text) -> Result<CFile, CFault>
 /// The file that a text spells, which keeps the rules of a C file.
 pub fn read_c(alloc: Global, text: &Text) -> Result<CFile, CFault>
     ensures spelled { IfOk result (λ file. text.now ≡ file_text file) }
+    ensures text { IfOk result (λ file. IsText text.now file) }
     ensures checked { IfOk result (λ file. IsChecked file) }
     ensures refused { IfErr result (λ fault. IsRefused text.now fault) }
 {

@@ -1,5 +1,5 @@
 // What is read, and where a text is refused: the contracts say only that what is read is spelled so.
-use crate::{CFault, read_text};
+use crate::{CFault, read_c, read_text};
 use genc_writer::write_c;
 use rpy_base::{NoMem, Text};
 use std::alloc::Global;
@@ -224,5 +224,50 @@ fn cells_nest_so_deep(rt: HostRuntime) -> Result<(), Fail> {
     assert_eq!(rt; line_of(alloc, &text), Ok(0));
     let deeper = nested(alloc, 2_002)?;
     assert_eq!(rt; line_of(alloc, &deeper), Err(CFault::NoMem));
+    Ok(())
+}
+
+// A function with a pointer and a word, and these lines after its first statement.
+fn with_lines(alloc: Global, lines: &str) -> Result<Text, NoMem> {
+    let start =
+        "/* C-sub 1 */\n#include \"rpy_prim.h\"\nstruct s0 {\n    Signed a0;\n};\nstatic Signed f0(void);\n/* main */\nstatic Signed f0(void)\n{\n    struct s0 *v0;\n    Signed v1;\nb0:\n    v0 = (struct s0 *)RPY_NEW(struct s0);\n";
+    text_of(alloc, start, lines, "    return 0L;\n}\n")
+}
+
+#[test]
+fn checked_files_come_back(rt: HostRuntime) -> Result<(), Fail> {
+    let alloc = rt.alloc();
+    for lines in [
+        "",
+        "    RPY_FREE(v0);\n    RPY_FREE(v0);\n",
+        "    RPY_FREE(v0);\n    v1 = ((struct s0 *)v0)->a0;\n",
+        "    v1 = ((struct s0 *)v0)->a0;\n",
+        "    v0 = NULL;\n    RPY_FREE(v0);\n",
+        "    RPY_PUT(256L);\n",
+        "    v1 = RPY_DIV(1L, 0L);\n",
+        "    RPY_STEP(-1L);\n",
+        "    v1 = RPY_ARGLEN(1L);\n",
+        "    v1 = 7L;\n",
+    ] {
+        let text = with_lines(alloc, lines)?;
+        let file = read_c(alloc, &text)?;
+        let again = write_c(alloc, &file)?;
+        assert_eq!(rt; again == text, true, "{lines}");
+        assert_eq!(rt; read_c(alloc, &again).is_ok(), true, "{lines}");
+    }
+    Ok(())
+}
+
+#[test]
+fn broken_files_are_told_apart(rt: HostRuntime) -> Result<(), Fail> {
+    let alloc = rt.alloc();
+    for (lines, fault) in [
+        ("    v1 = 007L;\n", CFault::NotText(14)),
+        ("    v1 =  7L;\n", CFault::NotText(14)),
+        ("    v2 = 0L;\n", CFault::NotChecked(3)),
+    ] {
+        let text = with_lines(alloc, lines)?;
+        assert_eq!(rt; read_c(alloc, &text).err(), Some(fault), "{lines}");
+    }
     Ok(())
 }

@@ -1,7 +1,8 @@
 -- Where the names of modules make no program, and what is said of it.
-use Rattle.std.specs.Prelude.{◌≡◌, ℕ, List, codes}
+use Rattle.std.specs.Prelude.{◌≡◌, ℕ, List, codes, Some}
 use Rattle.rpy_nodes.specs.declared.listing.Named.{Named}
-use Rattle.rpy_names.specs.Names.{HasFault, IsPlace}
+use Rattle.rpy_names.specs.Resolve.{namefault}
+use Rattle.rpy_names.specs.Place.{place}
 use Rattle.rpy_names.specs.declared.fault.NameFault.{NameFault}
 use Rattle.rpy_names.specs.declared.fault.NameFault.TheVariants as fault
 use Rattle.rpy_first.specs.Source.{line_at}
@@ -22,6 +23,10 @@ words_of NoModule = codes "no module"
 abbrev pub name_refusal : List ℕ → ℕ → NameKind → List ℕ
 name_refusal file line kind = line_at file line (words_of kind)
 
+-- a node stands in this file and line
+abbrev pub IsPlace : List Named → ℕ → ℕ → ℕ → Type 0
+IsPlace modules node file line = (file, line) ≡ place modules node
+
 -- a fault has this kind and stands in this file and line; that there is no entry point is said of line 1 of the first file
 abbrev pub StandsAt : List Named → NameFault → ℕ → ℕ → NameKind → Type 0
 StandsAt modules (fault.Unknown node) file line kind = (kind ≡ Unknown) × IsPlace modules node file line
@@ -35,7 +40,7 @@ StandsAt modules fault.NoMem file line kind = ⊥
 -- the modules make no program, and this is the fault that is told
 pub record IsMisnamed (modules : List Named) (file line : ℕ) (kind : NameKind) : Type 0 where
   pub fault : NameFault
-  pub has : HasFault modules fault
+  pub has : namefault modules ≡ Some fault
   pub stands : StandsAt modules fault file line kind
 
 -- what functions ensure that place a fault

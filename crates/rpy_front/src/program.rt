@@ -1,6 +1,6 @@
 // Why modules make no program.
 ghost use Rattle.std.specs.Prelude.{◌≡◌, IfOk};
-ghost use Rattle.rpy_names.specs.Names.{HasFault};
+ghost use Rattle.rpy_names.specs.Resolve.{namefault, IsTold};
 ghost use Rattle.rpy_first.specs.declared.fault.TranslateFault.{TranslateFault};
 ghost use Rattle.rpy_front.specs.Names as spec;
 ghost use Rattle.rpy_front.specs.Names.{Refuses, PlacedAs};
@@ -42,7 +42,7 @@ fn placed(alloc: Global, modules: &[Named], node: NodeId, kind: NameKind) -> Tra
 
 /// The place of a fault of names.
 pub fn refused_name(alloc: Global, modules: &[Named], fault: NameFault) -> TranslateFault
-    requires { HasFault modules.now fault }
+    requires { IsTold (namefault modules.now) fault }
     ensures { Refuses modules.now result }
 {
     match fault {

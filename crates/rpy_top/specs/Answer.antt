@@ -13,7 +13,7 @@ use Rattle.rpy_first.specs.declared.fault.TranslateFault.TheVariants.{Source as 
 use Rattle.rpy_first.specs.declared.fault.NameKind.{NameKind}
 use Rattle.rpy_first.specs.Source.{refusal}
 use Rattle.rpy_nodes.specs.declared.listing.Named.{Named}
-use Rattle.rpy_names.specs.Names.{IsProgram}
+use Rattle.rpy_names.specs.Resolve.{prog}
 use Rattle.rpy_front.specs.Modules.{AreModules, StopsAt as IsRefusedAt}
 use Rattle.rpy_front.specs.Names.{IsMisnamed, name_refusal}
 use Rattle.rpy_tree.specs.declared.program.Program.{Program}
@@ -126,7 +126,7 @@ only_body modules = None
 pub record AreProgram (sources names : List (List ℕ)) (modules : List Named) : Type 0 where
   pub are : AreModules sources names modules
   pub program : Program
-  pub is : IsProgram modules program
+  pub is : prog modules ≡ Some program
 
 -- the text is a translation of the program that the sources are
 pub record Translates (sources names : List (List ℕ)) (text : List ℕ) : Type 0 where
@@ -160,10 +160,10 @@ TranslatesBody name (Err fault) result = result ≡ Err fault
 
 -- what a call that translates modules answers
 abbrev pub TranslatesModules : List Named → Result (List ℕ) TranslateFault → Type 0
-TranslatesModules ms (Ok text) = ((p : Program) × IsProgram ms p) × ((body : Body) × (only_body ms ≡ Some body) × Built (program_of body) text)
+TranslatesModules ms (Ok text) = ((p : Program) × (prog ms ≡ Some p)) × ((body : Body) × (only_body ms ≡ Some body) × Built (program_of body) text)
 TranslatesModules ms (Err (Refused file line kind)) = ⊥
 TranslatesModules ms (Err (NoProgram file line kind)) = IsMisnamed ms file line kind
-TranslatesModules ms (Err Unready) = ((p : Program) × IsProgram ms p) × (only_body ms ≡ None)
+TranslatesModules ms (Err Unready) = ((p : Program) × (prog ms ≡ Some p)) × (only_body ms ≡ None)
 TranslatesModules ms (Err NoMemory) = Unit {0}
 
 -- what a call that translates sources answers

@@ -1,6 +1,12 @@
-use Rattle.std.proofs.Common.{◌≡◌, ◌++◌}
+use Rattle.std.proofs.Common.{◌≡◌, ◌+◌, ◌-◌, ◌++◌, length, codes}
 use Rattle.csub_tree.specs.Spelling.{numbered, local_line}
+use Rattle.csub_text.specs.Read.{begins}
+use Rattle.csub_text.specs.ReadFile as pure
+use Rattle.csub_reader.specs.Parts.{extended}
 use Rattle.csub_reader.proofs.read.local_lines.Given as goal
 
 abbrev pub invariant-loop-turn : goal.invariant-loop-turn
-invariant-loop-turn l = l.initial.bytes ≡ numbered local_line l.first l.kinds ++ l.bytes
+invariant-loop-turn l = record {
+  text : l.initial.bytes ≡ numbered local_line l.first l.kinds ++ l.bytes;
+  reads : pure.parts_while (begins (codes "    ")) pure.local_line (length l.initial.bytes) l.first l.initial.bytes ≡ extended l.kinds (pure.parts_while (begins (codes "    ")) pure.local_line (l._turn-end - l._turn) (l.first + length l.kinds) l.bytes);
+}
