@@ -78,8 +78,8 @@ fn words_and_sources_have_statuses(rt: HostRuntime) -> Result<(), Fail> {
         (
             "build a.py",
             "def entry_point(argv):\n    return x\n",
-            16,
-            "a.py: not yet\n",
+            3,
+            "a.py:2: unknown name\n",
         ),
         (
             "build a.py",
@@ -93,7 +93,7 @@ fn words_and_sources_have_statuses(rt: HostRuntime) -> Result<(), Fail> {
             0,
             "",
         ),
-        ("build a.py", "", 16, "a.py: not yet\n"),
+        ("build a.py", "", 3, "a.py:1: no entry point\n"),
     ] {
         let words = words_of(alloc, line)?;
         let mut files = files_of(alloc, "a.py", source.as_bytes())?;
@@ -186,7 +186,7 @@ fn faults_have_statuses(rt: HostRuntime) -> Result<(), Fail> {
 fn a_source_past_its_limit_is_too_long(rt: HostRuntime) -> Result<(), Fail> {
     let alloc = rt.alloc();
     for (length, status, said) in [
-        (1048576, 16, "dir/a.py: not yet\n"),
+        (1048576, 3, "dir/a.py:1: no entry point\n"),
         (1048577, 15, "dir/a.py: too long\n"),
     ] {
         let words = words_of(alloc, "build dir/a.py")?;
@@ -220,6 +220,8 @@ fn translate_answers_the_text_of_build(rt: HostRuntime) -> Result<(), Fail> {
     sources.push(Text::from_bytes(alloc, SUMS.as_bytes())?)?;
     assert!(rt; are_module_names(names.as_slice()));
     assert!(rt; are_short(sources.as_slice()));
+    assert_eq!(rt; names.len(), 1);
+    assert_eq!(rt; sources.len(), 1);
     let text = translate(alloc, &sources, &names)?;
     assert_eq!(rt; text.bytes(), out.taken());
     Ok(())
@@ -236,7 +238,8 @@ fn two_sources_are_not_translated_yet(rt: HostRuntime) -> Result<(), Fail> {
     }
     assert!(rt; are_module_names(names.as_slice()));
     assert!(rt; are_short(sources.as_slice()));
-    assert_eq!(rt; names.len(), sources.len());
+    assert_eq!(rt; names.len(), 2);
+    assert_eq!(rt; sources.len(), 2);
     let refused = match translate(alloc, &sources, &names) {
         Err(TranslateFault::NotYet) => true,
         _ => false,
@@ -318,13 +321,59 @@ fn sources_are_refused_on_their_lines(rt: HostRuntime) -> Result<(), Fail> {
         );
     }
     for (source, status, said) in [
-        (with_signs(alloc, 64)?, 16, "a.py: not yet\n"),
+        (with_signs(alloc, 64)?, 3, "a.py:1: no entry point\n"),
         (with_signs(alloc, 65)?, 2, "a.py:1: limit operators\n"),
         (with_blocks(alloc, 34)?, 2, "a.py:34: limit blocks\n"),
     ] {
         let (answered, text) = refusal_of(alloc, &source)?;
         assert_eq!(rt; answered, status, "{said:?}");
         assert_eq!(rt; text.bytes(), said.as_bytes());
+    }
+    Ok(())
+}
+
+// The status of a build of files that are there, and its line.
+fn build_of(alloc: Global, words: &[Text], first: &str, second: &str) -> Result<(u8, Text), NoMem> {
+    let mut files = files_of(alloc, "a.py", first.as_bytes())?;
+    files.add(
+        Text::from_bytes(alloc, b"b.py")?,
+        Text::from_bytes(alloc, second.as_bytes())?,
+    )?;
+    let mut out = MemSink::new(alloc);
+    let mut err = MemSink::new(alloc);
+    let mut watch: Vec<Box<dyn HeapWatch>> = Vec::new(alloc);
+    let answered = rpyc(alloc, words, &mut files, &mut out, &mut err, &mut watch);
+    Ok((answered, Text::from_bytes(alloc, err.taken())?))
+}
+
+const IMPORTS: &str = "import b\ndef entry_point(argv):\n    return 0\n";
+
+#[test]
+fn files_make_one_program(rt: HostRuntime) -> Result<(), Fail> {
+    let alloc = rt.alloc();
+    for (line, first, second, status, said) in [
+        ("build a.py b.py", IMPORTS, "X = 1\nY = X << 63\n", 3, "b.py:2: bad constant\n"),
+        ("build a.py b.py", IMPORTS, "X = 1\nY = X << 62\n", 16, "a.py: not yet\n"),
+        ("build a.py", IMPORTS, "", 3, "a.py:1: no module\n"),
+        ("build b.py a.py", IMPORTS, "X = 1\nX = 2\n", 3, "b.py:2: bound twice\n"),
+        ("build b.py a.py", IMPORTS, "X = 1\n", 3, "b.py:1: no entry point\n"),
+        ("build a.py b.py", IMPORTS, "class X(Y): pass\n", 3, "b.py:1: unknown name\n"),
+        ("build a.py b.py c.py", IMPORTS, "X = \n", 8, "c.py: no such file\n"),
+        ("build a.py b.py", IMPORTS, "\nX = \n", 2, "b.py:2: syntax\n"),
+    ] {
+        let words = words_of(alloc, line)?;
+        let (answered, text) = build_of(alloc, &words, first, second)?;
+        assert_eq!(rt; answered, status, "{line:?} on {second:?}");
+        assert_eq!(rt; text.bytes(), said.as_bytes(), "{line:?} on {second:?}");
+    }
+    for (count, status, said) in [(64, 8, "m0.py: no such file\n"), (65, 15, "too many files\n")] {
+        let mut words = words_of(alloc, "build")?;
+        for i in 0..count {
+            words.push(Text::from_bytes(alloc, format!(in alloc; "m{i}.py")?.as_bytes())?)?;
+        }
+        let (answered, text) = build_of(alloc, &words, "", "")?;
+        assert_eq!(rt; answered, status, "{count} files");
+        assert_eq!(rt; text.bytes(), said.as_bytes(), "{count} files");
     }
     Ok(())
 }
