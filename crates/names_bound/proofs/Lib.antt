@@ -1,2 +1,3 @@
 pub mod Keys
+mod Rows
 pub mod Turns

@@ -1,3 +1,4 @@
+mod Rows
 pub mod Contents
 pub mod Fitting
 pub mod Lasts
