@@ -6,8 +6,8 @@ ghost use Rattle.rpy_top.specs.Answer as spec;
 ghost use Rattle.rpy_top.specs.Answer.{sunk, filed, Builds, BuildsTo, LoadsAll, TranslatesFiles, Said, SaysLine};
 
 use crate::edge::{load, put, say, say_text};
-use crate::status::Status;
 use crate::sources::{LIMIT, names_of, translate_sources};
+use crate::status::Status;
 use rpy_base::{Files, NoMem, Seq, Sink, Text};
 use rpy_first::{NameKind, SourceKind, TranslateFault, refusal};
 use rpy_front::name_refusal;
@@ -89,7 +89,12 @@ fn translate_files(alloc: Global, files: &[Text], sources: &[Text]) -> Result<Te
     }
 }
 
-fn build_few<F: Files, K: Sink>(alloc: Global, names: &[Text], files: &mut F, out: &mut K) -> BuildWork
+fn build_few<F: Files, K: Sink>(
+    alloc: Global,
+    names: &[Text],
+    files: &mut F,
+    out: &mut K,
+) -> BuildWork
     requires named { are_sources names.now ≡ true }
     requires few { length names.now ≤ 64 }
     ensures held { F.held files.new ≡ F.held files.old }
@@ -109,7 +114,12 @@ fn build_few<F: Files, K: Sink>(alloc: Global, names: &[Text], files: &mut F, ou
 }
 
 /// The work on files, of which there may be 64.
-pub fn build<F: Files, K: Sink>(alloc: Global, names: &[Text], files: &mut F, out: &mut K) -> BuildWork
+pub fn build<F: Files, K: Sink>(
+    alloc: Global,
+    names: &[Text],
+    files: &mut F,
+    out: &mut K,
+) -> BuildWork
     requires { are_sources names.now ≡ true }
     ensures held { F.held files.new ≡ F.held files.old }
     ensures builds { Builds (nat_le (length names.now) 64) result names.now (filed F.held F.faults files.old files.new) (sunk K.faults K.taken out.old out.new) }

@@ -12,11 +12,11 @@ mod status;
 mod top;
 mod words;
 
-pub use crun::C_LIMIT;
 pub use building::MOST_FILES;
+pub use crun::C_LIMIT;
 pub use rpy_first::{NameKind, SourceKind, TranslateFault};
-pub use top::{rpyc, translate};
 pub use sources::{LIMIT, are_short};
+pub use top::{rpyc, translate};
 pub use words::{Command, RunWords, WordsFault, are_module_names, read_words};
 
 #[cfg(test)]

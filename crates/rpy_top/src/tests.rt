@@ -352,21 +352,66 @@ const IMPORTS: &str = "import b\ndef entry_point(argv):\n    return 0\n";
 fn files_make_one_program(rt: HostRuntime) -> Result<(), Fail> {
     let alloc = rt.alloc();
     for (line, first, second, status, said) in [
-        ("build a.py b.py", IMPORTS, "X = 1\nY = X << 63\n", 3, "b.py:2: bad constant\n"),
-        ("build a.py b.py", IMPORTS, "X = 1\nY = X << 62\n", 16, "a.py: not yet\n"),
+        (
+            "build a.py b.py",
+            IMPORTS,
+            "X = 1\nY = X << 63\n",
+            3,
+            "b.py:2: bad constant\n",
+        ),
+        (
+            "build a.py b.py",
+            IMPORTS,
+            "X = 1\nY = X << 62\n",
+            16,
+            "a.py: not yet\n",
+        ),
         ("build a.py", IMPORTS, "", 3, "a.py:1: no module\n"),
-        ("build b.py a.py", IMPORTS, "X = 1\nX = 2\n", 3, "b.py:2: bound twice\n"),
-        ("build b.py a.py", IMPORTS, "X = 1\n", 3, "b.py:1: no entry point\n"),
-        ("build a.py b.py", IMPORTS, "class X(Y): pass\n", 3, "b.py:1: unknown name\n"),
-        ("build a.py b.py c.py", IMPORTS, "X = \n", 8, "c.py: no such file\n"),
-        ("build a.py b.py", IMPORTS, "\nX = \n", 2, "b.py:2: syntax\n"),
+        (
+            "build b.py a.py",
+            IMPORTS,
+            "X = 1\nX = 2\n",
+            3,
+            "b.py:2: bound twice\n",
+        ),
+        (
+            "build b.py a.py",
+            IMPORTS,
+            "X = 1\n",
+            3,
+            "b.py:1: no entry point\n",
+        ),
+        (
+            "build a.py b.py",
+            IMPORTS,
+            "class X(Y): pass\n",
+            3,
+            "b.py:1: unknown name\n",
+        ),
+        (
+            "build a.py b.py c.py",
+            IMPORTS,
+            "X = \n",
+            8,
+            "c.py: no such file\n",
+        ),
+        (
+            "build a.py b.py",
+            IMPORTS,
+            "\nX = \n",
+            2,
+            "b.py:2: syntax\n",
+        ),
     ] {
         let words = words_of(alloc, line)?;
         let (answered, text) = build_of(alloc, &words, first, second)?;
         assert_eq!(rt; answered, status, "{line:?} on {second:?}");
         assert_eq!(rt; text.bytes(), said.as_bytes(), "{line:?} on {second:?}");
     }
-    for (count, status, said) in [(64, 8, "m0.py: no such file\n"), (65, 15, "too many files\n")] {
+    for (count, status, said) in [
+        (64, 8, "m0.py: no such file\n"),
+        (65, 15, "too many files\n"),
+    ] {
         let mut words = words_of(alloc, "build")?;
         for i in 0..count {
             words.push(Text::from_bytes(alloc, format!(in alloc; "m{i}.py")?.as_bytes())?)?;
