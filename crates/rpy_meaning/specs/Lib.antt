@@ -1,0 +1,10 @@
+pub mod Arithmetic
+pub mod Classes
+pub mod Compare
+pub mod Costs
+pub mod Methods
+pub mod Operations
+pub mod Sequences
+pub mod Tree
+pub mod Walks
+pub mod World
