@@ -2,6 +2,8 @@ pub mod Arithmetic
 pub mod Classes
 pub mod Compare
 pub mod Costs
+pub mod Evaluation
+pub mod Meaning
 pub mod Methods
 pub mod Operations
 pub mod Sequences

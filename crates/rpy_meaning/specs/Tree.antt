@@ -42,7 +42,7 @@ mutual
 
   pub data Targets : Type 0 where
     no_targets : Targets
-    target : Target → Targets → Targets
+    more_targets : Target → Targets → Targets
 
 mutual
   pub data Stmt : Type 0 where

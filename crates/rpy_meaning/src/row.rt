@@ -84,8 +84,8 @@ pub enum RowOp {
     Print,
     /// What a `for` or a comprehension walks.
     Walk(SiteId),
-    /// On a walk: whether an item is there, the item, and the next place. A range is walked by
-    /// the next number and the end, with this step; anything else by itself and a place.
+    /// On a walk, which is a value and a place, or with a step the end of a range and the next
+    /// number: whether an item is there, the item, and the next place.
     HasItem(Option<i64>),
     Item(Option<i64>),
     Advance(Option<i64>),
