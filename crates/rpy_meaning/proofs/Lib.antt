@@ -1,0 +1,2 @@
+mod Build
+mod Rows
