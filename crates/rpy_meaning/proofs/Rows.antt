@@ -9,6 +9,8 @@ use Rattle.rpy_tree.specs.declared.syntax.BinOp.TheVariants.{Add, Sub, Mul, Floo
 use Rattle.rpy_tree.specs.declared.syntax.CmpOp.TheVariants.{Lt, Gt}
 use Rattle.rpy_meaning.specs.declared.row.RowOp.TheVariants as row
 use Rattle.rpy_meaning.specs.Tree.{Expr, Local, Apply, Display, Over, Name, Item, Parts, no_targets, more_targets, Stmt, Pass, Return, Do, Assign, Augment, If, While, For, Try, Finally, done, no_clauses, clause, Program}
+use Rattle.rpy_meaning.specs.Meaning.{mean}
+use Rattle.rpy_meaning.specs.Moments.{held_by, moment}
 use Rattle.rpy_meaning.proofs.Build.{exprs, lines, targets, pairs, num, minus, text, apply_one, apply_two, binary, compare, index, call, new, list, len, print, raise, set, function, program, alone, shown, running}
 
 -- return 0
@@ -121,3 +123,27 @@ bound_that_wrapped : running (alone (
     ≡ (Some (Failed fail.NegativeSlice), [], 9)
 unfolding int_wrap
 bound_that_wrapped = refl
+
+-- ---- what is held
+
+args : List (List ℕ)
+args = codes "program" ∷ []
+
+-- before the entry: the list of arguments and its string
+held_at_entry : held_by looping (mean looping args 0) ≡ 2
+unfolding looping args
+held_at_entry = refl
+
+-- after two turns: one list besides
+held_in_third_turn : held_by looping (mean looping args 12) ≡ 3
+unfolding looping args int_wrap
+held_in_third_turn = refl
+
+held_at_end : held_by looping (mean looping args 13) ≡ 0
+unfolding looping args int_wrap
+held_at_end = refl
+
+-- at the eighth moment, after `[0, 0]` is made, there is a list that no local has
+held_by_result : held_by looping (moment looping args 13 16) ≡ 3
+unfolding looping args int_wrap
+held_by_result = refl

@@ -5,6 +5,7 @@ pub mod Costs
 pub mod Evaluation
 pub mod Meaning
 pub mod Methods
+pub mod Moments
 pub mod Operations
 pub mod Sequences
 pub mod Tree
