@@ -7,7 +7,7 @@ use Rattle.rpy_meaning.specs.declared.row.Covers.{Covers}
 use Rattle.rpy_meaning.specs.declared.row.RowOp.{RowOp}
 use Rattle.rpy_meaning.specs.declared.row.RowOp.TheVariants as row
 use Rattle.rpy_meaning.specs.Costs.{entry_cost}
-use Rattle.rpy_meaning.specs.Tree.{Expr, Local, Apply, And, Or, Display, Comprehension, Exprs, none, more, Pairs, no_pairs, pair, Subject, Over, UpTo, FromTo, Condition, Always, Where, Target, Name, Attribute, Item, Parts, Targets, no_targets, more_targets, Stmt, Pass, Break, Continue, Return, Do, Assign, Augment, If, While, For, Try, Finally, Block, done, line, Clauses, no_clauses, clause, Function, Class, Program}
+use Rattle.rpy_meaning.specs.Tree.{Expr, Local, Constant, Apply, And, Or, Display, Comprehension, Exprs, none, more, Pairs, no_pairs, pair, Subject, Over, UpTo, FromTo, Condition, Always, Where, Target, Name, Attribute, Item, Parts, Targets, no_targets, more_targets, Stmt, Pass, Break, Continue, Return, Do, Assign, Augment, If, While, For, Try, Finally, Block, done, line, Clauses, no_clauses, clause, Function, Class, Program}
 use Rattle.rpy_meaning.specs.World.{World, Answer, Gives, Throws, Fails, Lacks, Enters, Bad}
 use Rattle.rpy_meaning.specs.Classes.{takes, covers_within, no_covers}
 use Rattle.rpy_meaning.specs.Operations.{op, builtin_classes}
@@ -123,6 +123,7 @@ module _ (p : Program) (watch : Watch) (prev : Sem) where
   abbrev mutual
     pub value : Covers → Expr → Eval Value
     value c (Local i) = local i
+    value c (Constant v) = pure v
     value c (Apply o es) = values c es >>= perform c o
     value c (And a b) = do
       x ← value c a

@@ -7,6 +7,8 @@ use Rattle.rpy_meaning.specs.declared.row.RowOp.{RowOp}
 mutual
   pub data Expr : Type 0 where
     Local : ℕ → Expr
+    -- a constant of a module or class, or a function by its name
+    Constant : Value → Expr
     Apply : RowOp → Exprs → Expr
     And : Expr → Expr → Expr
     Or : Expr → Expr → Expr
