@@ -17,9 +17,9 @@ use Rattle.rpy_meaning.specs.World.{World, Op, Answer, Enters, bad, give, throw,
 use Rattle.rpy_meaning.specs.Classes.{named, with_name, is_below, method_of, first_attributes}
 use Rattle.rpy_meaning.specs.Compare.{equal, identical, less, truth, is_among}
 use Rattle.rpy_meaning.specs.Arithmetic.{unary, checked_neg, checked, least, greatest, on_word}
-use Rattle.rpy_meaning.specs.Sequences.{tuple, new_tuple, index, store_index, delete_index, slice, all_but_last, binary, add_to, has_part, is_in_object, items_of}
+use Rattle.rpy_meaning.specs.Sequences.{tuple, new_tuple, index, store_index, delete_index, slice, all_but_last, binary, add_to, is_in_object, items_of}
 use Rattle.rpy_meaning.specs.Walks.{walk, has_item, item, advance}
-use Rattle.rpy_meaning.specs.Methods.{text_methods, list_methods, dict_methods, len, ord, chr, to_text, to_word}
+use Rattle.rpy_meaning.specs.Methods.{place_of, text_methods, list_methods, dict_methods, len, ord, chr, to_text, to_word}
 
 -- ---- operands
 
@@ -46,7 +46,7 @@ opposite = option_map not
 
 -- `x in y`
 abbrev pub within : Covers → (Bool → Bool) → Value → Value → Op
-within c f (Text part) (Text bytes) = flag (f (has_part bytes part))
+within c f (Text part) (Text text) = flag (f (is_some (place_of part 0 text)))
 within c f x (Ref r) = at_object r (λ object. flag_if_any (option_map f (is_in_object x object)))
 within c f x (Tuple vs) = flag (f (is_among x (items_of vs)))
 within c f x Nothing = attribute_error c

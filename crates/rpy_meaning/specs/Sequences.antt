@@ -176,11 +176,7 @@ abbrev pub add_to : Covers → Value → Value → Op
 add_to c (Ref r) (Ref s) = extend r s (Ref r)
 add_to c x y = plus c x y
 
--- ---- membership
-
-abbrev pub has_part : List ℕ → List ℕ → Bool
-has_part bytes [] = starts_with nat_eq [] bytes
-has_part bytes (b ∷ rest) = if starts_with nat_eq (b ∷ rest) bytes then true else has_part bytes rest
+-- ---- items
 
 abbrev pub is_in_object : Value → Option Object → Option Bool
 is_in_object v (Some (Listed vs)) = Some (is_among v vs)
