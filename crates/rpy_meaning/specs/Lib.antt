@@ -7,6 +7,7 @@ pub mod Meaning
 pub mod Methods
 pub mod Moments
 pub mod Operations
+pub mod Resolved
 pub mod Sequences
 pub mod Tree
 pub mod Walks
