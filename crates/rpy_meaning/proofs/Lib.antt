@@ -1,2 +1,3 @@
 mod Build
+pub mod FirstPath
 mod Rows

@@ -3,6 +3,7 @@ pub mod Classes
 pub mod Compare
 pub mod Costs
 pub mod Evaluation
+pub mod FirstPath
 pub mod Meaning
 pub mod Methods
 pub mod Moments

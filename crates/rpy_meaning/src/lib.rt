@@ -2,6 +2,8 @@
 //! statements, calls and programs.
 #![tactic(auto)]
 
+mod laws;
 mod row;
 
+pub use laws::first_path_agrees;
 pub use row::{Covers, RowOp};

@@ -1,0 +1,14 @@
+// Laws of the meaning, over all programs, arguments and bounds.
+ghost use Rattle.std.specs.Prelude.{ℕ, List};
+ghost use Rattle.rpy_tree.specs.Pure as first;
+ghost use Rattle.rpy_tree.specs.Meaning as old;
+ghost use Rattle.rpy_meaning.specs.FirstPath.{program, Agrees};
+ghost use Rattle.rpy_meaning.specs.Meaning.{mean};
+
+/// A program whose statements bind names to sums, print sums and return one means what it means as
+/// a program of the whole language.
+#[tactic(auto, using(crate::proofs::FirstPath::agrees))]
+pub fn first_path_agrees()
+    ensures { (p : first.Program) (args : List (List ℕ)) (n : ℕ) → Agrees (old.mean p args n) (mean (program p) args n) }
+{
+}
