@@ -1,12 +1,11 @@
 -- Programs by words, for worked runs.
-use Rattle.std.specs.Prelude.{ℕ, ◌-◌, ◌++◌, false, ℤ, pos, negsuc, List, [], ◌∷◌, length, replicate, Option, Some, None, codes}
+use Rattle.std.specs.Prelude.{ℕ, ◌-◌, ◌++◌, false, pos, negsuc, List, [], ◌∷◌, replicate, Option, Some, None, codes}
 use Rattle.rpy_base.specs.declared.outcome.Outcome.{Outcome}
-use Rattle.rpy_tree.specs.Value.{Value}
 use Rattle.rpy_tree.specs.declared.syntax.BinOp.{BinOp}
 use Rattle.rpy_tree.specs.declared.syntax.CmpOp.{CmpOp}
 use Rattle.rpy_meaning.specs.declared.row.RowOp.{RowOp}
 use Rattle.rpy_meaning.specs.declared.row.RowOp.TheVariants as row
-use Rattle.rpy_meaning.specs.Tree.{Expr, Local, Apply, Exprs, none, more, Pairs, no_pairs, pair, Target, Name, Parts, Targets, no_targets, more_targets, Stmt, Do, Assign, Block, done, line, Clauses, no_clauses, clause, Function, Class, Program}
+use Rattle.rpy_meaning.specs.Tree.{Expr, Apply, Exprs, none, more, Pairs, no_pairs, pair, Target, Name, Targets, no_targets, more_targets, Stmt, Do, Assign, Block, done, line, Function, Class, Program}
 use Rattle.rpy_meaning.specs.Meaning.{Run, mean}
 
 -- ---- lists of parts

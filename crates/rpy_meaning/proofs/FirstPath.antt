@@ -1,7 +1,6 @@
 -- A program of the first path means what it means as a program of the whole language.
 use Rattle.std.proofs.Common.{◌≡◌, ℕ, zero, suc, ◌+◌, ◌-◌, List, [], ◌∷◌, ◌++◌, Bool, true, false, Some, None, refl, sym, ap, ◌∙◌, subst, Option}
-use Rattle.std.specs.Prelude.{ℤ, map, replicate, slice_get, slice_set, option_map, nat_lt, if◌then◌else◌, length}
-use Rattle.rpy_base.specs.declared.outcome.Outcome.TheVariants as outcome
+use Rattle.std.specs.Prelude.{map, replicate, slice_get, slice_set, option_map, nat_lt, if◌then◌else◌}
 use Rattle.rpy_tree.specs.declared.syntax.BinOp.{BinOp}
 use Rattle.rpy_tree.specs.declared.syntax.BinOp.TheVariants.{Add, Sub, Mul}
 use Rattle.rpy_tree.specs.Pure as first
@@ -10,7 +9,7 @@ use Rattle.rpy_tree.specs.Value.{Value, Heap}
 use Rattle.rpy_tree.specs.Meaning as old
 use Rattle.rpy_meaning.specs.declared.row.Covers.{Covers}
 use Rattle.rpy_meaning.specs.declared.row.RowOp.TheVariants as row
-use Rattle.rpy_meaning.specs.Tree.{Program, Exprs, more, none}
+use Rattle.rpy_meaning.specs.Tree.{Program}
 use Rattle.rpy_meaning.specs.Classes.{no_covers}
 use Rattle.rpy_meaning.specs.Evaluation.{State, Ending, Done, Raised, Failed, Running, Wrong, Eval, Flow, Next, Returned, next_or, then_go, add_held, bound, leaving, wrong}
 use Rattle.rpy_meaning.specs.Operations.{write_if_any}
@@ -116,7 +115,7 @@ module _ (H : Heap) (p : Program) (prev : Sem) (c : Covers) where
   -- the second operand, while the first is held
   second_operand : (op : BinOp) (x : Value) (m : old.Ending Value) (e : Ending Value) → Matches shift m e
       → Matches shift (old.then_go (old.add_roots (x ∷ []) m) (λ y. old.binary op x y))
-        (then_go (then_go (add_held (shift x ∷ []) (then_go e (λ y s. Done (y ∷ []) s))) (λ ys s. Done (shift x ∷ ys) s)) (perform p unwatched prev c (row.Binary op None)))
+      (then_go (then_go (add_held (shift x ∷ []) (then_go e (λ y s. Done (y ∷ []) s))) (λ ys s. Done (shift x ∷ ys) s)) (perform p unwatched prev c (row.Binary op None)))
   second_operand op x (old.Done y s) e h =
       subst (λ e. Matches shift (old.binary op x y s)
       (then_go (then_go (add_held (shift x ∷ []) (then_go e (λ y s. Done (y ∷ []) s))) (λ ys s. Done (shift x ∷ ys) s)) (perform p unwatched prev c (row.Binary op None))))
@@ -246,7 +245,7 @@ module _ (q : first.Program) where
 
   task_shown : (args : List (List ℕ)) (n left : ℕ) (f : first.Function)
       → Shows (old.then_go (old.with_locals (old.block f.body (begun args left f))) (λ flow. old.pure (old.result_of flow)))
-        (leaving [] (v.Ref 13 ∷ []) None (within whole unwatched n (Body (path.block f.body)) (framed args left f (replicate (f.locals - 1) None))))
+      (leaving [] (v.Ref 13 ∷ []) None (within whole unwatched n (Body (path.block f.body)) (framed args left f (replicate (f.locals - 1) None))))
   task_shown args zero left f =
       body_shown (objects args) (old.block f.body (begun args left f)) _ [] (v.Ref 13 ∷ [])
       (subst (λ ls. Matches (objects args) whole (λ _. wrong) no_covers shift_flow (old.block f.body (begun args left f)) (block whole unwatched (λ asked. wrong) no_covers (path.block f.body) (framed args left f ls)))
@@ -265,7 +264,7 @@ module _ (q : first.Program) where
 
   call_shown : (args : List (List ℕ)) (n : ℕ) (f : Option first.Function)
       → Shows (old.call f (v.Ref 0 ∷ []) (old.start args n))
-        (called whole unwatched (within whole unwatched n) (option_map path.function f) (v.Ref 13 ∷ []) None (start whole args n 0))
+      (called whole unwatched (within whole unwatched n) (option_map path.function f) (v.Ref 13 ∷ []) None (start whole args n 0))
   call_shown args n None = tt
   call_shown args n (Some f) = entry_shown (nat_lt n 1) _ _ _ _ _ _ _ _ refl (task_shown args n (n - 1) f)
 

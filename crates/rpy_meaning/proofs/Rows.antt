@@ -1,17 +1,17 @@
 -- Worked runs, which compute.
 use Rattle.std.proofs.Common.{◌≡◌, ℕ, List, [], ◌∷◌, Some, None, codes, refl}
-use Rattle.std.specs.Prelude.{ℤ, pos, negsuc, true, false}
+use Rattle.std.specs.Prelude.{pos, true, false}
 use Rattle.std.specs.Fmt.{digits}
 use Rattle.std.specs.Int.{int_wrap}
 use Rattle.rpy_base.specs.declared.outcome.Outcome.TheVariants.{Returned, Raised, Failed, Running}
 use Rattle.rpy_base.specs.declared.outcome.FailName.TheVariants as fail
-use Rattle.rpy_tree.specs.declared.syntax.BinOp.TheVariants.{Add, Sub, Mul, FloorDiv, Mod}
+use Rattle.rpy_tree.specs.declared.syntax.BinOp.TheVariants.{Add, FloorDiv, Mod}
 use Rattle.rpy_tree.specs.declared.syntax.CmpOp.TheVariants.{Lt, Gt}
 use Rattle.rpy_meaning.specs.declared.row.RowOp.TheVariants as row
-use Rattle.rpy_meaning.specs.Tree.{Expr, Local, Apply, Display, Over, Name, Item, Parts, no_targets, more_targets, Stmt, Pass, Return, Do, Assign, Augment, If, While, For, Try, Finally, done, no_clauses, clause, Program}
+use Rattle.rpy_meaning.specs.Tree.{Local, Display, Over, Name, Item, Parts, no_targets, more_targets, Return, Do, Assign, Augment, If, While, For, Try, Finally, done, no_clauses, clause, Program}
 use Rattle.rpy_meaning.specs.Meaning.{mean}
 use Rattle.rpy_meaning.specs.Moments.{held_by, moment}
-use Rattle.rpy_meaning.proofs.Build.{exprs, lines, targets, pairs, num, minus, text, apply_one, apply_two, binary, compare, index, call, new, list, len, print, raise, set, function, program, alone, shown, running}
+use Rattle.rpy_meaning.proofs.Build.{lines, targets, pairs, num, minus, text, apply_one, apply_two, binary, compare, index, call, new, list, len, print, raise, set, function, program, alone, running}
 
 -- return 0
 returns : running (alone (Return (num 0) ∷ [])) 1 ≡ (Some (Returned (pos 0)), [], 0)
@@ -26,8 +26,8 @@ wraps = refl
 -- try: x = ovfcheck(9223372036854775807 + 1)
 overflows : running (alone (
     Try (lines (set 1 (apply_two (row.Checked Add) (num 9223372036854775807) (num 1)) ∷ []))
-        (clause (Some (3 ∷ [])) None (lines (print (text (codes "ovf") ∷ []) ∷ Return (num 1) ∷ [])) no_clauses)
-        done
+    (clause (Some (3 ∷ [])) None (lines (print (text (codes "ovf") ∷ []) ∷ Return (num 1) ∷ [])) no_clauses)
+    done
     ∷ Return (Local 1) ∷ [])) 1
     ≡ (Some (Returned (pos 1)), codes "ovf\n", 0)
 unfolding int_wrap
@@ -48,8 +48,8 @@ outside = refl
 outside_covered : running (alone (
     set 1 (list (num 1 ∷ num 2 ∷ []))
     ∷ Try (lines (print (index (Local 1) (num 5) ∷ []) ∷ []))
-        (clause (Some (6 ∷ [])) None (lines (print (text (codes "no") ∷ []) ∷ [])) no_clauses)
-        done
+    (clause (Some (6 ∷ [])) None (lines (print (text (codes "no") ∷ []) ∷ [])) no_clauses)
+    done
     ∷ Return (num 0) ∷ [])) 10
     ≡ (Some (Returned (pos 0)), codes "no\n", 6)
 outside_covered = refl
@@ -75,10 +75,10 @@ turns_not_paid = refl
 -- except ValueError: print 'caught'
 raises_in_arguments : running (program [] (
     function 1 1 (
-        Try (lines (Return (call 1 (apply_one row.ToStr (num 100) ∷ list (num 1 ∷ num 2 ∷ []) ∷ call 2 (num 1 ∷ []) ∷ [])) ∷ []))
-            (clause (Some (8 ∷ [])) None (lines (print (text (codes "caught") ∷ []) ∷ [])) no_clauses)
-            done
-        ∷ Return (num 0) ∷ [])
+    Try (lines (Return (call 1 (apply_one row.ToStr (num 100) ∷ list (num 1 ∷ num 2 ∷ []) ∷ call 2 (num 1 ∷ []) ∷ [])) ∷ []))
+    (clause (Some (8 ∷ [])) None (lines (print (text (codes "caught") ∷ []) ∷ [])) no_clauses)
+    done
+    ∷ Return (num 0) ∷ [])
     ∷ function 3 3 (Return (binary Add (binary Add (len (Local 0)) (len (Local 1))) (Local 2)) ∷ [])
     ∷ function 1 1 (If (compare Gt (Local 0) (num 0)) (lines (raise (new 8) ∷ [])) done ∷ Return (Local 0) ∷ [])
     ∷ [])) 10
@@ -95,7 +95,7 @@ ordered = alone (
     ∷ Do (apply_two row.DeleteIndex (Local 1) (text (codes "b")))
     ∷ Assign (more_targets (Item (Local 1) (text (codes "b"))) no_targets) (num 20)
     ∷ For (Parts (targets (Name 2 ∷ Name 3 ∷ []))) (Over 2 (apply_one (row.Method (codes "items") (Some 3)) (Local 1)))
-        (lines (print (Local 2 ∷ Local 3 ∷ []) ∷ []))
+    (lines (print (Local 2 ∷ Local 3 ∷ []) ∷ []))
     ∷ Return (len (Local 1)) ∷ [])
 
 keeps_order : running ordered 16 ≡ (Some (Returned (pos 3)), codes "a 10\nc 3\nb 20\n", 0)

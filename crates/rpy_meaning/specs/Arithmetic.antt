@@ -1,5 +1,5 @@
 -- Operations on words. Each gives its true result, wrapped; `ovfcheck` raises where wrapping would change it.
-use Rattle.std.specs.Prelude.{ℕ, ◌^◌, ℤ, pos, negsuc, ◌+ℤ◌, ◌-ℤ◌, ◌*ℤ◌, neg_ℤ, nat_abs, int_lt, int_le, ◌||◌, ◌&&◌, not, Bool, true, false, if◌then◌else◌}
+use Rattle.std.specs.Prelude.{◌^◌, ℤ, pos, ◌+ℤ◌, ◌-ℤ◌, ◌*ℤ◌, neg_ℤ, nat_abs, int_lt, int_le, ◌&&◌, if◌then◌else◌}
 use Rattle.std.specs.Int.{w64, int_bit_and, int_bit_or, int_bit_xor}
 use Rattle.std.specs.Ordering.{int_eq}
 use Rattle.rpy_base.specs.Word.{wrap, floor_quotient, floor_rest, times_power}

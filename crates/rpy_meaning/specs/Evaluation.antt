@@ -1,5 +1,5 @@
 -- Evaluations: what they begin with, how they end, and how one follows another.
-use Rattle.std.specs.Prelude.{ℕ, zero, suc, ◌-◌, nat_lt, Bool, true, false, List, [], ◌∷◌, ◌++◌, slice_get, slice_set, Option, Some, None, unwrap_or, if◌then◌else◌}
+use Rattle.std.specs.Prelude.{ℕ, ◌-◌, nat_lt, Bool, List, [], ◌∷◌, ◌++◌, slice_get, slice_set, Option, Some, None, unwrap_or, if◌then◌else◌}
 use Rattle.rpy_base.specs.declared.outcome.FailName.{FailName}
 use Rattle.rpy_tree.specs.Value.{Value, Nothing, Ref}
 use Rattle.rpy_meaning.specs.World.{World}

@@ -1,10 +1,10 @@
 -- Programs of one function whose statements bind names to sums, print sums and return one, as programs of the whole language.
-use Rattle.std.specs.Prelude.{◌≡◌, ℕ, List, [], ◌∷◌, map, Option, Some, None, Bool, false}
+use Rattle.std.specs.Prelude.{◌≡◌, ℕ, List, [], ◌∷◌, map, Option, Some, None, false}
 use Rattle.rpy_base.specs.declared.outcome.Outcome.{Outcome}
 use Rattle.rpy_tree.specs.Pure as first
 use Rattle.rpy_tree.specs.Meaning.{Meant}
 use Rattle.rpy_meaning.specs.declared.row.RowOp.TheVariants as row
-use Rattle.rpy_meaning.specs.Tree.{Expr, Local, Apply, Exprs, none, more, Target, Name, no_targets, more_targets, Stmt, Return, Do, Assign, Block, done, line, Function, Program}
+use Rattle.rpy_meaning.specs.Tree.{Expr, Local, Apply, Exprs, none, more, Name, no_targets, more_targets, Stmt, Return, Do, Assign, Block, done, line, Function, Program}
 use Rattle.rpy_meaning.specs.Meaning.{Run}
 
 abbrev pub expr : first.Expr → Expr

@@ -1,8 +1,8 @@
 -- What a program means, by recursion on the steps left and, within a step, on the tree.
-use Rattle.std.specs.Prelude.{ℕ, zero, suc, ◌+◌, ◌-◌, ℤ, pos, Bool, true, false, List, [], ◌∷◌, ◌++◌, length, map, replicate, count_by, filter_map, slice_get, Option, Some, None, is_some, if◌then◌else◌}
+use Rattle.std.specs.Prelude.{ℕ, zero, suc, ◌-◌, ℤ, pos, Bool, true, List, [], ◌∷◌, ◌++◌, length, map, replicate, filter_map, slice_get, Option, Some, None, if◌then◌else◌}
 use Rattle.rpy_base.specs.declared.outcome.Outcome.{Outcome}
 use Rattle.rpy_base.specs.declared.outcome.Outcome.TheVariants as outcome
-use Rattle.rpy_tree.specs.Value.{Value, Word, Text, Ref, Object, Listed, Mapped, Instance, Heap}
+use Rattle.rpy_tree.specs.Value.{Value, Word, Text, Ref, Object, Listed, Instance, Heap}
 use Rattle.rpy_meaning.specs.declared.row.Covers.{Covers}
 use Rattle.rpy_meaning.specs.declared.row.RowOp.{RowOp}
 use Rattle.rpy_meaning.specs.declared.row.RowOp.TheVariants as row
@@ -11,7 +11,7 @@ use Rattle.rpy_meaning.specs.Tree.{Expr, Local, Constant, Apply, And, Or, Displa
 use Rattle.rpy_meaning.specs.World.{World, Answer, Gives, Throws, Fails, Lacks, Enters, Bad}
 use Rattle.rpy_meaning.specs.Classes.{takes, covers_within, no_covers}
 use Rattle.rpy_meaning.specs.Operations.{op, builtin_classes}
-use Rattle.rpy_meaning.specs.Evaluation.{State, Ending, Done, Raised, Failed, Running, Wrong, Eval, then_go, ◌>>=◌, ◌>>◌, pure, raised, wrong, holding, pay, local, set_local, set_local_if_any, is_so, Flow, Next, Broken, Continued, Returned, next_or, after_turn, finally, leaving, parameters}
+use Rattle.rpy_meaning.specs.Evaluation.{State, Ending, Done, Raised, Failed, Running, Wrong, Eval, ◌>>=◌, ◌>>◌, pure, raised, wrong, holding, pay, local, set_local, set_local_if_any, is_so, Flow, Next, Broken, Continued, Returned, next_or, after_turn, finally, leaving, parameters}
 
 -- a walk under way: its step where it is over a range, what is walked, and the place
 pub record Walking : Type 0 where
@@ -115,8 +115,8 @@ module _ (p : Program) (watch : Watch) (prev : Sem) where
     holding (v ∷ []) (bind v)
     wanted ← condition
     if wanted
-      then (do x ← item; operate (x ∷ []) c row.AddItem (list ∷ x ∷ []); pure Next)
-      else pure Next
+        then (do x ← item; operate (x ∷ []) c row.AddItem (list ∷ x ∷ []); pure Next)
+        else pure Next
 
   -- ---- expressions
 
@@ -237,8 +237,8 @@ module _ (p : Program) (watch : Watch) (prev : Sem) where
   loop test body rest = do
     go ← test
     if go
-      then (do perform no_covers row.Turn []; flow ← body; after_turn flow rest)
-      else pure Next
+        then (do perform no_covers row.Turn []; flow ← body; after_turn flow rest)
+        else pure Next
 
   -- each item is held until it is bound
   abbrev pub each_item : (Value → Eval (Unit {0})) → Eval Flow → Value → Eval Flow

@@ -1,18 +1,17 @@
 -- The methods of strings, lists and dicts, and conversions of values.
-use Rattle.std.specs.Prelude.{ℕ, zero, suc, ◌+◌, ◌-◌, min, ℤ, pos, negsuc, int_le, nat_lt, nat_le, nat_eq, ◌==◌, ◌&&◌, ◌||◌, not, Bool, true, false, List, [], ◌∷◌, ◌++◌, length, map, insert, remove, reverse, sum_by, Option, Some, None, unwrap_or, if◌then◌else◌, codes}
+use Rattle.std.specs.Prelude.{ℕ, suc, min, ℤ, pos, negsuc, nat_lt, nat_le, nat_eq, ◌&&◌, ◌||◌, Bool, true, false, List, [], ◌∷◌, ◌++◌, length, map, insert, remove, reverse, sum_by, Option, Some, None, unwrap_or, if◌then◌else◌, codes}
 use Rattle.std.specs.List.{slice_split, starts_with, ends_with, join_by, list_all}
 use Rattle.std.specs.Str.Parse.{without_leading_sign, signed_digits_value}
 use Rattle.std.specs.Fmt.{signed_decimal}
 use Rattle.std.specs.Ordering.{int_eq}
 use Rattle.rpy_base.specs.Word.{wrap}
 use Rattle.rpy_base.specs.Number.{blank, trimmed}
-use Rattle.rpy_tree.specs.Value.{Value, Word, Flag, Text, Nothing, Tuple, Ref, Object, Listed, Mapped, Instance}
+use Rattle.rpy_tree.specs.Value.{Value, Word, Flag, Text, Nothing, Tuple, Ref, Object, Listed, Mapped}
 use Rattle.rpy_meaning.specs.declared.row.Covers.{Covers}
 use Rattle.rpy_meaning.specs.Costs.{append_cost, split_cost, keys_cost, items_cost}
-use Rattle.rpy_meaning.specs.World.{Op, bad, give, flag, paying, new_object, set_object, at_object, with_list, new_text, new_list, index_error, value_error, attribute_error, negative_slice, no_number, if_some}
+use Rattle.rpy_meaning.specs.World.{Op, bad, give, flag, paying, new_object, set_object, at_object, with_list, new_text, index_error, value_error, attribute_error, negative_slice, no_number, if_some}
 use Rattle.rpy_meaning.specs.Sequences.{place, item_at, value_at, items_of, byte, tuple, extend}
 use Rattle.rpy_meaning.specs.Walks.{keys_of}
-use Rattle.rpy_meaning.specs.Classes.{named}
 
 -- ---- strings
 

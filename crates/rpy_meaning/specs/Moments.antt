@@ -1,10 +1,10 @@
 -- How a run ends, as far as it is compared, and how much it holds at each of its moments.
-use Rattle.std.specs.Prelude.{◌≡◌, ℕ, zero, suc, ◌+◌, ◌^◌, ◌<◌, nat_le, List, length, filter, sum_by, Option, Some}
+use Rattle.std.specs.Prelude.{◌≡◌, ℕ, zero, suc, ◌+◌, ◌^◌, ◌<◌, nat_le, List, length, filter, sum_by, Some}
 use Rattle.rpy_base.specs.declared.outcome.Outcome.{Outcome}
 use Rattle.rpy_tree.specs.Value.{Value, Heap}
 use Rattle.rpy_tree.specs.Held.{refs, texts, values_at, held_objects}
 use Rattle.rpy_meaning.specs.Tree.{Program}
-use Rattle.rpy_meaning.specs.Evaluation.{State, Ending, Done, Running, Eval}
+use Rattle.rpy_meaning.specs.Evaluation.{Done, Running, Eval}
 use Rattle.rpy_meaning.specs.Meaning.{Run, Watch, prebuilt, run}
 
 -- a run ends so, with this output

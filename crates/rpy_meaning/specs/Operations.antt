@@ -1,7 +1,6 @@
 -- What each operation does with its operands, in a program and where these classes are covered.
-use Rattle.std.specs.Prelude.{ℕ, ◌+◌, ◌==◌, nat_lt, ℤ, pos, Bool, true, false, not, List, [], ◌∷◌, ◌++◌, length, take, count_by, slice_get, Option, Some, None, is_some, option_map, if◌then◌else◌, codes}
+use Rattle.std.specs.Prelude.{ℕ, ◌+◌, ◌==◌, nat_lt, pos, Bool, false, not, List, [], ◌∷◌, ◌++◌, length, take, count_by, slice_get, Option, Some, None, is_some, option_map, if◌then◌else◌, codes}
 use Rattle.std.specs.Ordering.{int_eq}
-use Rattle.std.specs.List.{filter_map}
 use Rattle.rpy_tree.specs.declared.program.Const.{Const, fold-Const}
 use Rattle.rpy_tree.specs.declared.program.Const.TheOpen.{Const-F}
 use Rattle.rpy_tree.specs.declared.syntax.CmpOp.{CmpOp}
@@ -12,8 +11,8 @@ use Rattle.rpy_meaning.specs.declared.row.Covers.{Covers}
 use Rattle.rpy_meaning.specs.declared.row.RowOp.{RowOp}
 use Rattle.rpy_meaning.specs.declared.row.RowOp.TheVariants as row
 use Rattle.rpy_meaning.specs.Costs.{instance_cost, dict_cost, comprehension_cost, item_cost, turn_cost}
-use Rattle.rpy_meaning.specs.Tree.{Program, Class}
-use Rattle.rpy_meaning.specs.World.{World, Op, Answer, Enters, bad, give, throw, flag, flag_if_any, write, paying, new_object, set_object, at_object, with_list, new_list, attribute_error, if_some}
+use Rattle.rpy_meaning.specs.Tree.{Program}
+use Rattle.rpy_meaning.specs.World.{World, Op, Enters, bad, give, throw, flag, flag_if_any, write, paying, new_object, set_object, at_object, with_list, new_list, attribute_error, if_some}
 use Rattle.rpy_meaning.specs.Classes.{named, with_name, is_below, method_of, first_attributes}
 use Rattle.rpy_meaning.specs.Compare.{equal, identical, less, truth, is_among}
 use Rattle.rpy_meaning.specs.Arithmetic.{unary, checked_neg, checked, least, greatest, on_word}

@@ -1,5 +1,5 @@
 -- The program that modules with bound names are, as its meaning sees it.
-use Rattle.std.specs.Prelude.{ℕ, zero, suc, ◌+◌, ◌==◌, ◌&&◌, ◌||◌, nat_lt, max, Bool, true, false, ℤ, pos, List, [], ◌∷◌, ◌++◌, length, map, take, sum_by, zip, slice_get, Option, Some, None, is_some, unwrap_or, option_map, if◌then◌else◌, codes}
+use Rattle.std.specs.Prelude.{ℕ, suc, ◌+◌, ◌==◌, ◌&&◌, ◌||◌, nat_lt, max, Bool, true, false, ℤ, pos, List, [], ◌∷◌, ◌++◌, map, zip, slice_get, Option, Some, None, is_some, unwrap_or, option_map, if◌then◌else◌, codes}
 use Rattle.std.specs.List.{flat_map, list_any}
 use Rattle.std.specs.Ordering.{int_eq}
 use Rattle.rpy_tree.specs.declared.syntax.UnOp.TheVariants as un
@@ -14,8 +14,7 @@ use Rattle.rpy_tree.specs.declared.syntax.Stmt.TheOpen.{Stmt-F, Clause-F}
 use Rattle.rpy_tree.specs.declared.syntax.Param.{Param}
 use Rattle.rpy_tree.specs.declared.syntax.Function as def
 use Rattle.rpy_tree.specs.declared.syntax.Member as part
-use Rattle.rpy_tree.specs.declared.syntax.Member.TheOpen.{Member-F, ClassDef-F}
-use Rattle.rpy_tree.specs.declared.syntax.ClassDef as body
+use Rattle.rpy_tree.specs.declared.syntax.Member.TheOpen.{Member-F}
 use Rattle.rpy_tree.specs.declared.syntax.Module.{Module}
 use Rattle.rpy_tree.specs.declared.program.Builtin.{Builtin}
 use Rattle.rpy_tree.specs.declared.program.Builtin.TheVariants as builtin

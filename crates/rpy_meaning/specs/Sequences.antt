@@ -1,12 +1,12 @@
 -- Operations on strings, lists, dicts and tuples.
-use Rattle.std.specs.Prelude.{ℕ, ◌-◌, suc, ℤ, pos, negsuc, int_le, nat_abs, nat_lt, nat_eq, Bool, true, false, ◌&&◌, not, List, [], ◌∷◌, ◌++◌, length, map, take, drop, slice_get, slice_set, remove, Option, Some, None, option_and_then, option_map, unwrap_or, if◌then◌else◌}
-use Rattle.std.specs.List.{repeat, starts_with, list_any}
+use Rattle.std.specs.Prelude.{ℕ, ◌-◌, suc, ℤ, pos, negsuc, int_le, nat_abs, nat_lt, Bool, true, false, ◌&&◌, List, [], ◌∷◌, ◌++◌, length, take, drop, slice_get, slice_set, remove, Option, Some, None, option_and_then, if◌then◌else◌}
+use Rattle.std.specs.List.{repeat, list_any}
 use Rattle.rpy_tree.specs.declared.syntax.BinOp.{BinOp}
 use Rattle.rpy_tree.specs.declared.syntax.BinOp.TheVariants.{Add, Mul}
-use Rattle.rpy_tree.specs.Value.{Value, Word, Text, Nothing, Tuple, Ref, Values, none, more, Object, Listed, Mapped, Instance}
+use Rattle.rpy_tree.specs.Value.{Value, Word, Text, Nothing, Tuple, Ref, Values, none, more, Object, Listed, Mapped}
 use Rattle.rpy_meaning.specs.declared.row.Covers.{Covers}
-use Rattle.rpy_meaning.specs.Costs.{tuple_cost, extend_cost, dict_cost, key_cost, item_cost, comprehension_cost}
-use Rattle.rpy_meaning.specs.World.{Op, bad, give, flag, paying, new_object, set_object, at_object, with_list, new_text, new_list, index_error, attribute_error, negative_slice, no_key, if_some}
+use Rattle.rpy_meaning.specs.Costs.{tuple_cost, extend_cost, key_cost}
+use Rattle.rpy_meaning.specs.World.{Op, bad, give, paying, set_object, at_object, with_list, new_text, new_list, index_error, attribute_error, negative_slice, no_key, if_some}
 use Rattle.rpy_meaning.specs.Compare.{is_equal, is_among}
 use Rattle.rpy_meaning.specs.Arithmetic.{word, on_word, on_words, arithmetic}
 

@@ -1,7 +1,7 @@
 -- Walks over strings, lists, dicts and ranges. A walk over a value has the value and a place, so items that are added meanwhile are seen;
 -- one over a range, by its step, has the end and the next number.
-use Rattle.std.specs.Prelude.{ℕ, ℤ, pos, negsuc, ◌+ℤ◌, int_lt, nat_lt, Bool, List, [], ◌∷◌, length, map, slice_get, Option, Some, None, if◌then◌else◌}
-use Rattle.rpy_tree.specs.Value.{Value, Word, Text, Nothing, Ref, Object, Listed, Mapped, Instance}
+use Rattle.std.specs.Prelude.{ℕ, ℤ, pos, ◌+ℤ◌, int_lt, nat_lt, Bool, List, length, map, slice_get, Option, Some, None, if◌then◌else◌}
+use Rattle.rpy_tree.specs.Value.{Value, Word, Text, Nothing, Ref, Object, Listed, Mapped}
 use Rattle.rpy_meaning.specs.declared.row.Covers.{Covers}
 use Rattle.rpy_meaning.specs.Costs.{keys_cost}
 use Rattle.rpy_meaning.specs.World.{Op, bad, give, flag, paying, new_object, at_object, with_list, attribute_error, if_some}

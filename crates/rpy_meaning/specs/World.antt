@@ -2,7 +2,7 @@
 use Rattle.std.specs.Prelude.{ℕ, ◌-◌, nat_lt, Bool, true, false, List, [], ◌∷◌, ◌++◌, length, slice_get, slice_set, Option, Some, None, if◌then◌else◌}
 use Rattle.rpy_base.specs.declared.outcome.FailName.{FailName}
 use Rattle.rpy_base.specs.declared.outcome.FailName.TheVariants as fail
-use Rattle.rpy_tree.specs.Value.{Value, Flag, Text, Nothing, Ref, Object, Listed, Mapped, Instance, Heap}
+use Rattle.rpy_tree.specs.Value.{Value, Flag, Text, Ref, Object, Listed, Heap}
 use Rattle.rpy_meaning.specs.declared.row.Covers.{Covers}
 use Rattle.rpy_meaning.specs.Costs.{text_cost, list_cost}
 

@@ -10,5 +10,4 @@ ghost use Rattle.rpy_meaning.specs.Meaning.{mean};
 #[tactic(auto, using(crate::proofs::FirstPath::agrees))]
 pub fn first_path_agrees()
     ensures { (p : first.Program) (args : List (List ℕ)) (n : ℕ) → Agrees (old.mean p args n) (mean (program p) args n) }
-{
-}
+{}
