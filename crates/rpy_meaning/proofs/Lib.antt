@@ -1,3 +1,4 @@
 mod Build
 pub mod FirstPath
+pub mod Lawful
 mod Rows

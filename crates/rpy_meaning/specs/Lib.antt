@@ -4,6 +4,7 @@ pub mod Compare
 pub mod Costs
 pub mod Evaluation
 pub mod FirstPath
+pub mod Laws
 pub mod Meaning
 pub mod Methods
 pub mod Moments

@@ -2,12 +2,26 @@
 ghost use Rattle.std.specs.Prelude.{ℕ, List};
 ghost use Rattle.rpy_tree.specs.Pure as first;
 ghost use Rattle.rpy_tree.specs.Meaning as old;
+ghost use Rattle.rpy_tree.specs.Value.{Value};
+ghost use Rattle.rpy_meaning.specs.Tree.{Program};
+ghost use Rattle.rpy_meaning.specs.Laws.{IsLawful};
+ghost use Rattle.rpy_meaning.specs.Operations.{op};
 ghost use Rattle.rpy_meaning.specs.FirstPath.{program, Agrees};
 ghost use Rattle.rpy_meaning.specs.Meaning.{mean};
+
+use crate::row::{Covers, RowOp};
+
+/// No operation adds steps, and none takes an object away.
+#[tactic(auto, using(crate::proofs::Lawful::lawful))]
+pub fn operations_are_lawful()
+    ensures { (p : Program) (c : Covers) (o : RowOp) (vs : List Value) → IsLawful (op p c o vs) }
+{
+}
 
 /// A program whose statements bind names to sums, print sums and return one means what it means as
 /// a program of the whole language.
 #[tactic(auto, using(crate::proofs::FirstPath::agrees))]
 pub fn first_path_agrees()
     ensures { (p : first.Program) (args : List (List ℕ)) (n : ℕ) → Agrees (old.mean p args n) (mean (program p) args n) }
-{}
+{
+}

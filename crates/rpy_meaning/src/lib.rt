@@ -5,5 +5,5 @@
 mod laws;
 mod row;
 
-pub use laws::first_path_agrees;
+pub use laws::{first_path_agrees, operations_are_lawful};
 pub use row::{Covers, RowOp};
