@@ -1,4 +1,5 @@
 mod Build
+mod Closed
 pub mod FirstPath
 pub mod Lawful
 mod Rows
