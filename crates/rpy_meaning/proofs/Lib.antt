@@ -2,4 +2,5 @@ mod Build
 mod Closed
 pub mod FirstPath
 pub mod Lawful
+pub mod Steady
 mod Rows
