@@ -1,6 +1,7 @@
 mod Build
 mod Closed
 pub mod FirstPath
+pub mod Bound
 pub mod Lawful
 pub mod Steady
 mod Rows

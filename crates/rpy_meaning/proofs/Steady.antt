@@ -12,7 +12,7 @@ use Rattle.rpy_meaning.specs.Operations.{op}
 use Rattle.rpy_meaning.proofs.Closed.{Closed, op_ok}
 
 -- no more steps are none
-none_more : (w : World) → with_more 0 w ≡ w
+pub none_more : (w : World) → with_more 0 w ≡ w
 none_more w = ap (λ n. record w { left = n }) (omega arith)
 
 paid_more : (cost : ℕ) (go : Op) → IsSteady go → (k : ℕ) (w : World) (b : Bool) → nat_lt w.left cost ≡ b

@@ -1,4 +1,5 @@
 pub mod Arithmetic
+pub mod Bounds
 pub mod Classes
 pub mod Compare
 pub mod Costs

@@ -287,9 +287,7 @@ module _ (p : Program) (watch : Watch) (prev : Sem) where
     pub handle : Covers → Clauses → ℕ → Eval Flow
     handle c no_clauses r = raised r
     handle c (clause classes name body rest) r = λ s.
-        if takes p.classes classes (class_in s.world r)
-        then (set_local_if_any name (Ref r) >> block c body) s
-        else handle c rest r s
+        (if takes p.classes classes (class_in s.world r) then set_local_if_any name (Ref r) >> block c body else handle c rest r) s
 
   abbrev pub task : Task → Eval Flow
   task (Body b) = block no_covers b

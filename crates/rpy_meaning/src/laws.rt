@@ -1,11 +1,12 @@
 // Laws of the meaning, over all programs, arguments and bounds.
-ghost use Rattle.std.specs.Prelude.{ℕ, List};
+ghost use Rattle.std.specs.Prelude.{ℕ, ◌+◌, List};
 ghost use Rattle.rpy_tree.specs.Pure as first;
 ghost use Rattle.rpy_tree.specs.Meaning as old;
 ghost use Rattle.rpy_tree.specs.Value.{Value};
 ghost use Rattle.rpy_meaning.specs.Tree.{Program};
 ghost use Rattle.rpy_meaning.specs.Laws.{IsLawful};
 ghost use Rattle.rpy_meaning.specs.Operations.{op};
+ghost use Rattle.rpy_meaning.specs.Bounds.{EndsAlike};
 ghost use Rattle.rpy_meaning.specs.FirstPath.{program, Agrees};
 ghost use Rattle.rpy_meaning.specs.Meaning.{mean};
 
@@ -15,6 +16,14 @@ use crate::row::{Covers, RowOp};
 #[tactic(auto, using(crate::proofs::Lawful::lawful))]
 pub fn operations_are_lawful()
     ensures { (p : Program) (c : Covers) (o : RowOp) (vs : List Value) → IsLawful (op p c o vs) }
+{
+}
+
+/// A bound only stops a run: with more steps it ends the same, unless it was still running. So the
+/// levels of the meaning, which the bound counts, show nowhere.
+#[tactic(auto, using(crate::proofs::Bound::bound_stops))]
+pub fn a_bound_only_stops()
+    ensures { (p : Program) (args : List (List ℕ)) (n k : ℕ) → EndsAlike k (mean p args n) (mean p args (n + k)) }
 {
 }
 
