@@ -330,9 +330,25 @@ module _ (L : Op → Type 0) (closed : Closed L) where
 
   text_method_ok : (name text : List ℕ) (args : List Value) → L (if_some bad (named name text_methods) (λ f. f text args))
   text_method_ok name text args =
-      named_ok (λ f. f text args) name text_methods
-      (join_ok text args, (split_ok text args, (find_ok text args, (begins_ok text args, (ends_ok text args, (strip_ok text args,
-      (is_byte_ok _ text args, (is_byte_ok _ text args, (is_byte_ok _ text args, tt)))))))))
+      named_ok (λ f. f text args) name text_methods (
+        join_ok text args,
+        (
+          split_ok text args,
+          (
+            find_ok text args,
+            (
+              begins_ok text args,
+              (
+                ends_ok text args,
+                (
+                  strip_ok text args,
+                  (is_byte_ok _ text args, (is_byte_ok _ text args, (is_byte_ok _ text args, tt))),
+                ),
+              ),
+            ),
+          ),
+        ),
+      )
 
   list_method_ok : (c : Covers) (name : List ℕ) (r : ℕ) (vs args : List Value) → L (if_some bad (named name (list_methods c)) (λ f. f r vs args))
   list_method_ok c name r vs args =
@@ -424,7 +440,6 @@ module _ (L : Op → Type 0) (closed : Closed L) where
   add_item_ok : (x v : Value) → L (add_item x v)
   add_item_ok (Ref r) v = with_list_ok (λ vs. paying_ok _ set_object_ok)
   add_item_ok x v = bad_ok
-
 
   module _ (p : Program) (c : Covers) where
     -- ---- attributes, classes and calls
@@ -570,4 +585,3 @@ module _ (L : Op → Type 0) (closed : Closed L) where
     op_ok row.FalseNone = with_one_ok gives
     op_ok (row.Lower d) = with_one_ok gives
     op_ok row.NonNegative = with_two_ok (λ x y. give_ok)
-

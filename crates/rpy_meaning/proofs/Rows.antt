@@ -5,13 +5,14 @@ use Rattle.std.specs.Fmt.{digits}
 use Rattle.std.specs.Int.{int_wrap}
 use Rattle.rpy_base.specs.declared.outcome.Outcome.TheVariants.{Returned, Raised, Failed, Running}
 use Rattle.rpy_base.specs.declared.outcome.FailName.TheVariants as fail
-use Rattle.rpy_tree.specs.declared.syntax.BinOp.TheVariants.{Add, FloorDiv, Mod}
+use Rattle.rpy_tree.specs.declared.syntax.BinOp.TheVariants.{Add, Mul, FloorDiv, Mod}
 use Rattle.rpy_tree.specs.declared.syntax.CmpOp.TheVariants.{Lt, Gt}
 use Rattle.rpy_meaning.specs.declared.row.RowOp.TheVariants as row
-use Rattle.rpy_meaning.specs.Tree.{Local, Display, Over, Name, Item, Parts, no_targets, more_targets, Return, Do, Assign, Augment, If, While, For, Try, Finally, done, no_clauses, clause, Program}
+use Rattle.rpy_tree.specs.Value.{Text, Fun, Ref, Mapped}
+use Rattle.rpy_meaning.specs.Tree.{Expr, Local, Constant, Apply, Display, Comprehension, none, Over, UpTo, Where, Name, Attribute, Item, Parts, no_targets, more_targets, Stmt, Return, Do, Assign, Augment, If, While, For, Try, Finally, Block, done, line, no_clauses, clause, Class, Program}
 use Rattle.rpy_meaning.specs.Meaning.{mean}
 use Rattle.rpy_meaning.specs.Moments.{held_by, moment}
-use Rattle.rpy_meaning.proofs.Build.{lines, targets, pairs, num, minus, text, apply_one, apply_two, binary, compare, index, call, new, list, len, print, raise, set, function, program, alone, running}
+use Rattle.rpy_meaning.proofs.Build.{exprs, lines, targets, pairs, num, minus, text, apply_one, apply_two, binary, compare, index, call, new, list, len, print, raise, set, function, builtins, program, alone, running}
 
 -- return 0
 returns : running (alone (Return (num 0) ∷ [])) 1 ≡ (Some (Returned (pos 0)), [], 0)
@@ -143,7 +144,79 @@ held_at_end : held_by looping (mean looping args 13) ≡ 0
 unfolding looping args int_wrap
 held_at_end = refl
 
--- at the eighth moment, after `[0, 0]` is made, there is a list that no local has
-held_by_result : held_by looping (moment looping args 13 16) ≡ 3
-unfolding looping args int_wrap
-held_by_result = refl
+-- each moment of `return [1, 2]`, up to the end, which is no moment of its own: before the entry, at each operation and its result
+made : Program
+made = alone (Do (list (num 1 ∷ num 2 ∷ [])) ∷ Return (num 0) ∷ [])
+
+-- before the display is paid, the two words and the list of arguments are held
+held_before_list : held_by made (moment made args 9 5) ≡ 2
+unfolding made args
+held_before_list = refl
+
+-- after it the list is held that no local has
+held_after_list : held_by made (moment made args 9 6) ≡ 3
+unfolding made args
+held_after_list = refl
+
+-- past the last moment stands the run's end
+held_past_the_end : held_by made (moment made args 9 100) ≡ 0
+unfolding made args
+held_past_the_end = refl
+
+-- class N: `__init__` sets o to None
+-- a = N(); b = N(); a.o = b; and, where there is a ring, b.o = a
+node : Class
+node = record { name = codes "a.N"; base = None; constants = []; methods = (codes "__init__", 1) ∷ [] }
+
+set_attribute : Expr → List ℕ → Expr → Stmt
+set_attribute e name v = Assign (more_targets (Attribute e name) no_targets) v
+
+linked : Block → Program
+linked ring = program (node ∷ []) (
+    record {
+      defaults = None ∷ [];
+      takes_more = false;
+      locals = 3;
+      body = line (set 1 (new 13)) (line (set 2 (new 13)) (line (set_attribute (Local 1) (codes "o") (Local 2)) ring));
+    }
+    ∷ function 1 1 (set_attribute (Local 0) (codes "o") (Apply row.None none) ∷ [])
+    ∷ [])
+
+ring : Program
+ring = linked (line (set_attribute (Local 2) (codes "o") (Local 1)) (line (Return (num 0)) done))
+
+-- the two instances of the ring are held after the end
+ring_is_held : held_by ring (mean ring args 5) ≡ 2
+unfolding ring linked set_attribute node args
+ring_is_held = refl
+
+chain_is_not_held : held_by (linked (line (Return (num 0)) done)) (mean (linked (line (Return (num 0)) done)) args 5) ≡ 0
+unfolding linked set_attribute node args
+chain_is_not_held = refl
+
+-- def f(a): return a
+-- TABLE = {'f': f}
+-- h = TABLE['f']; return h(1)
+table : Program
+table = record {
+  functions =
+      function 1 2 (set 1 (index (Constant (Ref 13)) (text (codes "f"))) ∷ Return (Apply row.CallValue (exprs (Local 1 ∷ num 1 ∷ []))) ∷ [])
+      ∷ function 1 1 (Return (Local 0) ∷ []) ∷ [];
+  classes = builtins;
+  sites = None ∷ Some (Mapped ((Text (codes "f"), Fun 1) ∷ [])) ∷ [];
+  entry = 0;
+}
+
+calls_what_a_table_holds : running table 2 ≡ (Some (Returned (pos 1)), [], 0)
+unfolding table
+calls_what_a_table_holds = refl
+
+-- print [x * x for x in range(5) if x > 2]: two items are added
+squares : Program
+squares = alone (
+    set 1 (Comprehension 1 (binary Mul (Local 2) (Local 2)) (Name 2) (UpTo (num 5)) (Where (compare Gt (Local 2) (num 2))))
+    ∷ print (index (Local 1) (num 0) ∷ index (Local 1) (minus 1) ∷ []) ∷ Return (len (Local 1)) ∷ [])
+
+adds_items : running squares 9 ≡ (Some (Returned (pos 2)), codes "9 16\n", 0)
+unfolding squares digits int_wrap
+adds_items = refl

@@ -1,8 +1,9 @@
 -- How a run ends, as far as it is compared, and how much it holds at each of its moments.
-use Rattle.std.specs.Prelude.{◌≡◌, ℕ, zero, suc, ◌+◌, ◌^◌, ◌<◌, nat_le, List, length, filter, sum_by, Some}
+use Rattle.std.specs.Prelude.{◌≡◌, ℕ, zero, suc, ◌+◌, ◌-◌, ◌^◌, ◌<◌, ◌≤◌, List, length, filter, sum_by, Some}
+use Rattle.std.specs.List.{range_with_len}
 use Rattle.rpy_base.specs.declared.outcome.Outcome.{Outcome}
 use Rattle.rpy_tree.specs.Value.{Value, Heap}
-use Rattle.rpy_tree.specs.Held.{refs, texts, values_at, held_objects}
+use Rattle.rpy_tree.specs.Held.{refs, texts, values_at, is_among, held_objects}
 use Rattle.rpy_meaning.specs.Tree.{Program}
 use Rattle.rpy_meaning.specs.Evaluation.{Done, Running, Eval}
 use Rattle.rpy_meaning.specs.Meaning.{Run, Watch, prebuilt, run}
@@ -19,7 +20,7 @@ Same r q = (r.outcome ≡ q.outcome) × (r.world.out ≡ q.world.out)
 
 -- the objects that can be reached from the roots or from an object on a cycle, but for those that are there from the start
 abbrev pub counted : ℕ → List Value → Heap → List ℕ
-counted prebuilt roots heap = filter (nat_le prebuilt) (held_objects roots heap)
+counted prebuilt roots heap = filter (λ n. is_among n (held_objects roots heap)) (range_with_len prebuilt (length heap - prebuilt))
 
 -- what the values in the roots and in these objects weigh together, each as often as it stands
 abbrev pub weight : (Value → ℕ) → ℕ → List Value → Heap → ℕ
@@ -38,6 +39,10 @@ held_by p r = held (length (prebuilt p)) r.held r.world.heap
 
 abbrev pub references_of : Program → Run → ℕ
 references_of p r = references (length (prebuilt p)) r.held r.world.heap
+
+-- these values hold no more than those: whatever each value weighs
+abbrev pub NoMore : List Value → List Value → Type 0
+NoMore vs us = (f : Value → ℕ) → sum_by f vs ≤ sum_by f us
 
 -- ---- moments
 

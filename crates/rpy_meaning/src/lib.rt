@@ -5,5 +5,7 @@
 mod laws;
 mod row;
 
-pub use laws::{a_bound_only_stops, first_path_agrees, operations_are_lawful};
+pub use laws::{
+    a_bound_only_stops, fewer_roots_hold_no_more, first_path_agrees, operations_are_lawful,
+};
 pub use row::{Covers, RowOp};
