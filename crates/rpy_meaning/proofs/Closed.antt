@@ -24,7 +24,7 @@ use Rattle.rpy_meaning.specs.Arithmetic.{word, word_that_fits, divided, shifted,
 use Rattle.rpy_base.specs.Number.{trimmed}
 use Rattle.rpy_meaning.specs.Sequences.{place, item_at, new_tuple, index_object, index, store_object, store_index, delete_object, delete_index, Cut, part, part_between, between, is_bound, slice, but_last, plus, times, binary, extend, add_to, is_in_object}
 use Rattle.rpy_meaning.specs.Walks.{walk_object, walk, has_item, item, advance}
-use Rattle.rpy_meaning.specs.Methods.{TextMethod, texts_of, join, split, find, begins, ends, strip, is_byte, text_methods, append, insert_at, extend_by, turn_round, taken_out, pop, list_methods, get, keys, values, items, dict_methods, object_length, len, ord, chr, to_text, number, to_word}
+use Rattle.rpy_meaning.specs.Methods.{TextMethod, texts_of, join, split, find, begins, ends, strip, is_byte, text_methods, append, insert_at, extend_by, reverse_list, taken_out, pop, list_methods, get, keys, values, items, dict_methods, object_length, len, ord, chr, to_text, number, to_word}
 use Rattle.rpy_meaning.specs.Operations.{with_none, with_one, with_two, with_three, within, compare, write_if_any, os_write, unpack, add_item, read_attribute, attribute, set_attribute, store_attribute, is_instance_object, is_instance, raise_object, raise, initialised, new_instance, new, call_value, object_method, method, op}
 
 -- A property that holds of the simplest operations, and of each that is built of operations with it, holds of all.
@@ -285,9 +285,9 @@ module _ (L : Op → Type 0) (closed : Closed L) where
   extend_by_ok c r vs (Nothing ∷ []) = none_ok c
   extend_by_ok c r vs args = bad_ok
 
-  turn_round_ok : (r : ℕ) (vs args : List Value) → L (turn_round r vs args)
-  turn_round_ok r vs [] = set_object_ok
-  turn_round_ok r vs args = bad_ok
+  reverse_list_ok : (r : ℕ) (vs args : List Value) → L (reverse_list r vs args)
+  reverse_list_ok r vs [] = set_object_ok
+  reverse_list_ok r vs args = bad_ok
 
   taken_out_ok : (c : Covers) (r : ℕ) (vs : List Value) (z : ℤ) → L (taken_out c r vs z)
   taken_out_ok c r vs z =
@@ -353,7 +353,7 @@ module _ (L : Op → Type 0) (closed : Closed L) where
   list_method_ok : (c : Covers) (name : List ℕ) (r : ℕ) (vs args : List Value) → L (if_some bad (named name (list_methods c)) (λ f. f r vs args))
   list_method_ok c name r vs args =
       named_ok (λ f. f r vs args) name (list_methods c)
-      (append_ok r vs args, (insert_ok r vs args, (extend_by_ok c r vs args, (turn_round_ok r vs args, (pop_ok c r vs args, tt)))))
+      (append_ok r vs args, (insert_ok r vs args, (extend_by_ok c r vs args, (reverse_list_ok r vs args, (pop_ok c r vs args, tt)))))
 
   dict_method_ok : (name : List ℕ) (pairs : List (Value × Value)) (args : List Value) → L (if_some bad (named name dict_methods) (λ f. f pairs args))
   dict_method_ok name pairs args =

@@ -110,9 +110,9 @@ extend_by c r vs (Ref s ∷ []) = extend r s Nothing
 extend_by c r vs (Nothing ∷ []) = attribute_error c
 extend_by c r vs args = bad
 
-abbrev pub turn_round : ListMethod
-turn_round r vs [] = set_object r (Listed (reverse vs)) Nothing
-turn_round r vs args = bad
+abbrev pub reverse_list : ListMethod
+reverse_list r vs [] = set_object r (Listed (reverse vs)) Nothing
+reverse_list r vs args = bad
 
 abbrev pub taken_out : Covers → ℕ → List Value → ℤ → Op
 taken_out c r vs z =
@@ -128,7 +128,7 @@ list_methods c =
     (codes "append", append)
     ∷ (codes "insert", insert_at)
     ∷ (codes "extend", extend_by c)
-    ∷ (codes "reverse", turn_round)
+    ∷ (codes "reverse", reverse_list)
     ∷ (codes "pop", pop c)
     ∷ []
 

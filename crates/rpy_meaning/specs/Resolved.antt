@@ -32,14 +32,17 @@ use Rattle.rpy_meaning.specs.Tree.{Expr, Local, Constant, Apply, And, Or, Displa
 use Rattle.rpy_meaning.specs.Classes.{named, no_covers}
 use Rattle.rpy_meaning.specs.Methods.{text_methods, list_methods, dict_methods}
 use Rattle.rpy_meaning.specs.Operations.{constant}
+use Rattle.rpy_meaning.specs.Meaning.{Run, mean}
 
 -- what the names of a function's text stand for, by the nodes of its module
 pub record Names : Type 0 where
   pub meant : ℕ → Use
   pub value : Const → Value
-  -- the sites at a node, of what the node makes and of its walk
-  pub site : ℕ → ℕ
+  -- the site of what a node makes, if it is one, and that of its walk
+  pub site : ℕ → Option ℕ
   pub walk : ℕ → ℕ
+  -- the value of the constant expression at a node: a default, or the step of a range
+  pub constant : ℕ → Value
   -- some class, or strings, lists or dicts, have a method of this name
   pub is_method : List ℕ → Bool
   -- the classes in the head of a clause, and the local that it binds
@@ -165,13 +168,13 @@ abbrev pub values_of : List Part → Exprs
 values_of parts = exprs (map value_of parts)
 
 module _ (names : Names) where
-  abbrev pub site_at : ℕ → Option ℕ
-  site_at n = Some (names.site n)
+  abbrev pub made_at : ℕ → ℕ
+  made_at n = unwrap_or (names.site n) 0
 
   -- the site of a sum or product
   abbrev pub binary_of : ℕ → BinOp → RowOp
-  binary_of n bin.Add = row.Binary bin.Add (site_at n)
-  binary_of n bin.Mul = row.Binary bin.Mul (site_at n)
+  binary_of n bin.Add = row.Binary bin.Add (names.site n)
+  binary_of n bin.Mul = row.Binary bin.Mul (names.site n)
   binary_of n op = row.Binary op None
 
   abbrev pub named_value : Use → Expr
@@ -197,19 +200,15 @@ module _ (names : Names) where
   builtin_call builtin.Ovfcheck (a ∷ []) = checked_of (value_of a)
   builtin_call other args = applied (builtin_op other) (values_of args)
 
-  -- the third argument of a range is a constant, which stands at its node
+  -- the step of a range, which is a constant
   abbrev pub step_of : Value → ℤ
   step_of (Word z) = z
   step_of other = pos 1
 
-  abbrev pub constant_at : Use → Value
-  constant_at (use_of.Value a) = names.value a
-  constant_at other = Word (pos 1)
-
   abbrev pub range_of : List Part → Option Subject
   range_of (a ∷ []) = Some (UpTo (value_of a))
   range_of (a ∷ b ∷ []) = Some (FromTo (value_of a) (value_of b) (pos 1))
-  range_of (a ∷ b ∷ s ∷ []) = Some (FromTo (value_of a) (value_of b) (step_of (constant_at (names.meant (node_of s.0)))))
+  range_of (a ∷ b ∷ s ∷ []) = Some (FromTo (value_of a) (value_of b) (step_of (names.constant (node_of s.0))))
   range_of other = None
 
   abbrev pub range_call : Use → List Part → Option Subject
@@ -233,7 +232,7 @@ module _ (names : Names) where
   abbrev pub method_call : Use → ℕ → List ℕ → syntax.Expr → Expr → List Part → Expr
   method_call use_of.Nothing n name before callee args =
       if names.is_method name
-      then method_of (row.Method name (site_at n)) callee (values_of args)
+      then method_of (row.Method name (names.site n)) callee (values_of args)
       else Apply row.CallValue (more callee (values_of args))
   method_call other n name before callee args = named_call other (class_named (names.meant (node_of before))) callee args
 
@@ -264,12 +263,12 @@ module _ (names : Names) where
   expr_step (Expr-F.Call n callee args) = call_of n callee args
   expr_step (Expr-F.Expr::Attr n a name) = said (attribute_value (names.meant n) (value_of a) name)
   expr_step (Expr-F.Index n a i) = said (two_of (row.Index (literal_of (value_of i))) (value_of a) (value_of i))
-  expr_step (Expr-F.Slice n a low high) = said (slice_of (names.site n) (value_of a) (option_map value_of low) (option_map value_of high))
+  expr_step (Expr-F.Slice n a low high) = said (slice_of (made_at n) (value_of a) (option_map value_of low) (option_map value_of high))
   expr_step (Expr-F.Expr::Tuple n items) = said (Apply row.Tuple (values_of items))
-  expr_step (Expr-F.List n items) = said (Apply (row.List (names.site n)) (values_of items))
-  expr_step (Expr-F.Dict n pairs) = said (Display (names.site n) (pairs_of (map (λ (p : Part × Part). (p.0.1, p.1.1)) pairs)))
+  expr_step (Expr-F.List n items) = said (Apply (row.List (made_at n)) (values_of items))
+  expr_step (Expr-F.Dict n pairs) = said (Display (made_at n) (pairs_of (map (λ (p : Part × Part). (p.0.1, p.1.1)) pairs)))
   expr_step (Expr-F.Comp n item target subject condition) =
-      said (Comprehension (names.site n) (value_of item) target.1 (subject_of (names.walk n) subject.1) (condition_of (option_map (λ (p : Part). p.1) condition)))
+      said (Comprehension (made_at n) (value_of item) target.1 (subject_of (names.walk n) subject.1) (condition_of (option_map (λ (p : Part). p.1) condition)))
 
   abbrev pub bound_name : Use → Target
   bound_name (use_of.Local i) = Name i
@@ -332,7 +331,7 @@ module _ (names : Names) where
 
   abbrev pub augmented : ℕ → BinOp → RowOp
   augmented n bin.Add = row.AddTo
-  augmented n bin.Mul = row.Binary bin.Mul (site_at n)
+  augmented n bin.Mul = row.Binary bin.Mul (names.site n)
   augmented n op = row.Binary op None
 
   abbrev pub if_of : List (syntax.Expr × List Block) → List Block → Block
@@ -376,7 +375,7 @@ module _ (names : Names) where
 
   abbrev pub default_of : Option syntax.Expr → Option Value
   default_of None = None
-  default_of (Some e) = Some (constant_at (names.meant (node_of e)))
+  default_of (Some e) = Some (names.constant (node_of e))
 
   abbrev pub function_by : FunInfo → def.Function → Function
   function_by info f = record {
@@ -421,13 +420,18 @@ builtin_names =
     ∷ codes "NotImplementedError"
     ∷ []
 
-module _ (p : tree.Program) (caught : ℕ → List ℕ) (bound : ℕ → Option ℕ) where
-  -- what there is beside the names: the classes of clauses and the locals that they bind, by the nodes of the program
+-- what a program says beside the names, by its nodes: the classes in the head of a clause, the local that it binds, and the value of a
+-- default or of the step of a range
+pub record Further : Type 0 where
+  pub caught : ℕ → List ℕ
+  pub bound : ℕ → Option ℕ
+  pub constant : ℕ → Const
 
+module _ (p : tree.Program) (further : Further) where
   -- the first site at a node, from this one on
-  abbrev pub site_from : ℕ → List Site → ℕ → ℕ
-  site_from i [] n = 0
-  site_from i (s ∷ sites) n = if (s.node == n) && nat_lt 0 i then i else site_from (suc i) sites n
+  abbrev pub site_from : ℕ → List Site → ℕ → Option ℕ
+  site_from i [] n = None
+  site_from i (s ∷ sites) n = if (s.node == n) && nat_lt 0 i then Some i else site_from (suc i) sites n
 
   -- a site that makes something comes before that of a walk
   abbrev pub walk_from : ℕ → List Site → ℕ → ℕ
@@ -440,11 +444,11 @@ module _ (p : tree.Program) (caught : ℕ → List ℕ) (bound : ℕ → Option 
   items_of_site true (Some pairs) value = Some (Mapped (map (λ (q : Const × Const). (value q.0, value q.1)) pairs))
 
   -- where the objects of sites stand is known before what they hold
-  abbrev pub made_at : Site → Option Object
-  made_at s = option_map (λ pairs. Listed []) s.prebuilt
+  abbrev pub empty_at : Site → Option Object
+  empty_at s = option_map (λ pairs. Listed []) s.prebuilt
 
   abbrev pub value_in : Const → Value
-  value_in = constant (map made_at p.sites)
+  value_in = constant (map empty_at p.sites)
 
   abbrev pub object_at : Site → Option Object
   object_at s = items_of_site s.dict s.prebuilt value_in
@@ -468,8 +472,9 @@ module _ (p : tree.Program) (caught : ℕ → List ℕ) (bound : ℕ → Option 
     site = λ n. site_from 0 p.sites (first + n);
     walk = λ n. walk_from 0 p.sites (first + n);
     is_method = is_method;
-    caught = λ n. caught (first + n);
-    bound = λ n. bound (first + n);
+    caught = λ n. further.caught (first + n);
+    bound = λ n. further.bound (first + n);
+    constant = λ n. value_in (further.constant (first + n));
   }
 
   -- each function with the names of its module
@@ -499,3 +504,7 @@ module _ (p : tree.Program) (caught : ℕ → List ℕ) (bound : ℕ → Option 
     sites = map object_at p.sites;
     entry = p.entry;
   }
+
+  -- what the program means, with arguments and a bound on steps
+  abbrev pub program_means : List (List ℕ) → ℕ → Run
+  program_means args n = mean program_of args n
