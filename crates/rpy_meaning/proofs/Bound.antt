@@ -1,23 +1,22 @@
 -- With more steps, and at a higher level, a run ends the same, unless it was still running.
-use Rattle.std.proofs.Common.{◌≡◌, ℕ, zero, suc, ◌+◌, ◌-◌, ◌<◌, ◌≤◌, List, [], ◌∷◌, ◌++◌, Bool, true, false, Some, None, Option, refl, sym, ap, ◌∙◌, subst, arith}
-use Rattle.std.specs.Prelude.{length, map, replicate, slice_get, nat_lt, if◌then◌else◌}
+use Rattle.std.proofs.Common.{◌≡◌, ℕ, zero, suc, ◌+◌, ◌-◌, ◌<◌, ◌≤◌, List, [], ◌∷◌, Bool, true, false, Some, None, Option, refl, sym, ap, ◌∙◌, subst, arith}
+use Rattle.std.specs.Prelude.{length, slice_get, nat_lt, if◌then◌else◌}
 use Rattle.std.proofs.Math.Nat.{le_refl}
 use Rattle.std.proofs.lemmas.Bool.{ltb-false, le-ltb}
-use Rattle.rpy_base.specs.declared.outcome.FailName.{FailName}
 use Rattle.rpy_base.specs.declared.outcome.Outcome.{Outcome}
 use Rattle.rpy_base.specs.declared.outcome.Outcome.TheVariants as outcome
-use Rattle.std.specs.Prelude.{ℤ, pos}
-use Rattle.rpy_tree.specs.Value.{Value, Word, Nothing, Ref, Object, Heap}
+use Rattle.std.specs.Prelude.{ℤ}
+use Rattle.rpy_tree.specs.Value.{Value, Nothing, Ref}
 use Rattle.rpy_meaning.specs.declared.row.Covers.{Covers}
 use Rattle.rpy_meaning.specs.declared.row.RowOp.{RowOp}
 use Rattle.rpy_meaning.specs.declared.row.RowOp.TheVariants as row
 use Rattle.rpy_meaning.specs.Tree.{Expr, Local, Constant, Apply, And, Or, Display, Comprehension, Exprs, none, more, Pairs, no_pairs, pair, Subject, Over, UpTo, FromTo, Condition, Always, Where, Target, Name, Attribute, Item, Parts, Targets, no_targets, more_targets, Stmt, Pass, Break, Continue, Return, Do, Assign, Augment, If, While, For, Try, Finally, Block, done, line, Clauses, no_clauses, clause, Function, Program}
-use Rattle.rpy_meaning.specs.World.{World, Answer, Gives, Throws, Fails, Lacks, Enters, Bad}
-use Rattle.rpy_meaning.specs.Laws.{with_more, SameWithMore, IsLater, OnLater}
+use Rattle.rpy_meaning.specs.World.{Answer, Gives, Throws, Fails, Lacks, Enters, Bad}
+use Rattle.rpy_meaning.specs.Laws.{with_more, SameWithMore, OnLater}
 use Rattle.rpy_meaning.specs.Operations.{op}
 use Rattle.rpy_meaning.specs.Classes.{takes, covers_within, no_covers}
 use Rattle.rpy_meaning.specs.Evaluation.{State, Ending, Done, Raised, Failed, Running, Wrong, Eval, then_go, ◌>>=◌, ◌>>◌, pure, raised, wrong, holding, add_held, pay, bound, local, set_local, set_local_if_any, known, is_so, Flow, Next, Broken, Continued, Returned, next_or, after_turn, pending, finally, leaving, parameters}
-use Rattle.rpy_meaning.specs.Meaning.{Sem, Task, Body, Loop, Turns, Gather, Walking, walk_holds, unwatched, frame, entered, called, answered, operate, perform, on_walk, turn, turns, gather, value, values, store_pairs, begin, keeps, bind, bind_parts, target_count, assign, augment, loop, each_item, tried, statement, block, handle, task, within, class_in, start, over, returned, name_of, ended, run, mean, prebuilt}
+use Rattle.rpy_meaning.specs.Meaning.{Sem, Task, Body, Loop, Turns, Gather, Walking, walk_holds, unwatched, frame, entered, called, answered, operate, perform, on_walk, turn, turns, gather, value, values, store_pairs, begin, keeps, bind, bind_parts, target_count, assign, augment, loop, each_item, tried, statement, block, handle, task, within, class_in, start, over, returned, name_of, ended, mean, prebuilt}
 use Rattle.rpy_meaning.specs.Bounds.{EndsAlike}
 use Rattle.rpy_meaning.proofs.Lawful.{lawful}
 use Rattle.rpy_meaning.proofs.Steady.{none_more, steady}

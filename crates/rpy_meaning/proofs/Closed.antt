@@ -1,30 +1,26 @@
 -- Induction over operations.
-use Rattle.std.proofs.Common.{◌≡◌, ℕ, zero, suc, ◌+◌, ◌-◌, ◌≤◌, List, [], ◌∷◌, ◌++◌, Bool, true, false, Some, None, Option, refl, sym, ap, ◌∙◌, subst, arith}
-use Rattle.std.specs.Prelude.{ℤ, pos, negsuc, length, map, nat_lt, slice_get, remove, option_map, not, if◌then◌else◌, codes}
+use Rattle.std.proofs.Common.{ℕ, List, [], ◌∷◌, ◌++◌, Bool, true, false, Some, None, Option}
+use Rattle.std.specs.Prelude.{ℤ, pos, negsuc, length, slice_get, remove, option_map, not, if◌then◌else◌, codes}
 use Rattle.std.specs.List.{join_by}
 use Rattle.std.specs.Str.{bytes_eq}
-use Rattle.std.proofs.Math.Nat.{le_refl}
-use Rattle.std.proofs.lemmas.List.{length-set}
-use Rattle.std.proofs.Math.ListN.{length-append}
 use Rattle.rpy_base.specs.declared.outcome.FailName.{FailName}
-use Rattle.rpy_tree.specs.declared.syntax.UnOp.{UnOp}
 use Rattle.rpy_tree.specs.declared.syntax.BinOp.{BinOp}
-use Rattle.rpy_tree.specs.declared.syntax.BinOp.TheVariants.{Add, Sub, Mul, Div, FloorDiv, Mod, Shl, Shr, BitAnd, BitOr, BitXor}
+use Rattle.rpy_tree.specs.declared.syntax.BinOp.TheVariants.{Add, Mul, Div, FloorDiv, Mod, Shl, Shr}
 use Rattle.rpy_tree.specs.declared.syntax.CmpOp.{CmpOp}
 use Rattle.rpy_tree.specs.declared.syntax.CmpOp.TheVariants.{Lt, Le, Gt, Ge, Eq, Ne, Within, NotWithin, Is, IsNot}
-use Rattle.rpy_tree.specs.Value.{Value, Word, Flag, Text, Nothing, Tuple, Fun, Ref, Values, Object, Listed, Mapped, Instance, Heap}
+use Rattle.rpy_tree.specs.Value.{Value, Word, Flag, Text, Nothing, Tuple, Fun, Ref, Object, Listed, Mapped, Instance, Heap}
 use Rattle.rpy_meaning.specs.declared.row.Covers.{Covers}
 use Rattle.rpy_meaning.specs.declared.row.RowOp.{RowOp}
 use Rattle.rpy_meaning.specs.declared.row.RowOp.TheVariants as row
 use Rattle.rpy_meaning.specs.Tree.{Program}
 use Rattle.rpy_meaning.specs.Compare.{truth}
 use Rattle.rpy_meaning.specs.Classes.{named, method_of, first_attributes}
-use Rattle.rpy_meaning.specs.World.{World, Op, Answer, Gives, Throws, Fails, Lacks, Enters, Bad, bad, give, throw, flag, flag_if_any, paying, write, new_object, set_object, at_object, on_list, with_list, new_text, new_list, failure, index_error, division_error, value_error, attribute_error, negative_slice, if_some}
-use Rattle.rpy_meaning.specs.Arithmetic.{word, word_that_fits, divided, shifted, arithmetic, result, on_word, on_words, unary, checked_neg, checked, least, greatest}
+use Rattle.rpy_meaning.specs.World.{Op, Fails, Enters, bad, give, throw, flag_if_any, paying, write, new_object, set_object, at_object, on_list, with_list, new_text, new_list, failure, index_error, attribute_error, negative_slice, if_some}
+use Rattle.rpy_meaning.specs.Arithmetic.{word, word_that_fits, arithmetic, on_word, on_words}
 use Rattle.rpy_base.specs.Number.{trimmed}
-use Rattle.rpy_meaning.specs.Sequences.{place, item_at, new_tuple, index_object, index, store_object, store_index, delete_object, delete_index, Cut, part, part_between, between, is_bound, slice, but_last, plus, times, binary, extend, add_to, is_in_object}
+use Rattle.rpy_meaning.specs.Sequences.{place, item_at, index_object, index, store_object, store_index, delete_object, delete_index, Cut, part, part_between, between, slice, but_last, plus, times, binary, extend, add_to, is_in_object}
 use Rattle.rpy_meaning.specs.Walks.{walk_object, walk, has_item, item, advance}
-use Rattle.rpy_meaning.specs.Methods.{TextMethod, texts_of, join, split, find, begins, ends, strip, is_byte, text_methods, append, insert_at, extend_by, reverse_list, taken_out, pop, list_methods, get, keys, values, items, dict_methods, object_length, len, ord, chr, to_text, number, to_word}
+use Rattle.rpy_meaning.specs.Methods.{texts_of, join, split, find, begins, ends, strip, is_byte, text_methods, append, insert_at, extend_by, reverse_list, taken_out, pop, list_methods, get, keys, values, items, dict_methods, object_length, len, ord, chr, to_text, number, to_word}
 use Rattle.rpy_meaning.specs.Operations.{with_none, with_one, with_two, with_three, within, compare, write_if_any, os_write, unpack, add_item, read_attribute, attribute, set_attribute, store_attribute, is_instance_object, is_instance, raise_object, raise, initialised, new_instance, new, call_value, object_method, method, op}
 
 -- A property that holds of the simplest operations, and of each that is built of operations with it, holds of all.

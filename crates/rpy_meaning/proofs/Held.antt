@@ -1,12 +1,12 @@
 -- Roots that hold no more reach no more.
-use Rattle.std.proofs.Common.{◌≡◌, ℕ, zero, suc, ◌+◌, ◌-◌, ◌<◌, ◌≤◌, List, [], ◌∷◌, ◌++◌, Bool, true, false, refl, sym, ap, ◌∙◌, subst, arith, length, ◌⊎◌, inl, inr}
+use Rattle.std.proofs.Common.{◌≡◌, ℕ, zero, suc, ◌+◌, ◌-◌, ◌≤◌, List, [], ◌∷◌, ◌++◌, Bool, true, false, refl, sym, ap, subst, arith, length, ◌⊎◌, inl, inr}
 use Rattle.std.proofs.lemmas.Bool.{eqb-true, eq-eqb}
 use Rattle.std.proofs.lemmas.List.Sums.{sum_by-cons}
 use Rattle.std.specs.Prelude.{◌==◌, ◌||◌, sum_by, filter, if◌then◌else◌}
 use Rattle.std.specs.List.{flat_map, range_with_len}
 use Rattle.rpy_tree.specs.Value.{Value, Heap}
 use Rattle.rpy_tree.specs.Held.{refs, texts, values_at, is_among, with_next, spread, reached, on_cycles, held_objects}
-use Rattle.rpy_meaning.specs.Moments.{counted, weight, held, references, NoMore}
+use Rattle.rpy_meaning.specs.Moments.{weight, held, references, NoMore}
 
 abbrev In : ℕ → List ℕ → Type 0
 In n xs = is_among n xs ≡ true

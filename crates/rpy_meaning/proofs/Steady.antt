@@ -1,13 +1,13 @@
 -- With more steps each operation answers the same, unless it lacked steps.
-use Rattle.std.proofs.Common.{◌≡◌, ℕ, ◌+◌, ◌-◌, ◌≤◌, List, [], ◌∷◌, ◌++◌, Bool, true, false, Some, None, Option, refl, sym, ap, ◌∙◌, subst, arith}
+use Rattle.std.proofs.Common.{◌≡◌, ℕ, ◌+◌, ◌-◌, ◌≤◌, List, [], ◌∷◌, ◌++◌, Bool, true, false, refl, sym, ap, ◌∙◌, subst, arith}
 use Rattle.std.specs.Prelude.{length, nat_lt, if◌then◌else◌}
 use Rattle.std.proofs.lemmas.Bool.{ltb-false, le-ltb}
-use Rattle.rpy_tree.specs.Value.{Value, Ref, Object, Heap}
+use Rattle.rpy_tree.specs.Value.{Value, Ref}
 use Rattle.rpy_meaning.specs.declared.row.Covers.{Covers}
 use Rattle.rpy_meaning.specs.declared.row.RowOp.{RowOp}
 use Rattle.rpy_meaning.specs.Tree.{Program}
 use Rattle.rpy_meaning.specs.Laws.{with_more, SameWithMore, IsSteady}
-use Rattle.rpy_meaning.specs.World.{World, Op, Answer, Gives, Throws, Fails, Lacks, Enters, Bad, paying}
+use Rattle.rpy_meaning.specs.World.{World, Op, Lacks, paying}
 use Rattle.rpy_meaning.specs.Operations.{op}
 use Rattle.rpy_meaning.proofs.Closed.{Closed, op_ok}
 

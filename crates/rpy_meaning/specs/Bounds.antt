@@ -1,5 +1,5 @@
 -- A bound on steps only stops a run: with more steps it ends the same, unless it was still running.
-use Rattle.std.specs.Prelude.{◌≡◌, ℕ, ◌+◌, Option, Some, None}
+use Rattle.std.specs.Prelude.{◌≡◌, ℕ, Option, Some, None}
 use Rattle.rpy_base.specs.declared.outcome.Outcome.{Outcome}
 use Rattle.rpy_base.specs.declared.outcome.Outcome.TheVariants as outcome
 use Rattle.rpy_meaning.specs.Laws.{with_more}
