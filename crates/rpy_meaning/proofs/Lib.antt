@@ -6,3 +6,4 @@ pub mod Held
 pub mod Lawful
 pub mod Steady
 mod Rows
+mod Sizes

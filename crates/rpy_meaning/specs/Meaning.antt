@@ -190,7 +190,7 @@ module _ (p : Program) (watch : Watch) (prev : Sem) where
       y ← holding (x ∷ []) (value c i)
       operate (x ∷ y ∷ []) c row.StoreIndex (x ∷ y ∷ v ∷ [])
       pure tt
-    bind c (Parts targets) v = bind_parts c (target_count targets) 0 targets v
+    bind c (Parts parts) v = bind_parts c (target_count parts) 0 parts v
 
     -- the targets from a place on take the items of a tuple
     pub bind_parts : Covers → ℕ → ℕ → Targets → Value → Eval (Unit {0})
@@ -228,7 +228,7 @@ module _ (p : Program) (watch : Watch) (prev : Sem) where
     new ← holding (x ∷ y ∷ []) (perform c o (old ∷ v ∷ []))
     perform c row.StoreIndex (x ∷ y ∷ new ∷ [])
     pure tt
-  augment c (Parts targets) o e = wrong
+  augment c (Parts parts) o e = wrong
 
   -- ---- statements
 
@@ -262,9 +262,9 @@ module _ (p : Program) (watch : Watch) (prev : Sem) where
       v ← value c e
       pure (Returned v)
     statement c (Do e) = value c e >> pure Next
-    statement c (Assign targets e) = do
+    statement c (Assign ts e) = do
       v ← value c e
-      holding (v ∷ []) (assign c targets v)
+      holding (v ∷ []) (assign c ts v)
       pure Next
     statement c (Augment target o e) = augment c target o e >> pure Next
     statement c (If e a b) = do

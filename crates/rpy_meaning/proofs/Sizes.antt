@@ -1,0 +1,33 @@
+-- How long lists and dicts are after an operation.
+use Rattle.std.proofs.Common.{◌≡◌, ℕ, zero, suc, ◌+◌, ◌-◌, ◌≤◌, List, [], ◌∷◌, ◌++◌, Bool, true, false, refl, sym, ap, ◌∙◌, subst, arith, length, min}
+use Rattle.std.specs.Prelude.{remove, insert, take, drop, ◌||◌, if◌then◌else◌}
+use Rattle.std.specs.List.{list_any}
+use Rattle.std.proofs.lemmas.List.{length-take}
+use Rattle.std.proofs.Math.ListN.{length-append, length-drop}
+use Rattle.rpy_tree.specs.Value.{Value}
+use Rattle.rpy_meaning.specs.Compare.{is_equal}
+use Rattle.rpy_meaning.specs.Sequences.{has_key, with_key, without_key}
+
+pub remove_size : (vs : List Value) (k : ℕ) → length (remove vs k) ≤ length vs
+remove_size vs k = rw (length-append (take k vs) (drop (suc k) vs), length-take k vs, length-drop (suc k) vs) (grind arith)
+
+pub insert_size : (vs : List Value) (k : ℕ) (v : Value) → length (insert vs k v) ≤ 1 + length vs
+insert_size vs k v = rw (length-append (take k vs) (v ∷ drop k vs), length-take k vs, length-drop k vs) (grind arith)
+
+pub with_key_size : (key v : Value) (pairs : List (Value × Value)) → length (with_key key v pairs) ≤ (if has_key key pairs then 0 else 1) + length pairs
+with_key_size key v [] = omega arith
+with_key_size key v (p ∷ pairs) = step (is_equal p.0 key) (has_key key pairs) (with_key_size key v pairs)
+  where
+    step : (a b : Bool) → length (with_key key v pairs) ≤ (if b then 0 else 1) + length pairs
+        → length (if a then (p.0, v) ∷ pairs else p ∷ with_key key v pairs) ≤ (if a || b then 0 else 1) + length (p ∷ pairs)
+    step true b le = omega arith
+    step false true le = omega (arith, le)
+    step false false le = omega (arith, le)
+
+pub without_key_size : (key : Value) (pairs : List (Value × Value)) → length (without_key key pairs) ≤ length pairs
+without_key_size key [] = omega arith
+without_key_size key (p ∷ pairs) = step (is_equal p.0 key) (without_key_size key pairs)
+  where
+    step : (a : Bool) → length (without_key key pairs) ≤ length pairs → length (if a then pairs else p ∷ without_key key pairs) ≤ length (p ∷ pairs)
+    step true le = omega arith
+    step false le = omega (arith, le)
