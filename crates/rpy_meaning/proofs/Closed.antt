@@ -1,7 +1,9 @@
 -- Induction over operations.
-use Rattle.std.proofs.Common.{ℕ, List, [], ◌∷◌, ◌++◌, Bool, true, false, Some, None, Option}
-use Rattle.std.specs.Prelude.{ℤ, pos, negsuc, length, slice_get, remove, option_map, not, if◌then◌else◌, codes}
-use Rattle.std.specs.List.{join_by}
+use Rattle.std.proofs.Common.{◌≡◌, ℕ, zero, suc, ◌+◌, ◌-◌, ◌≤◌, List, [], ◌∷◌, ◌++◌, Bool, true, false, Some, None, Option, refl, arith}
+use Rattle.std.specs.Prelude.{ℤ, pos, negsuc, min, nat_eq, length, map, slice_get, remove, option_map, not, if◌then◌else◌, codes}
+use Rattle.std.specs.List.{join_by, slice_split}
+use Rattle.rpy_meaning.specs.Laws.{size}
+use Rattle.rpy_meaning.proofs.Sizes.{remove_size, insert_size, with_key_size, without_key_size, set_size, reverse_size, extend_size, append_size, map_size}
 use Rattle.std.specs.Str.{bytes_eq}
 use Rattle.rpy_base.specs.declared.outcome.FailName.{FailName}
 use Rattle.rpy_tree.specs.declared.syntax.BinOp.{BinOp}
@@ -18,73 +20,83 @@ use Rattle.rpy_meaning.specs.Classes.{named, method_of, first_attributes}
 use Rattle.rpy_meaning.specs.World.{Op, Fails, Enters, bad, give, throw, flag_if_any, paying, write, new_object, set_object, at_object, on_list, with_list, new_text, new_list, failure, index_error, attribute_error, negative_slice, if_some}
 use Rattle.rpy_meaning.specs.Arithmetic.{word, word_that_fits, arithmetic, on_word, on_words}
 use Rattle.rpy_base.specs.Number.{trimmed}
-use Rattle.rpy_meaning.specs.Sequences.{place, item_at, index_object, index, store_object, store_index, delete_object, delete_index, Cut, part, part_between, between, slice, but_last, plus, times, binary, extend, add_to, is_in_object}
+use Rattle.rpy_meaning.specs.Sequences.{tuple, place, item_at, index_object, index, store_object, store_index, delete_object, delete_index, Cut, part, part_between, between, slice, but_last, plus, times, binary, extend, add_to, is_in_object}
 use Rattle.rpy_meaning.specs.Walks.{walk_object, walk, has_item, item, advance}
-use Rattle.rpy_meaning.specs.Methods.{texts_of, join, split, find, begins, ends, strip, is_byte, text_methods, append, insert_at, extend_by, reverse_list, taken_out, pop, list_methods, get, keys, values, items, dict_methods, object_length, len, ord, chr, to_text, number, to_word}
+use Rattle.rpy_meaning.specs.Methods.{texts_of, new_parts, join, split, find, begins, ends, strip, is_byte, text_methods, append, insert_at, extend_by, reverse_list, taken_out, pop, list_methods, get, keys, values, items, dict_methods, object_length, len, ord, chr, to_text, number, to_word}
 use Rattle.rpy_meaning.specs.Operations.{with_none, with_one, with_two, with_three, within, compare, write_if_any, os_write, unpack, add_item, read_attribute, attribute, set_attribute, store_attribute, is_instance_object, is_instance, raise_object, raise, initialised, new_instance, new, call_value, object_method, method, op}
 
--- A property that holds of the simplest operations, and of each that is built of operations with it, holds of all.
-pub record Closed (L : Op → Type 0) : Type 0 where
-  pub bad_in : L bad
-  pub give_in : (v : Value) → L (give v)
-  pub throw_in : (r : ℕ) → L (throw r)
-  pub fail_in : (name : FailName) → L (λ w. Fails name)
-  pub enter_in : (f : ℕ) (args : List Value) (instead : Option Value) → L (λ w. Enters f args instead w)
-  pub write_in : (text : List ℕ) (v : Value) → L (write text v)
-  pub set_in : (r : ℕ) (o : Object) (v : Value) → L (set_object r o v)
-  pub new_in : (o : Object) (f : Value → Op) → ((v : Value) → L (f v)) → L (λ w. f (Ref (length w.heap)) (record w { heap = w.heap ++ o ∷ [] }))
-  pub pay_in : (cost : ℕ) (go : Op) → L go → L (paying cost go)
-  pub look_in : (f : Heap → Op) → ((heap : Heap) → L (f heap)) → L (λ w. f w.heap w)
+-- A property of operations in worlds with a heap. If it holds of the simplest operations, and of each that is built of operations with
+-- it, it holds of all. A list or dict grows by no more than is paid.
+pub record Closed (L : Heap → Op → Type 0) : Type 0 where
+  pub bad_in : (heap : Heap) → L heap bad
+  pub give_in : (heap : Heap) (v : Value) → L heap (give v)
+  pub throw_in : (heap : Heap) (r : ℕ) → L heap (throw r)
+  pub fail_in : (heap : Heap) (name : FailName) → L heap (λ w. Fails name)
+  pub enter_in : (heap : Heap) (f : ℕ) (args : List Value) (instead : Option Value) → L heap (λ w. Enters f args instead w)
+  pub write_in : (heap : Heap) (text : List ℕ) (v : Value) → L heap (write text v)
+  pub set_in : (heap : Heap) (r : ℕ) (o n : Object) (v : Value) → slice_get heap r ≡ Some o → size n ≤ size o → L heap (set_object r n v)
+  pub grow_in : (heap : Heap) (cost r : ℕ) (o n : Object) (v : Value) → slice_get heap r ≡ Some o → size n ≤ cost + size o → L heap (paying cost (set_object r n v))
+  pub new_in : (heap : Heap) (cost : ℕ) (o : Object) → size o ≤ cost → L heap (paying cost (new_object o))
+  pub make_in : (heap : Heap) (o : Object) (f : Value → Op) → size o ≡ 0 → ((other : Heap) (v : Value) → L other (f v))
+      → L heap (λ w. f (Ref (length w.heap)) (record w { heap = w.heap ++ o ∷ [] }))
+  pub pay_in : (heap : Heap) (cost : ℕ) (go : Op) → L heap go → L heap (paying cost go)
+  pub look_in : (heap : Heap) (f : Heap → Op) → L heap (f heap) → L heap (λ w. f w.heap w)
 
-module _ (L : Op → Type 0) (closed : Closed L) where
+module _ (Holds : Heap → Op → Type 0) (closed : Closed Holds) (heap : Heap) where
+  abbrev L : Op → Type 0
+  L o = Holds heap o
+
   bad_ok : L bad
-  bad_ok = closed.bad_in
+  bad_ok = closed.bad_in heap
 
   give_ok : {v : Value} → L (give v)
-  give_ok {v} = closed.give_in v
+  give_ok {v} = closed.give_in heap v
 
   throw_ok : {r : ℕ} → L (throw r)
-  throw_ok {r} = closed.throw_in r
+  throw_ok {r} = closed.throw_in heap r
 
   enters_ok : {f : ℕ} {args : List Value} {instead : Option Value} → L (λ w. Enters f args instead w)
-  enters_ok {f} {args} {instead} = closed.enter_in f args instead
+  enters_ok {f} {args} {instead} = closed.enter_in heap f args instead
 
   flag_if_any_ok : (b : Option Bool) → L (flag_if_any b)
   flag_if_any_ok None = bad_ok
   flag_if_any_ok (Some b) = give_ok
 
   write_ok : {text : List ℕ} {v : Value} → L (write text v)
-  write_ok {text} {v} = closed.write_in text v
+  write_ok {text} {v} = closed.write_in heap text v
 
-  new_object_ok : {o : Object} → L (new_object o)
-  new_object_ok {o} = closed.new_in o give closed.give_in
+  new_object_ok : (cost : ℕ) (o : Object) → size o ≤ cost → L (paying cost (new_object o))
+  new_object_ok cost o le = closed.new_in heap cost o le
 
-  set_object_ok : {r : ℕ} {o : Object} {v : Value} → L (set_object r o v)
-  set_object_ok {r} {o} {v} = closed.set_in r o v
+  set_object_ok : {r : ℕ} {n : Object} {v : Value} (o : Object) → slice_get heap r ≡ Some o → size n ≤ size o → L (set_object r n v)
+  set_object_ok {r} {n} {v} o e le = closed.set_in heap r o n v e le
+
+  grow_ok : (cost r : ℕ) (n : Object) (v : Value) (o : Object) → slice_get heap r ≡ Some o → size n ≤ cost + size o → L (paying cost (set_object r n v))
+  grow_ok cost r n v o e le = closed.grow_in heap cost r o n v e le
 
   if_ok : (b : Bool) {x y : Op} → L x → L y → L (if b then x else y)
   if_ok true h k = h
   if_ok false h k = k
 
   paying_ok : (cost : ℕ) {go : Op} → L go → L (paying cost go)
-  paying_ok cost {go} h = closed.pay_in cost go h
+  paying_ok cost {go} h = closed.pay_in heap cost go h
 
-  at_object_ok : {r : ℕ} {f : Option Object → Op} → ((o : Option Object) → L (f o)) → L (at_object r f)
-  at_object_ok {r} {f} h = closed.look_in (λ heap. f (slice_get heap r)) (λ heap. h (slice_get heap r))
+  at_object_ok : {r : ℕ} {f : Option Object → Op} → ((o : Option Object) → slice_get heap r ≡ o → L (f o)) → L (at_object r f)
+  at_object_ok {r} {f} h = closed.look_in heap (λ heap. f (slice_get heap r)) (h (slice_get heap r) refl)
 
-  on_list_ok : {f : List Value → Op} → ((vs : List Value) → L (f vs)) → (o : Option Object) → L (on_list f o)
-  on_list_ok h (Some (Listed vs)) = h vs
-  on_list_ok h o = bad_ok
-
-  with_list_ok : {r : ℕ} {f : List Value → Op} → ((vs : List Value) → L (f vs)) → L (with_list r f)
-  with_list_ok h = at_object_ok (on_list_ok h)
+  with_list_ok : {r : ℕ} {f : List Value → Op} → ((vs : List Value) → slice_get heap r ≡ Some (Listed vs) → L (f vs)) → L (with_list r f)
+  with_list_ok {r} {f} h = at_object_ok listed
+    where
+      listed : (o : Option Object) → slice_get heap r ≡ o → L (on_list f o)
+      listed (Some (Listed vs)) e = h vs e
+      listed o e = bad_ok
 
   failure_ok : (b : Bool) (class : ℕ) (name : FailName) → L (failure b class name)
   failure_ok true class name = throw_ok
-  failure_ok false class name = closed.fail_in name
+  failure_ok false class name = closed.fail_in heap name
 
   negative_ok : L negative_slice
-  negative_ok = closed.fail_in _
+  negative_ok = closed.fail_in heap _
 
   if_some_ok : {A : Type 0} {missing : Op} (a : Option A) {f : A → Op} → L missing → ((x : A) → L (f x)) → L (if_some missing a f)
   if_some_ok None h k = h
@@ -94,7 +106,7 @@ module _ (L : Op → Type 0) (closed : Closed L) where
   new_text_ok text = paying_ok _ give_ok
 
   new_list_ok : (vs : List Value) → L (new_list vs)
-  new_list_ok vs = paying_ok _ new_object_ok
+  new_list_ok vs = new_object_ok _ _ (omega arith)
 
   -- ---- words
 
@@ -135,25 +147,26 @@ module _ (L : Op → Type 0) (closed : Closed L) where
 
   index_ok : (c : Covers) (x i : Value) → L (index c x i)
   index_ok c (Text text) i = on_word_ok (λ z. if_some_ok _ (miss c) (λ b. give_ok)) i
-  index_ok c (Ref r) i = at_object_ok (index_object_ok c i)
+  index_ok c (Ref r) i = at_object_ok (λ o e. index_object_ok c i o)
   index_ok c (Tuple vs) i = on_word_ok (λ z. if_some_ok _ bad_ok (λ x. give_ok)) i
   index_ok c Nothing i = none_ok c
   index_ok c x i = bad_ok
 
-  store_object_ok : (c : Covers) (r : ℕ) (i v : Value) (o : Option Object) → L (store_object c r i v o)
-  store_object_ok c r i v (Some (Listed vs)) = on_word_ok (λ z. if_some_ok _ (miss c) (λ k. set_object_ok)) i
-  store_object_ok c r key v (Some (Mapped pairs)) = paying_ok _ set_object_ok
-  store_object_ok c r i v o = bad_ok
+  store_object_ok : (c : Covers) (r : ℕ) (i v : Value) (o : Option Object) → slice_get heap r ≡ o → L (store_object c r i v o)
+  store_object_ok c r i v (Some (Listed vs)) e =
+      on_word_ok (λ z. if_some_ok _ (miss c) (λ k. set_object_ok (Listed vs) e (set_size vs k v))) i
+  store_object_ok c r key v (Some (Mapped pairs)) e = grow_ok _ _ _ _ (Mapped pairs) e (with_key_size key v pairs)
+  store_object_ok c r i v o e = bad_ok
 
   store_index_ok : (c : Covers) (x i v : Value) → L (store_index c x i v)
   store_index_ok c (Ref r) i v = at_object_ok (store_object_ok c r i v)
   store_index_ok c Nothing i v = none_ok c
   store_index_ok c x i v = bad_ok
 
-  delete_object_ok : (c : Covers) (r : ℕ) (i : Value) (o : Option Object) → L (delete_object c r i o)
-  delete_object_ok c r i (Some (Listed vs)) = on_word_ok (λ z. if_some_ok _ (miss c) (λ k. set_object_ok)) i
-  delete_object_ok c r key (Some (Mapped pairs)) = if_ok _ set_object_ok throw_ok
-  delete_object_ok c r i o = bad_ok
+  delete_object_ok : (c : Covers) (r : ℕ) (i : Value) (o : Option Object) → slice_get heap r ≡ o → L (delete_object c r i o)
+  delete_object_ok c r i (Some (Listed vs)) e = on_word_ok (λ z. if_some_ok _ (miss c) (λ k. set_object_ok (Listed vs) e (remove_size vs k))) i
+  delete_object_ok c r key (Some (Mapped pairs)) e = if_ok _ (set_object_ok (Mapped pairs) e (without_key_size key pairs)) throw_ok
+  delete_object_ok c r i o e = bad_ok
 
   delete_index_ok : (c : Covers) (x i : Value) → L (delete_index c x i)
   delete_index_ok c (Ref r) i = at_object_ok (delete_object_ok c r i)
@@ -162,7 +175,7 @@ module _ (L : Op → Type 0) (closed : Closed L) where
 
   part_ok : (c : Covers) (cut : Cut) (x : Value) → L (part c cut x)
   part_ok c cut (Text text) = new_text_ok _
-  part_ok c cut (Ref r) = with_list_ok (λ vs. new_list_ok _)
+  part_ok c cut (Ref r) = with_list_ok (λ vs e. new_list_ok _)
   part_ok c cut Nothing = none_ok c
   part_ok c cut x = bad_ok
 
@@ -179,7 +192,7 @@ module _ (L : Op → Type 0) (closed : Closed L) where
 
   plus_ok : (c : Covers) (x y : Value) → L (plus c x y)
   plus_ok c (Text a) (Text b) = new_text_ok _
-  plus_ok c (Ref r) (Ref s) = with_list_ok (λ vs. with_list_ok (λ us. new_list_ok _))
+  plus_ok c (Ref r) (Ref s) = with_list_ok (λ vs e. with_list_ok (λ us e'. new_list_ok _))
   plus_ok c (Word a) (Word b) = arithmetic_ok c word_ok Add a b
   plus_ok c Nothing y = none_ok c
   plus_ok c x Nothing = none_ok c
@@ -187,7 +200,7 @@ module _ (L : Op → Type 0) (closed : Closed L) where
 
   times_ok : (c : Covers) (x y : Value) → L (times c x y)
   times_ok c (Text text) (Word n) = new_text_ok _
-  times_ok c (Ref r) (Word n) = with_list_ok (λ vs. new_list_ok _)
+  times_ok c (Ref r) (Word n) = with_list_ok (λ vs e. new_list_ok _)
   times_ok c (Word a) (Word b) = arithmetic_ok c word_ok Mul a b
   times_ok c Nothing y = none_ok c
   times_ok c x y = bad_ok
@@ -198,7 +211,8 @@ module _ (L : Op → Type 0) (closed : Closed L) where
   binary_ok c op x y = on_words_ok (arithmetic_ok c word_ok op) x y
 
   extend_ok : (r s : ℕ) (v : Value) → L (extend r s v)
-  extend_ok r s v = with_list_ok (λ vs. with_list_ok (λ us. paying_ok _ set_object_ok))
+  extend_ok r s v =
+      with_list_ok (λ vs e. with_list_ok (λ us e'. grow_ok _ _ _ _ (Listed vs) e (extend_size vs us)))
 
   add_to_ok : (c : Covers) (x y : Value) → L (add_to c x y)
   add_to_ok c (Ref r) (Ref s) = extend_ok r s (Ref r)
@@ -208,24 +222,24 @@ module _ (L : Op → Type 0) (closed : Closed L) where
 
   walk_object_ok : (r : ℕ) (o : Option Object) → L (walk_object r o)
   walk_object_ok r (Some (Listed vs)) = give_ok
-  walk_object_ok r (Some (Mapped pairs)) = paying_ok _ new_object_ok
+  walk_object_ok r (Some (Mapped pairs)) = new_object_ok _ _ (map_size (λ (p : Value × Value). p.0) pairs _ (omega arith))
   walk_object_ok r o = bad_ok
 
   walk_ok : (c : Covers) (x : Value) → L (walk c x)
   walk_ok c (Text text) = give_ok
-  walk_ok c (Ref r) = at_object_ok (walk_object_ok r)
+  walk_ok c (Ref r) = at_object_ok (λ o e. walk_object_ok r o)
   walk_ok c Nothing = none_ok c
   walk_ok c x = bad_ok
 
   has_item_ok : (step : Option ℤ) (x y : Value) → L (has_item step x y)
   has_item_ok None (Text text) (Word (pos i)) = give_ok
-  has_item_ok None (Ref r) (Word (pos i)) = with_list_ok (λ vs. give_ok)
+  has_item_ok None (Ref r) (Word (pos i)) = with_list_ok (λ vs e. give_ok)
   has_item_ok (Some step) (Word end) (Word i) = give_ok
   has_item_ok step x y = bad_ok
 
   item_ok : (step : Option ℤ) (x y : Value) → L (item step x y)
   item_ok None (Text text) (Word (pos i)) = if_some_ok _ bad_ok (λ b. give_ok)
-  item_ok None (Ref r) (Word (pos i)) = with_list_ok (λ vs. if_some_ok _ bad_ok (λ v. give_ok))
+  item_ok None (Ref r) (Word (pos i)) = with_list_ok (λ vs e. if_some_ok _ bad_ok (λ v. give_ok))
   item_ok (Some step) end i = give_ok
   item_ok step x y = bad_ok
 
@@ -240,11 +254,14 @@ module _ (L : Op → Type 0) (closed : Closed L) where
   texts_ok text t = if_some_ok t bad_ok (λ texts. new_text_ok _)
 
   join_ok : (text : List ℕ) (args : List Value) → L (join text args)
-  join_ok text (Ref r ∷ []) = with_list_ok (λ vs. texts_ok text (texts_of vs))
+  join_ok text (Ref r ∷ []) = with_list_ok (λ vs e. texts_ok text (texts_of vs))
   join_ok text args = bad_ok
 
+  parts_ok : (parts : List (List ℕ)) → L (new_parts parts)
+  parts_ok parts = new_object_ok _ _ (map_size Text parts _ (omega arith))
+
   split_ok : (text : List ℕ) (args : List Value) → L (split text args)
-  split_ok text (Text (b ∷ []) ∷ []) = paying_ok _ new_object_ok
+  split_ok text (Text (b ∷ []) ∷ []) = parts_ok (slice_split (nat_eq b) text)
   split_ok text args = bad_ok
 
   find_ok : (text : List ℕ) (args : List Value) → L (find text args)
@@ -267,32 +284,32 @@ module _ (L : Op → Type 0) (closed : Closed L) where
   is_byte_ok f (b ∷ []) [] = give_ok
   is_byte_ok f text args = bad_ok
 
-  append_ok : (r : ℕ) (vs args : List Value) → L (append r vs args)
-  append_ok r vs (v ∷ []) = paying_ok _ set_object_ok
-  append_ok r vs args = bad_ok
+  append_ok : (r : ℕ) (vs args : List Value) → slice_get heap r ≡ Some (Listed vs) → L (append r vs args)
+  append_ok r vs (v ∷ []) e = grow_ok _ _ _ _ (Listed vs) e (append_size vs v)
+  append_ok r vs args e = bad_ok
 
-  insert_ok : (r : ℕ) (vs args : List Value) → L (insert_at r vs args)
-  insert_ok r vs (Word (pos i) ∷ v ∷ []) = paying_ok _ set_object_ok
-  insert_ok r vs (Word (negsuc i) ∷ v ∷ []) = negative_ok
-  insert_ok r vs args = bad_ok
+  insert_ok : (r : ℕ) (vs args : List Value) → slice_get heap r ≡ Some (Listed vs) → L (insert_at r vs args)
+  insert_ok r vs (Word (pos i) ∷ v ∷ []) e = grow_ok _ _ _ _ (Listed vs) e (insert_size vs (min i (length vs)) v)
+  insert_ok r vs (Word (negsuc i) ∷ v ∷ []) e = negative_ok
+  insert_ok r vs args e = bad_ok
 
   extend_by_ok : (c : Covers) (r : ℕ) (vs args : List Value) → L (extend_by c r vs args)
   extend_by_ok c r vs (Ref s ∷ []) = extend_ok r s Nothing
   extend_by_ok c r vs (Nothing ∷ []) = none_ok c
   extend_by_ok c r vs args = bad_ok
 
-  reverse_list_ok : (r : ℕ) (vs args : List Value) → L (reverse_list r vs args)
-  reverse_list_ok r vs [] = set_object_ok
-  reverse_list_ok r vs args = bad_ok
+  reverse_list_ok : (r : ℕ) (vs args : List Value) → slice_get heap r ≡ Some (Listed vs) → L (reverse_list r vs args)
+  reverse_list_ok r vs [] e = set_object_ok (Listed vs) e (reverse_size vs)
+  reverse_list_ok r vs args e = bad_ok
 
-  taken_out_ok : (c : Covers) (r : ℕ) (vs : List Value) (z : ℤ) → L (taken_out c r vs z)
-  taken_out_ok c r vs z =
-      if_some_ok (place z (length vs)) (miss c) (λ i. if_some_ok (item_at z vs) bad_ok (λ v. set_object_ok {r = r} {o = Listed (remove vs i)} {v = v}))
+  taken_out_ok : (c : Covers) (r : ℕ) (vs : List Value) (z : ℤ) → slice_get heap r ≡ Some (Listed vs) → L (taken_out c r vs z)
+  taken_out_ok c r vs z e =
+      if_some_ok (place z (length vs)) (miss c) (λ i. if_some_ok (item_at z vs) bad_ok (λ v. set_object_ok {r = r} {n = Listed (remove vs i)} {v = v} (Listed vs) e (remove_size vs i)))
 
-  pop_ok : (c : Covers) (r : ℕ) (vs args : List Value) → L (pop c r vs args)
-  pop_ok c r vs [] = taken_out_ok c r vs (negsuc 0)
-  pop_ok c r vs (Word z ∷ []) = taken_out_ok c r vs z
-  pop_ok c r vs args = bad_ok
+  pop_ok : (c : Covers) (r : ℕ) (vs args : List Value) → slice_get heap r ≡ Some (Listed vs) → L (pop c r vs args)
+  pop_ok c r vs [] e = taken_out_ok c r vs (negsuc 0) e
+  pop_ok c r vs (Word z ∷ []) e = taken_out_ok c r vs z e
+  pop_ok c r vs args e = bad_ok
 
   get_ok : (pairs : List (Value × Value)) (args : List Value) → L (get pairs args)
   get_ok pairs (key ∷ []) = give_ok
@@ -300,15 +317,15 @@ module _ (L : Op → Type 0) (closed : Closed L) where
   get_ok pairs args = bad_ok
 
   keys_ok : (pairs : List (Value × Value)) (args : List Value) → L (keys pairs args)
-  keys_ok pairs [] = paying_ok _ new_object_ok
+  keys_ok pairs [] = new_object_ok _ _ (map_size (λ (p : Value × Value). p.0) pairs _ (omega arith))
   keys_ok pairs args = bad_ok
 
   values_ok : (pairs : List (Value × Value)) (args : List Value) → L (values pairs args)
-  values_ok pairs [] = paying_ok _ new_object_ok
+  values_ok pairs [] = new_object_ok _ _ (map_size (λ (p : Value × Value). p.1) pairs _ (omega arith))
   values_ok pairs args = bad_ok
 
   items_ok : (pairs : List (Value × Value)) (args : List Value) → L (items pairs args)
-  items_ok pairs [] = paying_ok _ new_object_ok
+  items_ok pairs [] = new_object_ok _ _ (map_size (λ (p : Value × Value). tuple (p.0 ∷ p.1 ∷ [])) pairs _ (omega arith))
   items_ok pairs args = bad_ok
 
   -- each entry of a table is lawful, and so is the one that a name finds
@@ -346,10 +363,10 @@ module _ (L : Op → Type 0) (closed : Closed L) where
         ),
       )
 
-  list_method_ok : (c : Covers) (name : List ℕ) (r : ℕ) (vs args : List Value) → L (if_some bad (named name (list_methods c)) (λ f. f r vs args))
-  list_method_ok c name r vs args =
+  list_method_ok : (c : Covers) (name : List ℕ) (r : ℕ) (vs args : List Value) → slice_get heap r ≡ Some (Listed vs) → L (if_some bad (named name (list_methods c)) (λ f. f r vs args))
+  list_method_ok c name r vs args e =
       named_ok (λ f. f r vs args) name (list_methods c)
-      (append_ok r vs args, (insert_ok r vs args, (extend_by_ok c r vs args, (reverse_list_ok r vs args, (pop_ok c r vs args, tt)))))
+      (append_ok r vs args e, (insert_ok r vs args e, (extend_by_ok c r vs args, (reverse_list_ok r vs args e, (pop_ok c r vs args e, tt)))))
 
   dict_method_ok : (name : List ℕ) (pairs : List (Value × Value)) (args : List Value) → L (if_some bad (named name dict_methods) (λ f. f pairs args))
   dict_method_ok name pairs args =
@@ -366,7 +383,7 @@ module _ (L : Op → Type 0) (closed : Closed L) where
   len_ok : (c : Covers) (x : Value) → L (len c x)
   len_ok c (Text text) = give_ok
   len_ok c (Tuple vs) = give_ok
-  len_ok c (Ref r) = at_object_ok object_length_ok
+  len_ok c (Ref r) = at_object_ok (λ o e. object_length_ok o)
   len_ok c Nothing = none_ok c
   len_ok c x = bad_ok
 
@@ -401,7 +418,7 @@ module _ (L : Op → Type 0) (closed : Closed L) where
   within_ok : (c : Covers) (f : Bool → Bool) (x y : Value) → L (within c f x y)
   within_ok c f (Text part) (Text text) = give_ok
   within_ok c f x (Ref r) =
-      at_object_ok {r = r} {f = λ o. flag_if_any (option_map f (is_in_object x o))} (λ o. flag_if_any_ok (option_map f (is_in_object x o)))
+      at_object_ok {r = r} {f = λ o. flag_if_any (option_map f (is_in_object x o))} (λ o e. flag_if_any_ok (option_map f (is_in_object x o)))
   within_ok c f x (Tuple vs) = give_ok
   within_ok c f x Nothing = none_ok c
   within_ok c f x y = bad_ok
@@ -419,7 +436,7 @@ module _ (L : Op → Type 0) (closed : Closed L) where
   compare_ok c IsNot x y = flag_if_any_ok _
 
   truth_ok : (f : Heap → Option Bool) → L (λ w. flag_if_any (f w.heap) w)
-  truth_ok f = closed.look_in (λ heap. flag_if_any (f heap)) (λ heap. flag_if_any_ok (f heap))
+  truth_ok f = closed.look_in heap (λ heap. flag_if_any (f heap)) (flag_if_any_ok (f heap))
 
   write_if_any_ok : (t : Option (List ℕ)) → L (write_if_any t)
   write_if_any_ok None = bad_ok
@@ -434,7 +451,7 @@ module _ (L : Op → Type 0) (closed : Closed L) where
   unpack_ok n i x = bad_ok
 
   add_item_ok : (x v : Value) → L (add_item x v)
-  add_item_ok (Ref r) v = with_list_ok (λ vs. paying_ok _ set_object_ok)
+  add_item_ok (Ref r) v = with_list_ok (λ vs e. grow_ok _ _ _ _ (Listed vs) e (append_size vs v))
   add_item_ok x v = bad_ok
 
   module _ (p : Program) (c : Covers) where
@@ -445,13 +462,13 @@ module _ (L : Op → Type 0) (closed : Closed L) where
     read_ok name o = bad_ok
 
     attribute_ok : (name : List ℕ) (x : Value) → L (attribute p c name x)
-    attribute_ok name (Ref r) = at_object_ok (read_ok name)
+    attribute_ok name (Ref r) = at_object_ok (λ o e. read_ok name o)
     attribute_ok name Nothing = none_ok c
     attribute_ok name x = bad_ok
 
-    set_ok : (name : List ℕ) (r : ℕ) (v : Value) (o : Option Object) → L (set_attribute p c name r v o)
-    set_ok name r v (Some (Instance d attributes)) = set_object_ok
-    set_ok name r v o = bad_ok
+    set_ok : (name : List ℕ) (r : ℕ) (v : Value) (o : Option Object) → slice_get heap r ≡ o → L (set_attribute p c name r v o)
+    set_ok name r v (Some (Instance d attributes)) e = set_object_ok (Instance d attributes) e (omega arith)
+    set_ok name r v o e = bad_ok
 
     store_attribute_ok : (name : List ℕ) (x v : Value) → L (store_attribute p c name x v)
     store_attribute_ok name (Ref r) v = at_object_ok (set_ok name r v)
@@ -463,7 +480,7 @@ module _ (L : Op → Type 0) (closed : Closed L) where
     is_instance_object_ok d o = bad_ok
 
     is_instance_ok : (d : ℕ) (x : Value) → L (is_instance p c d x)
-    is_instance_ok d (Ref r) = at_object_ok (is_instance_object_ok d)
+    is_instance_ok d (Ref r) = at_object_ok (λ o e. is_instance_object_ok d o)
     is_instance_ok d Nothing = give_ok
     is_instance_ok d x = bad_ok
 
@@ -472,18 +489,18 @@ module _ (L : Op → Type 0) (closed : Closed L) where
     raise_object_ok r o = bad_ok
 
     raise_ok : (x : Value) → L (raise p c x)
-    raise_ok (Ref r) = at_object_ok (raise_object_ok r)
+    raise_ok (Ref r) = at_object_ok (λ o e. raise_object_ok r o)
     raise_ok Nothing = none_ok c
     raise_ok x = bad_ok
 
-    initialised_ok : (init : Option ℕ) (x : Value) (args : List Value) → L (initialised p c init x args)
-    initialised_ok None x args = give_ok
-    initialised_ok (Some f) x args = enters_ok
+    initialised_ok : (other : Heap) (init : Option ℕ) (x : Value) (args : List Value) → Holds other (initialised p c init x args)
+    initialised_ok other None x args = closed.give_in other x
+    initialised_ok other (Some f) x args = closed.enter_in other f (x ∷ args) (Some x)
 
     new_instance_ok : (d : ℕ) (args : List Value) → L (new_instance p c d args)
     new_instance_ok d args =
-        closed.new_in (Instance d (first_attributes p.classes d)) (λ v. initialised p c (method_of p.classes d (codes "__init__")) v args)
-        (λ v. initialised_ok (method_of p.classes d (codes "__init__")) v args)
+        closed.make_in heap (Instance d (first_attributes p.classes d)) (λ v. initialised p c (method_of p.classes d (codes "__init__")) v args) refl
+        (λ other v. initialised_ok other (method_of p.classes d (codes "__init__")) v args)
 
     new_ok : (d : ℕ) (args : List Value) → L (new p c d args)
     new_ok d args = if_ok _ give_ok (paying_ok _ (new_instance_ok d args))
@@ -493,11 +510,11 @@ module _ (L : Op → Type 0) (closed : Closed L) where
     call_value_ok (Nothing ∷ args) = none_ok c
     call_value_ok vs = bad_ok
 
-    object_method_ok : (name : List ℕ) (r : ℕ) (args : List Value) (o : Option Object) → L (object_method p c name r args o)
-    object_method_ok name r args (Some (Listed vs)) = list_method_ok c name r vs args
-    object_method_ok name r args (Some (Mapped pairs)) = dict_method_ok name pairs args
-    object_method_ok name r args (Some (Instance d attributes)) = if_some_ok (method_of p.classes d name) bad_ok (λ f. enters_ok)
-    object_method_ok name r args None = bad_ok
+    object_method_ok : (name : List ℕ) (r : ℕ) (args : List Value) (o : Option Object) → slice_get heap r ≡ o → L (object_method p c name r args o)
+    object_method_ok name r args (Some (Listed vs)) e = list_method_ok c name r vs args e
+    object_method_ok name r args (Some (Mapped pairs)) e = dict_method_ok name pairs args
+    object_method_ok name r args (Some (Instance d attributes)) e = if_some_ok (method_of p.classes d name) bad_ok (λ f. enters_ok)
+    object_method_ok name r args None e = bad_ok
 
     method_ok : (name : List ℕ) (vs : List Value) → L (method p c name vs)
     method_ok name (Text text ∷ args) = text_method_ok name text args
@@ -560,8 +577,8 @@ module _ (L : Op → Type 0) (closed : Closed L) where
     op_ok (row.AllButLast site) = with_one_ok (part_ok c but_last)
     op_ok row.Tuple = λ vs. paying_ok _ give_ok
     op_ok (row.List site) = λ vs. new_list_ok vs
-    op_ok (row.Dict site) = with_none_ok (paying_ok _ new_object_ok)
-    op_ok (row.Comprehension site) = with_none_ok (paying_ok _ new_object_ok)
+    op_ok (row.Dict site) = with_none_ok (new_object_ok _ _ (omega arith))
+    op_ok (row.Comprehension site) = with_none_ok (new_object_ok _ _ (omega arith))
     op_ok row.AddItem = with_two_ok add_item_ok
     op_ok (row.Call f) = λ vs. enters_ok
     op_ok (row.CallOf d f) = λ vs. enters_ok

@@ -4,6 +4,7 @@ pub mod FirstPath
 pub mod Bound
 pub mod Held
 pub mod Lawful
+mod Room
 pub mod Steady
 mod Rows
 mod Sizes

@@ -1,8 +1,9 @@
 -- How long lists and dicts are after an operation.
 use Rattle.std.proofs.Common.{◌≡◌, ℕ, zero, suc, ◌+◌, ◌-◌, ◌≤◌, List, [], ◌∷◌, ◌++◌, Bool, true, false, refl, sym, ap, ◌∙◌, subst, arith, length, min}
-use Rattle.std.specs.Prelude.{remove, insert, take, drop, ◌||◌, if◌then◌else◌}
+use Rattle.std.specs.Prelude.{map, reverse, slice_set, remove, insert, take, drop, ◌||◌, if◌then◌else◌}
 use Rattle.std.specs.List.{list_any}
-use Rattle.std.proofs.lemmas.List.{length-take}
+use Rattle.std.proofs.lemmas.List.{length-take, length-set, length-map, length-reverse}
+use Rattle.std.proofs.Math.Nat.{le_refl}
 use Rattle.std.proofs.Math.ListN.{length-append, length-drop}
 use Rattle.rpy_tree.specs.Value.{Value}
 use Rattle.rpy_meaning.specs.Compare.{is_equal}
@@ -31,3 +32,18 @@ without_key_size key (p ∷ pairs) = step (is_equal p.0 key) (without_key_size k
     step : (a : Bool) → length (without_key key pairs) ≤ length pairs → length (if a then pairs else p ∷ without_key key pairs) ≤ length (p ∷ pairs)
     step true le = omega arith
     step false le = omega (arith, le)
+
+pub set_size : (vs : List Value) (k : ℕ) (v : Value) → length (slice_set vs k v) ≤ length vs
+set_size vs k v = rw (length-set vs k v) (le_refl (length vs))
+
+pub reverse_size : (vs : List Value) → length (reverse vs) ≤ length vs
+reverse_size vs = rw (length-reverse vs) (le_refl (length vs))
+
+pub extend_size : (vs us : List Value) → length (vs ++ us) ≤ length us + length vs
+extend_size vs us = rw (length-append vs us) (omega arith)
+
+pub append_size : (vs : List Value) (v : Value) → length (vs ++ v ∷ []) ≤ 1 + length vs
+append_size vs v = rw (length-append vs (v ∷ [])) (omega arith)
+
+pub map_size : {A : Type 0} (f : A → Value) (xs : List A) (k : ℕ) → length xs ≤ k → length (map f xs) ≤ k
+map_size f xs k le = rw (length-map xs f) le
