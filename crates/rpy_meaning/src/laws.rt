@@ -4,7 +4,7 @@ ghost use Rattle.rpy_tree.specs.Pure as first;
 ghost use Rattle.rpy_tree.specs.Meaning as old;
 ghost use Rattle.rpy_tree.specs.Value.{Value, Heap};
 ghost use Rattle.rpy_meaning.specs.Tree.{Program};
-ghost use Rattle.rpy_meaning.specs.Laws.{IsLawful};
+ghost use Rattle.rpy_meaning.specs.Laws.{IsLawful, KeepsRoom};
 ghost use Rattle.rpy_meaning.specs.Operations.{op};
 ghost use Rattle.rpy_meaning.specs.Bounds.{EndsAlike};
 ghost use Rattle.rpy_meaning.specs.FirstPath.{program, Agrees};
@@ -18,6 +18,12 @@ use crate::row::{Covers, RowOp};
 pub fn operations_are_lawful()
     ensures { (p : Program) (c : Covers) (o : RowOp) (vs : List Value) → IsLawful (op p c o vs) }
 {}
+
+/// What lists and dicts grow by is paid: a bound on the size of each with the steps left stays one.
+pub fn growth_is_paid()
+    ensures { (p : Program) (c : Covers) (o : RowOp) (vs : List Value) → KeepsRoom (op p c o vs) }
+{
+}
 
 /// A bound only stops a run: with more steps it ends the same, unless it was still running. So the
 /// levels of the meaning, which the bound counts, show nowhere.
