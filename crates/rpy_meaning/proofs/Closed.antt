@@ -3,7 +3,7 @@ use Rattle.std.proofs.Common.{◌≡◌, ℕ, zero, suc, ◌+◌, ◌-◌, ◌�
 use Rattle.std.specs.Prelude.{ℤ, pos, negsuc, min, nat_eq, length, map, slice_get, remove, option_map, not, if◌then◌else◌, codes}
 use Rattle.std.specs.List.{join_by, slice_split}
 use Rattle.rpy_meaning.specs.Laws.{size}
-use Rattle.rpy_meaning.proofs.Sizes.{remove_size, insert_size, with_key_size, without_key_size, set_size, reverse_size, extend_size, append_size, map_size}
+use Rattle.rpy_meaning.proofs.Sizes.{remove_size, insert_size, with_key_size, without_key_size, set_size, reverse_size, extend_size, append_size, map_size, repeat_size}
 use Rattle.std.specs.Str.{bytes_eq}
 use Rattle.rpy_base.specs.declared.outcome.FailName.{FailName}
 use Rattle.rpy_tree.specs.declared.syntax.BinOp.{BinOp}
@@ -20,7 +20,7 @@ use Rattle.rpy_meaning.specs.Classes.{named, method_of, first_attributes}
 use Rattle.rpy_meaning.specs.World.{Op, Fails, Enters, bad, give, throw, flag_if_any, paying, write, new_object, set_object, at_object, on_list, with_list, new_text, new_list, failure, index_error, attribute_error, negative_slice, if_some}
 use Rattle.rpy_meaning.specs.Arithmetic.{word, word_that_fits, arithmetic, on_word, on_words}
 use Rattle.rpy_base.specs.Number.{trimmed}
-use Rattle.rpy_meaning.specs.Sequences.{tuple, place, item_at, index_object, index, store_object, store_index, delete_object, delete_index, Cut, part, part_between, between, slice, but_last, plus, times, binary, extend, add_to, is_in_object}
+use Rattle.rpy_meaning.specs.Sequences.{count, tuple, place, item_at, index_object, index, store_object, store_index, delete_object, delete_index, Cut, part, part_between, between, slice, but_last, plus, times, binary, extend, add_to, is_in_object}
 use Rattle.rpy_meaning.specs.Walks.{walk_object, walk, has_item, item, advance}
 use Rattle.rpy_meaning.specs.Methods.{texts_of, new_parts, join, split, find, begins, ends, strip, is_byte, text_methods, append, insert_at, extend_by, reverse_list, taken_out, pop, list_methods, get, keys, values, items, dict_methods, object_length, len, ord, chr, to_text, number, to_word}
 use Rattle.rpy_meaning.specs.Operations.{with_none, with_one, with_two, with_three, within, compare, write_if_any, os_write, unpack, add_item, read_attribute, attribute, set_attribute, store_attribute, is_instance_object, is_instance, raise_object, raise, initialised, new_instance, new, call_value, object_method, method, op}
@@ -122,7 +122,7 @@ module _ (Holds : Heap → Op → Type 0) (closed : Closed Holds) (heap : Heap) 
   arithmetic_ok c h Mod a b = if_ok _ (failure_ok c.zero _ _) (h _)
   arithmetic_ok c h Shl a b = if_ok _ (h _) (failure_ok c.number _ _)
   arithmetic_ok c h Shr a b = if_ok _ (h _) (failure_ok c.number _ _)
-  arithmetic_ok c h op a b = h _
+  arithmetic_ok c h o a b = h _
 
   on_word_ok : {f : ℤ → Op} → ((z : ℤ) → L (f z)) → (x : Value) → L (on_word f x)
   on_word_ok h (Word a) = h a
@@ -199,8 +199,8 @@ module _ (Holds : Heap → Op → Type 0) (closed : Closed Holds) (heap : Heap) 
   plus_ok c x y = bad_ok
 
   times_ok : (c : Covers) (x y : Value) → L (times c x y)
-  times_ok c (Text text) (Word n) = new_text_ok _
-  times_ok c (Ref r) (Word n) = with_list_ok (λ vs e. new_list_ok _)
+  times_ok c (Text text) (Word n) = paying_ok _ give_ok
+  times_ok c (Ref r) (Word n) = with_list_ok (λ vs e. let x = repeat_size (count n) vs in new_object_ok _ _ (omega (arith, x)))
   times_ok c (Word a) (Word b) = arithmetic_ok c word_ok Mul a b
   times_ok c Nothing y = none_ok c
   times_ok c x y = bad_ok
@@ -208,7 +208,7 @@ module _ (Holds : Heap → Op → Type 0) (closed : Closed Holds) (heap : Heap) 
   binary_ok : (c : Covers) (op : BinOp) (x y : Value) → L (binary c op x y)
   binary_ok c Add x y = plus_ok c x y
   binary_ok c Mul x y = times_ok c x y
-  binary_ok c op x y = on_words_ok (arithmetic_ok c word_ok op) x y
+  binary_ok c o x y = on_words_ok (arithmetic_ok c word_ok o) x y
 
   extend_ok : (r s : ℕ) (v : Value) → L (extend r s v)
   extend_ok r s v =

@@ -125,6 +125,11 @@ bound_that_wrapped : running (alone (
 unfolding int_wrap
 bound_that_wrapped = refl
 
+-- l = [0] * 1000000000000000000
+list_too_long : running (alone (set 1 (apply_two (row.Binary Mul None) (list (num 0 ∷ [])) (num 1000000000000000000)) ∷ Return (len (Local 1)) ∷ [])) 1000
+    ≡ (Some Running, [], 997)
+list_too_long = refl
+
 -- ---- what is held
 
 args : List (List ℕ)

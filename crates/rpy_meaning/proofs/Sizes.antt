@@ -1,9 +1,9 @@
 -- How long lists and dicts are after an operation.
-use Rattle.std.proofs.Common.{◌≡◌, ℕ, zero, suc, ◌+◌, ◌-◌, ◌≤◌, List, [], ◌∷◌, ◌++◌, Bool, true, false, refl, sym, ap, ◌∙◌, subst, arith, length, min}
+use Rattle.std.proofs.Common.{◌≡◌, ℕ, zero, suc, ◌+◌, ◌-◌, ◌*◌, ◌≤◌, List, [], ◌∷◌, ◌++◌, Bool, true, false, refl, sym, ap, ◌∙◌, subst, arith, length, min}
 use Rattle.std.specs.Prelude.{map, reverse, slice_set, remove, insert, take, drop, ◌||◌, if◌then◌else◌}
-use Rattle.std.specs.List.{list_any}
+use Rattle.std.specs.List.{list_any, repeat}
 use Rattle.std.proofs.lemmas.List.{length-take, length-set, length-map, length-reverse}
-use Rattle.std.proofs.Math.Nat.{le_refl}
+use Rattle.std.proofs.Math.Nat.{le_refl, mul-suc}
 use Rattle.std.proofs.Math.ListN.{length-append, length-drop}
 use Rattle.rpy_tree.specs.Value.{Value}
 use Rattle.rpy_meaning.specs.Compare.{is_equal}
@@ -47,3 +47,10 @@ append_size vs v = rw (length-append vs (v ∷ [])) (omega arith)
 
 pub map_size : {A : Type 0} (f : A → Value) (xs : List A) (k : ℕ) → length xs ≤ k → length (map f xs) ≤ k
 map_size f xs k le = rw (length-map xs f) le
+
+pub repeat_size : (n : ℕ) (vs : List Value) → length (repeat n vs) ≤ length vs * n
+repeat_size zero vs = omega arith
+repeat_size (suc n) vs =
+    let x = repeat_size n vs in
+    let y = mul-suc (length vs) n in
+    rw (length-append vs (repeat n vs)) (omega (arith, x, y))

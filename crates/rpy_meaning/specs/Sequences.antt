@@ -1,12 +1,12 @@
 -- Operations on strings, lists, dicts and tuples.
-use Rattle.std.specs.Prelude.{ℕ, ◌-◌, suc, ℤ, pos, negsuc, int_le, nat_abs, nat_lt, Bool, true, false, ◌&&◌, List, [], ◌∷◌, ◌++◌, length, take, drop, slice_get, slice_set, remove, Option, Some, None, option_and_then, if◌then◌else◌}
+use Rattle.std.specs.Prelude.{ℕ, ◌-◌, ◌*◌, suc, ℤ, pos, negsuc, int_le, nat_abs, nat_lt, Bool, true, false, ◌&&◌, List, [], ◌∷◌, ◌++◌, length, take, drop, slice_get, slice_set, remove, Option, Some, None, option_and_then, if◌then◌else◌}
 use Rattle.std.specs.List.{repeat, list_any}
 use Rattle.rpy_tree.specs.declared.syntax.BinOp.{BinOp}
 use Rattle.rpy_tree.specs.declared.syntax.BinOp.TheVariants.{Add, Mul}
 use Rattle.rpy_tree.specs.Value.{Value, Word, Text, Nothing, Tuple, Ref, Values, none, more, Object, Listed, Mapped}
 use Rattle.rpy_meaning.specs.declared.row.Covers.{Covers}
-use Rattle.rpy_meaning.specs.Costs.{tuple_cost, extend_cost, key_cost}
-use Rattle.rpy_meaning.specs.World.{Op, bad, give, paying, set_object, at_object, with_list, new_text, new_list, index_error, attribute_error, negative_slice, no_key, if_some}
+use Rattle.rpy_meaning.specs.Costs.{text_cost, list_cost, tuple_cost, extend_cost, key_cost}
+use Rattle.rpy_meaning.specs.World.{new_object, Op, bad, give, paying, set_object, at_object, with_list, new_text, new_list, index_error, attribute_error, negative_slice, no_key, if_some}
 use Rattle.rpy_meaning.specs.Compare.{is_equal, is_among}
 use Rattle.rpy_meaning.specs.Arithmetic.{word, on_word, on_words, arithmetic}
 
@@ -157,8 +157,8 @@ plus c x Nothing = attribute_error c
 plus c x y = bad
 
 abbrev pub times : Covers → Value → Value → Op
-times c (Text bytes) (Word n) = new_text (repeat (count n) bytes)
-times c (Ref r) (Word n) = with_list r (λ vs. new_list (repeat (count n) vs))
+times c (Text bytes) (Word n) = paying (text_cost (length bytes * count n)) (give (Text (repeat (count n) bytes)))
+times c (Ref r) (Word n) = with_list r (λ vs. paying (list_cost (length vs * count n)) (new_object (Listed (repeat (count n) vs))))
 times c (Word a) (Word b) = arithmetic c word Mul a b
 times c Nothing y = attribute_error c
 times c x y = bad

@@ -22,8 +22,7 @@ pub fn operations_are_lawful()
 /// What lists and dicts grow by is paid: a bound on the size of each with the steps left stays one.
 pub fn growth_is_paid()
     ensures { (p : Program) (c : Covers) (o : RowOp) (vs : List Value) → KeepsRoom (op p c o vs) }
-{
-}
+{}
 
 /// A bound only stops a run: with more steps it ends the same, unless it was still running. So the
 /// levels of the meaning, which the bound counts, show nowhere.
