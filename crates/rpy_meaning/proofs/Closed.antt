@@ -1,6 +1,6 @@
 -- Induction over operations.
-use Rattle.std.proofs.Common.{◌≡◌, ℕ, zero, suc, ◌+◌, ◌-◌, ◌≤◌, List, [], ◌∷◌, ◌++◌, Bool, true, false, Some, None, Option, refl, arith}
-use Rattle.std.specs.Prelude.{ℤ, pos, negsuc, min, nat_eq, length, map, slice_get, remove, option_map, not, if◌then◌else◌, codes}
+use Rattle.std.proofs.Common.{◌≡◌, ℕ, ◌+◌, ◌≤◌, List, [], ◌∷◌, ◌++◌, Bool, true, false, Some, None, Option, refl, arith}
+use Rattle.std.specs.Prelude.{ℤ, pos, negsuc, min, nat_eq, length, slice_get, remove, option_map, not, if◌then◌else◌, codes}
 use Rattle.std.specs.List.{join_by, slice_split}
 use Rattle.rpy_meaning.specs.Laws.{size}
 use Rattle.rpy_meaning.proofs.Sizes.{remove_size, insert_size, with_key_size, without_key_size, set_size, reverse_size, extend_size, append_size, map_size, repeat_size}

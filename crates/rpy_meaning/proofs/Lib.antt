@@ -1,5 +1,5 @@
 mod Build
-mod Closed
+pub mod Closed
 pub mod FirstPath
 pub mod Bound
 pub mod Held
@@ -7,4 +7,4 @@ pub mod Lawful
 mod Room
 pub mod Steady
 mod Rows
-mod Sizes
+pub mod Sizes

@@ -1,12 +1,12 @@
 -- What lists and dicts grow by is paid.
-use Rattle.std.proofs.Common.{◌≡◌, ℕ, zero, suc, ◌+◌, ◌-◌, ◌<◌, ◌≤◌, List, [], ◌∷◌, ◌++◌, Bool, true, false, Some, None, Option, refl, sym, ap, ◌∙◌, subst, arith, length, ◌⊎◌, inl, inr}
+use Rattle.std.proofs.Common.{◌≡◌, ℕ, zero, suc, ◌+◌, ◌-◌, ◌≤◌, List, [], ◌∷◌, ◌++◌, Bool, true, false, Some, refl, sym, ap, ◌∙◌, subst, arith, length, ◌⊎◌, inl, inr}
 use Rattle.std.specs.Prelude.{nat_lt, slice_get, slice_set, if◌then◌else◌}
 use Rattle.std.proofs.lemmas.Bool.{ltb-false}
-use Rattle.rpy_tree.specs.Value.{Value, Ref, Object, Listed, Mapped, Instance, Heap}
+use Rattle.rpy_tree.specs.Value.{Value, Ref, Object, Heap}
 use Rattle.rpy_meaning.specs.declared.row.Covers.{Covers}
 use Rattle.rpy_meaning.specs.declared.row.RowOp.{RowOp}
 use Rattle.rpy_meaning.specs.Tree.{Program}
-use Rattle.rpy_meaning.specs.World.{World, Op, Answer, Gives, Throws, Fails, Lacks, Enters, Bad, give, paying, new_object, set_object}
+use Rattle.rpy_meaning.specs.World.{World, Op, Lacks, paying, new_object, set_object}
 use Rattle.rpy_meaning.specs.Laws.{size, size_at, HasRoom, OnRoom, KeepsRoom}
 use Rattle.rpy_meaning.specs.Operations.{op}
 use Rattle.rpy_meaning.proofs.Closed.{Closed, op_ok}

@@ -1,7 +1,7 @@
 -- How long lists and dicts are after an operation.
-use Rattle.std.proofs.Common.{◌≡◌, ℕ, zero, suc, ◌+◌, ◌-◌, ◌*◌, ◌≤◌, List, [], ◌∷◌, ◌++◌, Bool, true, false, refl, sym, ap, ◌∙◌, subst, arith, length, min}
+use Rattle.std.proofs.Common.{ℕ, zero, suc, ◌+◌, ◌*◌, ◌≤◌, List, [], ◌∷◌, ◌++◌, Bool, true, false, arith, length}
 use Rattle.std.specs.Prelude.{map, reverse, slice_set, remove, insert, take, drop, ◌||◌, if◌then◌else◌}
-use Rattle.std.specs.List.{list_any, repeat}
+use Rattle.std.specs.List.{repeat}
 use Rattle.std.proofs.lemmas.List.{length-take, length-set, length-map, length-reverse}
 use Rattle.std.proofs.Math.Nat.{le_refl, mul-suc}
 use Rattle.std.proofs.Math.ListN.{length-append, length-drop}
