@@ -8,3 +8,4 @@ mod Room
 pub mod Steady
 mod Rows
 pub mod Sizes
+pub mod Unrolled
