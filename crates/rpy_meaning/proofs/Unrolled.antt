@@ -1,5 +1,5 @@
--- What each expression of a module is, by its parts.
-use Rattle.std.proofs.Common.{◌≡◌, ℕ, List, [], ◌∷◌, Some, None, Option, refl, sym, ap, ◌∙◌}
+-- What the expressions and statements of a module are, by their parts.
+use Rattle.std.proofs.Common.{◌≡◌, ℕ, List, Some, None, Option, sym, ap, ◌∙◌}
 use Rattle.std.specs.Prelude.{ℤ, Bool, map, option_map, if◌then◌else◌}
 use Rattle.rpy_tree.specs.declared.syntax.UnOp.{UnOp}
 use Rattle.rpy_tree.specs.declared.syntax.BinOp.{BinOp}
@@ -8,9 +8,14 @@ use Rattle.rpy_tree.specs.declared.syntax.Expr as syntax
 use Rattle.rpy_tree.specs.declared.syntax.Expr.TheOpen.{Expr-F}
 use Rattle.rpy_tree.specs.declared.syntax.Expr.TheViews as views
 use Rattle.rpy_tree.specs.declared.syntax.Expr.TheVariants as e
+use Rattle.rpy_tree.specs.declared.syntax.Target as aim
+use Rattle.rpy_tree.specs.declared.syntax.Stmt as code
+use Rattle.rpy_tree.specs.declared.syntax.Stmt.TheOpen.{Stmt-F}
+use Rattle.rpy_tree.specs.declared.syntax.Stmt.TheViews as code_views
+use Rattle.rpy_tree.specs.declared.syntax.Stmt.TheVariants as stmt
 use Rattle.rpy_meaning.specs.declared.row.RowOp.TheVariants as row
-use Rattle.rpy_meaning.specs.Tree.{Expr, Apply, And, Or, Target}
-use Rattle.rpy_meaning.specs.Resolved.{Names, Said, Part, said, value_of, values_of, zero_of, one_of, two_of, literal_of, slice_of, binary_of, made_at, named_value, attribute_value, call_of, expr_step, target_step, said_by, expr_by}
+use Rattle.rpy_meaning.specs.Tree.{Apply, And, Or, Target, Pass, Return, Do, Assign, Augment, While, For, Block}
+use Rattle.rpy_meaning.specs.Resolved.{Names, Said, Part, said, value_of, values_of, zero_of, one_of, two_of, literal_of, slice_of, binary_of, made_at, named_value, attribute_value, call_of, expr_step, target_step, said_by, expr_by, target_by, targets_of, subject_of, exprs, Caught, alone, joined, raise_of, assert_of, augmented, stmt_step, clause_step, stmt_by}
 
 module _ (names : Names) where
   abbrev part : syntax.Expr → Part
@@ -77,3 +82,49 @@ module _ (names : Names) where
   pub list_is : (n : ℕ) (items : List syntax.Expr) → said_by names (e.List n items) ≡ said (Apply (row.List (made_at names n)) (values_of (map part items)))
   list_is n items =
       ap (said_by names) (sym (views.rolls-List n items)) ∙ syntax.para-roll-Expr Said Target (expr_step names) (target_step names) (Expr-F.List n items)
+
+  -- ---- statements
+
+  pub pass_is : (n : ℕ) → stmt_by names (stmt.Pass n) ≡ alone names Pass
+  pass_is n =
+      ap (stmt_by names) (sym (code_views.rolls-Pass n)) ∙ code.fold-roll-Stmt Block (Caught names) (stmt_step names) (clause_step names) (Stmt-F.Pass n)
+
+  pub return_is : (n : ℕ) (e : syntax.Expr) → stmt_by names (stmt.Return n (Some e)) ≡ alone names (Return (expr_by names e))
+  return_is n e =
+      ap (stmt_by names) (sym (code_views.rolls-Return n (Some e))) ∙ code.fold-roll-Stmt Block (Caught names) (stmt_step names) (clause_step names) (Stmt-F.Return n (Some e))
+
+  pub raise_is : (n : ℕ) (e : syntax.Expr) → stmt_by names (stmt.Raise n e) ≡ alone names (raise_of names e)
+  raise_is n e =
+      ap (stmt_by names) (sym (code_views.rolls-Raise n e)) ∙ code.fold-roll-Stmt Block (Caught names) (stmt_step names) (clause_step names) (Stmt-F.Raise n e)
+
+  pub assert_is : (n : ℕ) (e : syntax.Expr) → stmt_by names (stmt.Assert n e) ≡ alone names (assert_of names e)
+  assert_is n e =
+      ap (stmt_by names) (sym (code_views.rolls-Assert n e)) ∙ code.fold-roll-Stmt Block (Caught names) (stmt_step names) (clause_step names) (Stmt-F.Assert n e)
+
+  pub del_is : (n : ℕ) (a i : syntax.Expr) → stmt_by names (stmt.Del n a i) ≡ alone names (Do (two_of row.DeleteIndex (expr_by names a) (expr_by names i)))
+  del_is n a i =
+      ap (stmt_by names) (sym (code_views.rolls-Del n a i)) ∙ code.fold-roll-Stmt Block (Caught names) (stmt_step names) (clause_step names) (Stmt-F.Del n a i)
+
+  pub print_is : (n : ℕ) (es : List syntax.Expr) → stmt_by names (stmt.Print n es) ≡ alone names (Do (Apply row.Print (exprs (map (expr_by names) es))))
+  print_is n es =
+      ap (stmt_by names) (sym (code_views.rolls-Print n es)) ∙ code.fold-roll-Stmt Block (Caught names) (stmt_step names) (clause_step names) (Stmt-F.Print n es)
+
+  pub assign_is : (n : ℕ) (ts : List aim.Target) (e : syntax.Expr) → stmt_by names (stmt.Assign n ts e) ≡ alone names (Assign (targets_of (map (target_by names) ts)) (expr_by names e))
+  assign_is n ts e =
+      ap (stmt_by names) (sym (code_views.rolls-Assign n ts e)) ∙ code.fold-roll-Stmt Block (Caught names) (stmt_step names) (clause_step names) (Stmt-F.Assign n ts e)
+
+  pub augment_is : (n : ℕ) (t : aim.Target) (op : BinOp) (e : syntax.Expr) → stmt_by names (stmt.Aug n t op e) ≡ alone names (Augment (target_by names t) (augmented names n op) (expr_by names e))
+  augment_is n t op e =
+      ap (stmt_by names) (sym (code_views.rolls-Aug n t op e)) ∙ code.fold-roll-Stmt Block (Caught names) (stmt_step names) (clause_step names) (Stmt-F.Aug n t op e)
+
+  pub expression_is : (n : ℕ) (e : syntax.Expr) → stmt_by names (stmt.Expr n e) ≡ alone names (Do (expr_by names e))
+  expression_is n e =
+      ap (stmt_by names) (sym (code_views.rolls-Expr n e)) ∙ code.fold-roll-Stmt Block (Caught names) (stmt_step names) (clause_step names) (Stmt-F.Expr n e)
+
+  pub while_is : (n : ℕ) (e : syntax.Expr) (body : List code.Stmt) → stmt_by names (stmt.While n e body) ≡ alone names (While (expr_by names e) (joined names (map (stmt_by names) body)))
+  while_is n e body =
+      ap (stmt_by names) (sym (code_views.rolls-While n e body)) ∙ code.fold-roll-Stmt Block (Caught names) (stmt_step names) (clause_step names) (Stmt-F.While n e body)
+
+  pub for_is : (n : ℕ) (t : aim.Target) (e : syntax.Expr) (body : List code.Stmt) → stmt_by names (stmt.For n t e body) ≡ alone names (For (target_by names t) (subject_of (names.walk n) (said_by names e)) (joined names (map (stmt_by names) body)))
+  for_is n t e body =
+      ap (stmt_by names) (sym (code_views.rolls-For n t e body)) ∙ code.fold-roll-Stmt Block (Caught names) (stmt_step names) (clause_step names) (Stmt-F.For n t e body)
