@@ -1,0 +1,17 @@
+pub mod Arithmetic
+pub mod Bounds
+pub mod Classes
+pub mod Compare
+pub mod Costs
+pub mod Evaluation
+pub mod FirstPath
+pub mod Laws
+pub mod Meaning
+pub mod Methods
+pub mod Moments
+pub mod Operations
+pub mod Resolved
+pub mod Sequences
+pub mod Tree
+pub mod Walks
+pub mod World
