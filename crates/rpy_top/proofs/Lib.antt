@@ -1,6 +1,7 @@
 mod Abstract
 mod Digits
 mod Goes
+mod Loading
 mod MachineSide
 mod MeanSide
 mod Options

@@ -1,6 +1,6 @@
 -- The text of a first-path source is a translation of its program.
 use Rattle.std.proofs.Common.{◌≡◌, ℕ, zero, suc, ◌+◌, ◌<◌, ◌≤◌, ◌⊎◌, Bool, true, false, cond, List, [], ◌∷◌, ◌++◌, length, get_or, Option, Some, None, Result, Ok, Err, codes, refl, sym, ap, subst, ◌∙◌, arith, inl, inr}
-use Rattle.std.specs.Prelude.{◌&&◌, ◌||◌, ◌==◌, not, nat_le, map}
+use Rattle.std.specs.Prelude.{◌&&◌, ◌||◌, ◌==◌, not, nat_le, map, IfOk}
 use Rattle.std.proofs.lemmas.Bool.Decides.{nat_tests}
 use Rattle.csub_tree.specs.Checked as checked
 use Rattle.csub_tree.specs.Spelling.{file_text}
@@ -15,7 +15,8 @@ use Rattle.rpy_nodes.specs.declared.listing.Named.{Named}
 use Rattle.rpy_front.specs.Modules.{AreModules}
 use Rattle.rpy_first.specs.declared.fault.TranslateFault.{TranslateFault}
 use Rattle.rpy_first.specs.declared.fault.TranslateFault.TheVariants.{Source, Name, NotYet, NoMem}
-use Rattle.rpy_top.specs.Answer.{text_of, only_body, TranslatesModules, TranslatesTo}
+use Rattle.rpy_top.specs.Answer.{Sunk, Says, SaysLine, text_of, only_body, TranslatesModules, TranslatesTo}
+use Rattle.rpy_top.specs.declared.status.Status.{Status}
 use Rattle.rpy_first.specs.declared.body.Body.{Body}
 use Rattle.rpy_top.proofs.Abstract.{and_left, and_right, eq_of}
 use Rattle.rpy_top.proofs.Rules.{and_both, keeps_rules}
@@ -98,3 +99,8 @@ sources_named (f ∷ files) h = files_named (f ∷ files) h
 pub some_sources : (files : List (List ℕ)) → are_sources files ≡ true → 0 < length files
 some_sources [] h = absurd cc
 some_sources (f ∷ files) h = omega arith
+
+-- a line that is said, where its text is known
+pub said_line : {N : Type 0} (status answered : Status) (text : Result (List ℕ) N) (wanted : List ℕ) (err : Sunk) → IfOk text (λ t. t ≡ wanted) → SaysLine status answered text err → Says status answered wanted err
+said_line status answered (Ok t) wanted err e s = subst (λ x. Says status answered x err) e s
+said_line status answered (Err n) wanted err e s = inr (inr s)

@@ -265,6 +265,19 @@ Loads most (Err TooLong) file files = IsTooLong most files file × AllRead files
 Loads most (Err NoMem) file files = AllRead files
 Loads most (Err status) file files = ⊥
 
+-- why this file, which is the next one, is not read
+abbrev pub StopsAtNext : BuildWork → List ℕ → Filed → ℕ → Type 0
+StopsAtNext (AtFile file NoFile) name files at = (file ≡ at) × IsMissing files name × AllRead files
+StopsAtNext (AtFile file NotRead) name files at = (file ≡ at) × Rose files.faults_before files.faults
+StopsAtNext (AtFile file TooLong) name files at = (file ≡ at) × IsTooLong limit files name × AllRead files
+StopsAtNext (Ended NoMem) name files at = AllRead files
+StopsAtNext work name files at = ⊥
+
+-- what a function ensures that loads one more file
+abbrev pub LoadsNext : Result (Unit {0}) BuildWork → List ℕ → Filed → List (List ℕ) → List (List ℕ) → Type 0
+LoadsNext (Ok done) name files old new = ((bytes : List ℕ) × AreBytes limit files name bytes × (new ≡ old ++ bytes ∷ [])) × AllRead files
+LoadsNext (Err work) name files old new = StopsAtNext work name files (length old)
+
 -- what a function ensures that loads all files
 abbrev pub LoadsAll : Result (List (List ℕ)) BuildWork → List (List ℕ) → Filed → Type 0
 LoadsAll (Ok sources) names files = AreSources files names sources × AllRead files
@@ -289,4 +302,4 @@ TranslatesFiles sources names (Err work) = (work ≡ Ended NoMem) ⊎ ((fault : 
 -- a line is said, if there was memory for it
 abbrev pub SaysLine : {N : Type 0} → Status → Status → Result (List ℕ) N → Sunk → Type 0
 SaysLine status answered (Ok text) err = Says status answered text err
-SaysLine status answered (Err n) err = Says status answered [] err
+SaysLine status answered (Err n) err = (answered ≡ NoMem) × IsQuiet err

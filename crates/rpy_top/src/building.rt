@@ -3,7 +3,7 @@ ghost use Rattle.std.specs.Prelude.{◌≡◌, ◌≤◌, ◌<◌, length, nat_l
 ghost use Rattle.rpy_top.specs.Command.{are_sources};
 ghost use Rattle.rpy_front.specs.Modules.{are_short};
 ghost use Rattle.rpy_top.specs.Answer as spec;
-ghost use Rattle.rpy_top.specs.Answer.{sunk, filed, Builds, BuildsTo, LoadsAll, TranslatesFiles, Said, SaysLine};
+ghost use Rattle.rpy_top.specs.Answer.{sunk, filed, Builds, BuildsTo, LoadsNext, LoadsAll, TranslatesFiles, Said, SaysLine};
 
 use crate::edge::{load, put, say, say_text};
 use crate::sources::{LIMIT, names_of, translate_sources};
@@ -39,6 +39,26 @@ fn stopped(file: usize, status: Status) -> BuildWork
     }
 }
 
+// The bytes of one more file.
+fn load_next<F: Files>(
+    alloc: Global,
+    files: &mut F,
+    name: &Text,
+    sources: &mut Seq<Text>,
+) -> Result<(), BuildWork>
+    requires { length sources.old ≤ 64 }
+    ensures held { F.held files.new ≡ F.held files.old }
+    ensures loads { LoadsNext result name.now (filed F.held F.faults files.old files.new) sources.old sources.new }
+{
+    match load(alloc, files, name, LIMIT) {
+        Ok(source) => match sources.push(source) {
+            Ok(()) => Ok(()),
+            Err(NoMem) => Err(BuildWork::Ended(Status::NoMem)),
+        },
+        Err(status) => Err(stopped(sources.len(), status)),
+    }
+}
+
 // The bytes of files.
 fn load_all<F: Files>(alloc: Global, files: &mut F, names: &[Text]) -> Result<Seq<Text>, BuildWork>
     requires few { length names.now ≤ 64 }
@@ -46,14 +66,8 @@ fn load_all<F: Files>(alloc: Global, files: &mut F, names: &[Text]) -> Result<Se
     ensures loads { LoadsAll result names.now (filed F.held F.faults files.old files.new) }
 {
     let mut sources = Seq::new(alloc);
-    for (file, name) in names.iter().enumerate() {
-        match load(alloc, files, name, LIMIT) {
-            Ok(source) => match sources.push(source) {
-                Ok(()) => {}
-                Err(NoMem) => return Err(BuildWork::Ended(Status::NoMem)),
-            },
-            Err(status) => return Err(stopped(file, status)),
-        }
+    while let Some(name) = names.get(sources.len()) {
+        load_next(alloc, files, name, &mut sources)?;
     }
     Ok(sources)
 }
@@ -152,6 +166,7 @@ fn say_line<E: Sink>(status: Status, text: Result<Text, NoMem>, err: &mut E) -> 
 }
 
 /// Writes the line for what came of the work.
+#[tactic(auto, using(crate::proofs::Translation::said_line))]
 pub fn say_work<E: Sink>(alloc: Global, work: BuildWork, names: &[Text], err: &mut E) -> Status
     ensures { Said work result names.now (sunk E.faults E.taken err.old err.new) }
 {

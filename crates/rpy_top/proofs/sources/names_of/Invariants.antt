@@ -4,4 +4,4 @@ use Rattle.rpy_top.specs.Command.{module_name}
 use Rattle.rpy_top.proofs.sources.names_of.Given as goal
 
 abbrev pub invariant-loop-file : goal.invariant-loop-file
-invariant-loop-file l = l.names ≡ map module_name (take l.file-index l.files)
+invariant-loop-file l = l.names.items ≡ map module_name (take l.file-index l.files)

@@ -1,0 +1,41 @@
+-- One more file after the first ones.
+use Rattle.std.proofs.Common.{◌≡◌, ℕ, zero, suc, ◌+◌, ◌≤◌, List, [], ◌∷◌, ◌++◌, length, Option, Some, None, Result, Ok, Err, refl, sym, ap, subst, ◌∙◌, arith, false}
+use Rattle.std.specs.Prelude.{slice_get, nat_lt, nat_le, IfSome}
+use Rattle.std.proofs.lemmas.Bool.Decides.{nat_tests}
+use Rattle.rpy_base.specs.Reading.{Disk}
+use Rattle.rpy_top.specs.Answer.{Filed, AreBytes, AreFirst, StopsAt, StopsAtNext, StopsLoading, limit}
+use Rattle.rpy_top.specs.declared.building.BuildWork.{BuildWork}
+use Rattle.rpy_top.specs.declared.building.BuildWork.TheVariants.{Ended, AtFile, Refused, Misnamed}
+use Rattle.rpy_top.specs.declared.status.Status.{Status}
+use Rattle.rpy_top.specs.declared.status.Status.TheVariants as status
+
+same : {A : Type 0} (a b : A) → Some a ≡ Some b → a ≡ b
+same a b e = cc
+
+pub further : (files : Filed) (names sources : List (List ℕ)) (name bytes : List ℕ) → AreFirst files names sources → slice_get names (length sources) ≡ Some name → AreBytes limit files name bytes → AreFirst files names (sources ++ bytes ∷ [])
+further files [] [] name bytes first s are = absurd cc
+further files (n ∷ names) [] name bytes first s are = (subst (λ x. AreBytes limit files x bytes) (sym (same n name s)) are, tt)
+further files [] (b ∷ sources) name bytes first s are = absurd first
+further files (n ∷ names) (b ∷ sources) name bytes first s are = (first.0, further files names sources name bytes first.1 s are)
+
+pub most : (files : Filed) (names sources : List (List ℕ)) → AreFirst files names sources → length sources ≤ length names
+most files names [] first = omega arith
+most files [] (b ∷ sources) first = absurd first
+most files (n ∷ names) (b ∷ sources) first = omega (arith, most files names sources first.1)
+
+pub not_below : (a b : ℕ) → false ≡ nat_lt a b → b ≤ a
+not_below a b h = grind (arith, nat_tests)
+
+-- the same files of another call that hold the same
+pub moved : (old new : Filed) (names sources : List (List ℕ)) → new.held ≡ old.held → AreFirst old names sources → AreFirst new names sources
+moved old new names [] e first = tt
+moved old new [] (b ∷ sources) e first = absurd first
+moved old new (n ∷ names) (b ∷ sources) e first = ((first.0.0, subst (λ h. IfSome h (λ disk. disk n ≡ Some b)) (sym e) first.0.1), moved old new names sources e first.1)
+
+-- why the next file is not read is why the files are not
+pub stops : (files : Filed) (names sources : List (List ℕ)) (name : List ℕ) (work : BuildWork) → AreFirst files names sources → slice_get names (length sources) ≡ Some name → StopsAtNext work name files (length sources) → StopsLoading work names files
+stops files names sources name (Ended status.NoMem) first s w = w
+stops files names sources name (AtFile file status.NoFile) first s w = ((sources, first, w.0, (name, subst (λ i. slice_get names i ≡ Some name) (sym w.0) s, w.1.0)), w.1.1)
+stops files names sources name (AtFile file status.NotRead) first s w = (sources, first, w.0, (name, subst (λ i. slice_get names i ≡ Some name) (sym w.0) s, w.1))
+stops files names sources name (AtFile file status.TooLong) first s w = ((sources, first, w.0, (name, subst (λ i. slice_get names i ≡ Some name) (sym w.0) s, w.1.0)), w.1.1)
+stops files names sources name work first s w = absurd w
