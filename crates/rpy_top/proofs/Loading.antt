@@ -1,9 +1,11 @@
 -- One more file after the first ones.
-use Rattle.std.proofs.Common.{◌≡◌, ℕ, zero, suc, ◌+◌, ◌≤◌, List, [], ◌∷◌, ◌++◌, length, Option, Some, None, Result, Ok, Err, refl, sym, ap, subst, ◌∙◌, arith, false}
+use Rattle.std.proofs.Common.{◌≡◌, ℕ, zero, suc, ◌+◌, ◌≤◌, List, [], ◌∷◌, ◌++◌, length, Option, Some, None, Result, Ok, Err, refl, sym, ap, subst, ◌∙◌, arith, true, false}
 use Rattle.std.specs.Prelude.{slice_get, nat_lt, nat_le, IfSome}
 use Rattle.std.proofs.lemmas.Bool.Decides.{nat_tests}
 use Rattle.rpy_base.specs.Reading.{Disk}
-use Rattle.rpy_top.specs.Answer.{Filed, AreBytes, AreFirst, StopsAt, StopsAtNext, StopsLoading, limit}
+use Rattle.rpy_front.specs.Modules.{are_short}
+use Rattle.rpy_top.specs.Answer.{Filed, filed, Sunk, AllRead, AreBytes, AreFirst, OfSources, Translates, PutEnds, BuildsTo, StopsAt, StopsAtNext, StopsLoading, limit}
+use Rattle.rpy_top.proofs.Rules.{and_both}
 use Rattle.rpy_top.specs.declared.building.BuildWork.{BuildWork}
 use Rattle.rpy_top.specs.declared.building.BuildWork.TheVariants.{Ended, AtFile, Refused, Misnamed}
 use Rattle.rpy_top.specs.declared.status.Status.{Status}
@@ -23,6 +25,9 @@ most files names [] first = omega arith
 most files [] (b ∷ sources) first = absurd first
 most files (n ∷ names) (b ∷ sources) first = omega (arith, most files names sources first.1)
 
+le_true : (a b : ℕ) → a ≤ b → nat_le a b ≡ true
+le_true a b h = grind (arith, nat_tests)
+
 pub not_below : (a b : ℕ) → false ≡ nat_lt a b → b ≤ a
 not_below a b h = grind (arith, nat_tests)
 
@@ -39,3 +44,22 @@ stops files names sources name (AtFile file status.NoFile) first s w = ((sources
 stops files names sources name (AtFile file status.NotRead) first s w = (sources, first, w.0, (name, subst (λ i. slice_get names i ≡ Some name) (sym w.0) s, w.1))
 stops files names sources name (AtFile file status.TooLong) first s w = ((sources, first, w.0, (name, subst (λ i. slice_get names i ≡ Some name) (sym w.0) s, w.1.0)), w.1.1)
 stops files names sources name work first s w = absurd w
+
+-- ---- one state of the files for another that holds the same
+
+pub same_filed : {S : Type 0} (held : S → Option Disk) (faults : S → ℕ) (a b c : S) → held a ≡ held b → faults a ≡ faults b → filed held faults a c ≡ filed held faults b c
+same_filed held faults a b c e f =
+    let first : ℕ → Option Disk → Filed = λ x h. record { held = h; faults_before = x; faults = faults c } in
+    ap (first (faults a)) e ∙ ap (λ x. first x (held b)) f
+
+pub shorts : (files : Filed) (names sources : List (List ℕ)) → AreFirst files names sources → are_short sources ≡ true
+shorts files names [] first = refl
+shorts files [] (b ∷ sources) first = absurd first
+shorts files (n ∷ names) (b ∷ sources) first = and_both _ _ (le_true (length b) 1048576 first.0.0) (shorts files names sources first.1)
+
+-- ---- the text is put, or not
+
+pub put_fails : (names : List (List ℕ)) (files : Filed) (text : List ℕ) (out : Sunk) (s : Status) → OfSources (λ sources modules. Translates sources modules text) names files → AllRead files → PutEnds (Err s) text out → BuildsTo (Ended s) names files out
+put_fails names files text out status.WriteFault of read ends = ((of.0, of.1.0, (text, of.1.1, ends)), read)
+put_fails names files text out status.NoMem of read ends = (read, ends)
+put_fails names files text out s of read ends = absurd ends

@@ -15,7 +15,10 @@ use Rattle.rpy_nodes.specs.declared.listing.Named.{Named}
 use Rattle.rpy_front.specs.Modules.{AreModules}
 use Rattle.rpy_first.specs.declared.fault.TranslateFault.{TranslateFault}
 use Rattle.rpy_first.specs.declared.fault.TranslateFault.TheVariants.{Source, Name, NotYet, NoMem}
-use Rattle.rpy_top.specs.Answer.{Sunk, Says, SaysLine, text_of, only_body, TranslatesModules, TranslatesTo}
+use Rattle.rpy_first.specs.Gives.{Gives}
+use Rattle.rpy_names.specs.Resolve.{prog}
+use Rattle.rpy_tree.specs.declared.program.Program.{Program}
+use Rattle.rpy_top.specs.Answer.{TranslatesBody, Sunk, Says, SaysLine, text_of, only_body, TranslatesModules, TranslatesTo}
 use Rattle.rpy_top.specs.declared.status.Status.{Status}
 use Rattle.rpy_first.specs.declared.body.Body.{Body}
 use Rattle.rpy_top.proofs.Abstract.{and_left, and_right, eq_of}
@@ -104,3 +107,15 @@ some_sources (f ∷ files) h = omega arith
 pub said_line : {N : Type 0} (status answered : Status) (text : Result (List ℕ) N) (wanted : List ℕ) (err : Sunk) → IfOk text (λ t. t ≡ wanted) → SaysLine status answered text err → Says status answered wanted err
 said_line status answered (Ok t) wanted err e s = subst (λ x. Says status answered x err) e s
 said_line status answered (Err n) wanted err e s = inr (inr s)
+
+-- what becomes of modules that make a program is what becomes of the only body
+pub of_body : (name : List ℕ) (ms : List Named) (p : Program) (found : Result Body TranslateFault) (r : Result (List ℕ) TranslateFault) → is_name name ≡ true → prog ms ≡ Some p → Gives (only_body ms) found → TranslatesBody name found r → TranslatesModules ms r
+of_body name ms p (Ok body) (Ok text) named is gives t = ((p, is), (body, gives, built_only name ms body text named gives t))
+of_body name ms p (Ok body) (Err NoMem) named is gives t = tt
+of_body name ms p (Ok body) (Err NotYet) named is gives t = absurd t
+of_body name ms p (Ok body) (Err (Source file line kind)) named is gives t = absurd t
+of_body name ms p (Ok body) (Err (Name file line kind)) named is gives t = absurd t
+of_body name ms p (Err NotYet) r named is gives t = subst (λ x. TranslatesModules ms x) (sym t) ((p, is), gives)
+of_body name ms p (Err NoMem) r named is gives t = subst (λ x. TranslatesModules ms x) (sym t) tt
+of_body name ms p (Err (Source file line kind)) r named is gives t = absurd gives
+of_body name ms p (Err (Name file line kind)) r named is gives t = absurd gives

@@ -67,7 +67,10 @@ fn load_all<F: Files>(alloc: Global, files: &mut F, names: &[Text]) -> Result<Se
 {
     let mut sources = Seq::new(alloc);
     while let Some(name) = names.get(sources.len()) {
-        load_next(alloc, files, name, &mut sources)?;
+        match load_next(alloc, files, name, &mut sources) {
+            Ok(()) => {}
+            Err(work) => return Err(work),
+        }
     }
     Ok(sources)
 }

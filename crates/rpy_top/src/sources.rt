@@ -55,7 +55,6 @@ fn translate_body(
 }
 
 // The C text of modules, the first of which has this name.
-#[tactic(auto, using(crate::proofs::Translation::built_only))]
 fn translate_modules(
     alloc: Global,
     name: &[u8],
