@@ -139,7 +139,7 @@ no_longer bytes k m d e (x ∷ xs) is left_over =
     let first : first_line d.after ≡ first_line (x ∷ xs) = ap first_line left_over ∙ first_more (x ∷ xs) e.after has in
     let s : (w : List ℕ) × (x ∷ xs ≡ first_line (x ∷ xs) ++ w) = split (x ∷ xs) in
     let same : (d.before ++ first_line d.after) ++ (s.0 ++ e.fits.0) ≡ e.before ++ e.fits.0 =
-        ap (λ t. (d.before ++ t) ++ (s.0 ++ e.fits.0)) first ∙ regroup d.before (first_line (x ∷ xs)) s.0 e.fits.0 ∙ ap (λ t. (d.before ++ t) ++ e.fits.0) (sym s.1) ∙ ap (λ t. t ++ e.fits.0) (sym is) in
+    ap (λ t. (d.before ++ t) ++ (s.0 ++ e.fits.0)) first ∙ regroup d.before (first_line (x ∷ xs)) s.0 e.fits.0 ∙ ap (λ t. (d.before ++ t) ++ e.fits.0) (sym s.1) ∙ ap (λ t. t ++ e.fits.0) (sym is) in
     absurd (d.line line (s.0 ++ e.fits.0, e.fits.1, (same ∙ e.fits.2.0, e.fits.2.1)))
 
 one_of : (bytes : List ℕ) (k m : ℕ) (d : IsDead bytes k) (e : IsDead bytes m) → Longer d.before d.after e.before e.after ⊎ Longer e.before e.after d.before d.after → k ≡ m

@@ -1,7 +1,6 @@
 use Rattle.std.proofs.Common.{◌≡◌, ◌<◌, ◌++◌, ◌-◌, ◌∷◌, length}
 use Rattle.csub_tree.specs.Spelling.{listed, operand_text}
 use Rattle.csub_reader.proofs.statements.operands_from.Given as goal
-
 use Rattle.csub_text.specs.Read as read
 use Rattle.csub_text.specs.Read.{mapped}
 use Rattle.csub_text.specs.ReadStatement.{rest_of}

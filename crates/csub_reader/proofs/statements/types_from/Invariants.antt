@@ -1,7 +1,6 @@
 use Rattle.std.proofs.Common.{◌≡◌, ◌<◌, ◌++◌, ◌-◌, ◌∷◌, length}
 use Rattle.csub_tree.specs.Spelling.{listed_or_void, type_alone}
 use Rattle.csub_reader.proofs.statements.types_from.Given as goal
-
 use Rattle.csub_text.specs.Read as read
 use Rattle.csub_text.specs.Read.{mapped}
 use Rattle.csub_text.specs.ReadStatement.{rest_of}
