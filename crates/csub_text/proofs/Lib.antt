@@ -1,3 +1,4 @@
+pub mod DeadLaws
 pub mod Cells
 pub mod Declarations
 pub mod Files
