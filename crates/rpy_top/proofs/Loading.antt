@@ -1,5 +1,5 @@
 -- One more file after the first ones.
-use Rattle.std.proofs.Common.{◌≡◌, ℕ, zero, suc, ◌+◌, ◌≤◌, List, [], ◌∷◌, ◌++◌, length, Option, Some, None, Result, Ok, Err, refl, sym, ap, subst, ◌∙◌, arith, true, false}
+use Rattle.std.proofs.Common.{◌≡◌, ℕ, zero, suc, ◌+◌, ◌≤◌, List, [], ◌∷◌, ◌++◌, length, get_or, Option, Some, None, Result, Ok, Err, refl, sym, ap, subst, ◌∙◌, arith, true, false}
 use Rattle.std.specs.Prelude.{slice_get, nat_lt, nat_le, IfSome}
 use Rattle.std.proofs.lemmas.Bool.Decides.{nat_tests}
 use Rattle.rpy_base.specs.Reading.{Disk}
@@ -31,6 +31,18 @@ le_true a b h = grind (arith, nat_tests)
 pub not_below : (a b : ℕ) → false ≡ nat_lt a b → b ≤ a
 not_below a b h = grind (arith, nat_tests)
 
+less : (a b : ℕ) → true ≡ nat_lt (suc a) (suc b) → true ≡ nat_lt a b
+less a b h = grind (arith, nat_tests)
+
+none_below : (a : ℕ) → true ≡ nat_lt a 0 → ⊥
+none_below a h = grind (arith, nat_tests)
+
+-- what is looked up below the length is the file there
+pub at_place : (names : List (List ℕ)) (i : ℕ) (name : List ℕ) → true ≡ nat_lt i (length names) → get_or names i name ≡ name → slice_get names i ≡ Some name
+at_place [] i name h e = absurd (none_below i h)
+at_place (n ∷ names) zero name h e = ap Some e
+at_place (n ∷ names) (suc i) name h e = at_place names i name (less i (length names) h) e
+
 -- the same files of another call that hold the same
 pub moved : (old new : Filed) (names sources : List (List ℕ)) → new.held ≡ old.held → AreFirst old names sources → AreFirst new names sources
 moved old new names [] e first = tt
@@ -40,9 +52,9 @@ moved old new (n ∷ names) (b ∷ sources) e first = ((first.0.0, subst (λ h. 
 -- why the next file is not read is why the files are not
 pub stops : (files : Filed) (names sources : List (List ℕ)) (name : List ℕ) (work : BuildWork) → AreFirst files names sources → slice_get names (length sources) ≡ Some name → StopsAtNext work name files (length sources) → StopsLoading work names files
 stops files names sources name (Ended status.NoMem) first s w = w
-stops files names sources name (AtFile file status.NoFile) first s w = ((sources, first, w.0, (name, subst (λ i. slice_get names i ≡ Some name) (sym w.0) s, w.1.0)), w.1.1)
+stops files names sources name (AtFile file status.NoFile) first s w = ((sources, first, w.0, (name, subst (λ i. slice_get names i ≡ Some name) (sym w.0) s, w.1)), w.2)
 stops files names sources name (AtFile file status.NotRead) first s w = (sources, first, w.0, (name, subst (λ i. slice_get names i ≡ Some name) (sym w.0) s, w.1))
-stops files names sources name (AtFile file status.TooLong) first s w = ((sources, first, w.0, (name, subst (λ i. slice_get names i ≡ Some name) (sym w.0) s, w.1.0)), w.1.1)
+stops files names sources name (AtFile file status.TooLong) first s w = ((sources, first, w.0, (name, subst (λ i. slice_get names i ≡ Some name) (sym w.0) s, w.1)), w.2)
 stops files names sources name work first s w = absurd w
 
 -- ---- one state of the files for another that holds the same
@@ -60,6 +72,6 @@ shorts files (n ∷ names) (b ∷ sources) first = and_both _ _ (le_true (length
 -- ---- the text is put, or not
 
 pub put_fails : (names : List (List ℕ)) (files : Filed) (text : List ℕ) (out : Sunk) (s : Status) → OfSources (λ sources modules. Translates sources modules text) names files → AllRead files → PutEnds (Err s) text out → BuildsTo (Ended s) names files out
-put_fails names files text out status.WriteFault of read ends = ((of.0, of.1.0, (text, of.1.1, ends)), read)
+put_fails names files text out status.WriteFault of read ends = ((of.0, of.1, (text, of.2, ends)), read)
 put_fails names files text out status.NoMem of read ends = (read, ends)
 put_fails names files text out s of read ends = absurd ends

@@ -1,9 +1,17 @@
+use Rattle.std.proofs.Common.{ap, subst, ◌∙◌}
+use Rattle.std.specs.Prelude.{map, Err}
+use Rattle.rpy_front.specs.Modules.{are_short}
+use Rattle.rpy_top.specs.Answer.{Translates, PutEnds, filed, sunk}
+use Rattle.rpy_top.specs.Command.{module_name}
 use Rattle.rpy_top.proofs.Loading.{shorts, put_fails}
 use Rattle.rpy_top.proofs.building.build_few.Goals as goal
 
 pub translate_files-requires-clause-short : goal.translate_files-requires-clause-short
-translate_files-requires-clause-short g c = shorts _ _ _ c.in-Ok.ensures.loads.0.0
+translate_files-requires-clause-short g c =
+    ap are_short c.as_slice.ensures ∙ shorts (filed g.F.Files.held g.F.Files.faults c.args.files.now c.load_all.new.files) c.args.names.now c.in-Ok.sources c.in-Ok.ensures.loads.0.0
 
 pub returns-in-Ok-translate_files-clause-builds : goal.returns-in-Ok-translate_files-clause-builds
 returns-in-Ok-translate_files-clause-builds g c =
-    put_fails _ _ _ _ c.in-Err-put.status (c.in-Ok.sources, c.in-Ok.ensures.loads.0, c.in-Ok-translate_files.ensures) c.in-Ok.ensures.loads.1 c.in-Err-put.ensures
+    let t = subst (λ x. Translates x (map module_name c.args.names.now) c.in-Ok-translate_files.text) c.as_slice.ensures c.in-Ok-translate_files.ensures in
+    let p = subst (λ x. PutEnds (Err c.in-Err-put.status) x (sunk g.K.Sink.faults g.K.Sink.taken c.args.out.now c.put.new.sink)) c.bytes.ensures c.in-Err-put.ensures in
+    put_fails c.args.names.now (filed g.F.Files.held g.F.Files.faults c.args.files.now c.load_all.new.files) c.in-Ok-translate_files.text _ c.in-Err-put.status (c.in-Ok.sources, c.in-Ok.ensures.loads.0, t) c.in-Ok.ensures.loads.1 p

@@ -1,10 +1,17 @@
-use Rattle.std.proofs.Common.{◌≡◌, subst, ap, ◌∙◌}
-use Rattle.rpy_top.specs.Answer.{Said}
+use Rattle.std.proofs.Common.{subst}
+use Rattle.rpy_first.specs.Source.{refusal}
+use Rattle.rpy_front.specs.Names.{name_refusal}
+use Rattle.rpy_top.specs.Answer.{Says, sunk}
+use Rattle.rpy_top.specs.declared.status.Status.TheVariants.{NotSource, NotProgram}
 use Rattle.rpy_top.proofs.Translation.{said_line}
 use Rattle.rpy_top.proofs.building.say_work.Goals as goal
 
 pub returns-in-Refused : goal.returns-in-Refused
-returns-in-Refused c = rw c.in-Refused.is (said_line _ _ _ _ _ c.refusal-text.ensures c.say_line.ensures)
+returns-in-Refused g c =
+    let s = said_line _ _ _ _ _ c.refusal-text.ensures c.say_line.ensures in
+    rw c.in-Refused.is (subst (λ f. Says NotSource c.say_line.result (refusal f c.in-Refused.line c.in-Refused.kind) (sunk g.E.Sink.faults g.E.Sink.taken c.args.err.now c.say_line.new.err)) c.file_at-in-Refused.ensures s)
 
 pub returns-in-Misnamed : goal.returns-in-Misnamed
-returns-in-Misnamed c = rw c.in-Misnamed.is (said_line _ _ _ _ _ c.name_refusal-text.ensures c.say_line-in-Misnamed.ensures)
+returns-in-Misnamed g c =
+    let s = said_line _ _ _ _ _ c.name_refusal-text.ensures c.say_line-in-Misnamed.ensures in
+    rw c.in-Misnamed.is (subst (λ f. Says NotProgram c.say_line-in-Misnamed.result (name_refusal f c.in-Misnamed.line c.in-Misnamed.kind) (sunk g.E.Sink.faults g.E.Sink.taken c.args.err.now c.say_line-in-Misnamed.new.err)) c.file_at-in-Misnamed.ensures s)
