@@ -33,6 +33,20 @@ LINES = [b'def q(a, b=1 + 2, c=[1], *d):\n    for a in range(0, 9, -1):\n       
          b'        except (Q6, KeyError), e: me.q += e\n    def zz(x): pass']
 
 
+# Programs whose answer is known without a reference.
+RETURNS = b'def entry_point(argv):\n    return 0\n'
+KNOWN = [
+    ([('a', b'')], 3, b'a.py:1: no entry point\n'),
+    ([('a', b'from b import C\ndef entry_point(argv):\n    return C\n'), ('b', b'D = 1\n')], 3, b'a.py:1: unknown name\n'),
+    ([('a', b'import b\n' + RETURNS), ('b', b'X = 1\nY = X << 63\n')], 3, b'b.py:2: bad constant\n'),
+    ([('a', RETURNS), ('b', b'class A: pass\nclass A: pass\n')], 3, b'b.py:2: bound twice\n'),
+    ([('a', b'class A(B): pass\nclass B: pass\n' + RETURNS)], 3, b'a.py:1: bad base\n'),
+    ([('a', b'import c\n' + RETURNS), ('b', b'')], 3, b'a.py:1: no module\n'),
+    ([('m%d' % i, RETURNS) for i in range(64)], 16, b'm0.py: not yet\n'),
+    ([('m%d' % i, RETURNS) for i in range(65)], 15, b'too many files\n'),
+]
+
+
 def programs():
     """The files of each command of each program, by module name."""
     seen = set()
@@ -145,6 +159,13 @@ def main():
     passed = failed = refused = 0
     start = time.time()
     with tempfile.TemporaryDirectory() as folder:
+        for files, status, said in KNOWN:
+            done = build(folder, files)
+            good = (done.returncode, done.stdout, done.stderr) == (status, b'', said)
+            passed += good
+            failed += not good
+            if not good:
+                print('differs: %r\n  got  %d %r\n  want %d %r' % (files[:2], done.returncode, done.stderr, status, said))
         for name, files in whole + list(mutants(whole, count)):
             if time.time() - start > SECONDS:
                 print('names: stopped after %d seconds' % SECONDS)
