@@ -2,11 +2,13 @@
 """Builds programs with the program and compares which are refused for a name, in which file, on which line and with
 which words, with an independent reading of the modules.
 
-The programs are all of those in ../shared, and as many slightly wrong ones as the first word says (2,000 without
-one): names, numbers and lines are changed, and imports, constants and classes put before the first line. A third of
-them have the files of two programs. Where ../shared is missing the check is skipped. A program that the reference
+The programs are all of those in ../shared, and as many slightly wrong ones as the first word says (4,000 without
+one, of which more than 2,000 are modules still): names, numbers and lines are changed, and imports, constants and
+classes put before the first line. A third of them have the files of two programs. Where ../shared is missing the
+check is skipped. A program that the reference
 takes has to be built or answered by a later status. The last line is 'N passed, M failed'."""
 import glob
+import keyword
 import os
 import random
 import re
@@ -121,6 +123,14 @@ def mutants(whole, count):
         yield '%s, seed %d' % (name, seed), changed(files, seed)
 
 
+def fits(files):
+    """Whether words may name the files, and each keeps its limit."""
+    names = [module for module, _ in files]
+    barred = set(keyword.kwlist) - {'None', 'True', 'False', 'nonlocal', 'async', 'await'} | {'print', 'exec', 'os', 'sys', 'rpython'}
+    return (all(re.fullmatch('[A-Za-z_][A-Za-z_0-9]*', name) and name not in barred for name in names)
+            and len(set(names)) == len(names) and all(len(source) <= 1048576 for _, source in files))
+
+
 def reference(files, tokens, grammar, names):
     """None where a file is no module; else the line on `err`, which is empty where no name is at fault."""
     try:
@@ -154,7 +164,7 @@ def main():
     import grammar
     import names
     import tokens
-    count = int(sys.argv[1]) if len(sys.argv) > 1 else 2000
+    count = int(sys.argv[1]) if len(sys.argv) > 1 else 4000
     whole = list(programs())
     passed = failed = refused = 0
     start = time.time()
@@ -170,7 +180,7 @@ def main():
             if time.time() - start > SECONDS:
                 print('names: stopped after %d seconds' % SECONDS)
                 break
-            want = reference(files, tokens, grammar, names)
+            want = reference(files, tokens, grammar, names) if fits(files) else None
             if want is None:
                 continue
             done = build(folder, files)
