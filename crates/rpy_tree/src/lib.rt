@@ -7,7 +7,9 @@ pub mod program;
 pub mod syntax;
 
 pub use places::line_in;
-pub use program::{Builtin, ClassId, ClassInfo, Const, FunId, FunInfo, Program, Site, SiteId, Use};
+pub use program::{
+    Builtin, ClassId, ClassInfo, ClauseInfo, Const, FunId, FunInfo, Program, Site, SiteId, Use,
+};
 pub use syntax::{
     BinOp, ClassDef, Clause, CmpOp, Expr, Function, Member, Module, NodeId, Param, Stmt, Target,
     UnOp,

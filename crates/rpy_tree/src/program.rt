@@ -80,6 +80,15 @@ pub struct Site {
     pub prebuilt: Option<Seq<(Const, Const)>>,
 }
 
+/// A clause of a `try`: the classes in its head, none where it is bare, and the local that it binds.
+#[derive(Drop)]
+pub struct ClauseInfo {
+    pub node: NodeId,
+    pub classes: Seq<ClassId>,
+    pub local: Option<u32>,
+}
+
+/// The clauses stand in node order.
 #[derive(Drop)]
 pub struct Program {
     pub names: Seq<Text>,
@@ -88,5 +97,6 @@ pub struct Program {
     pub functions: Seq<FunInfo>,
     pub classes: Seq<ClassInfo>,
     pub sites: Seq<Site>,
+    pub clauses: Seq<ClauseInfo>,
     pub entry: FunId,
 }
