@@ -1,0 +1,324 @@
+// The blocks of a function so far, and how one more is put after them.
+use crate::places::{first, first_and, stored};
+use flow_graph::{Block, Exit, Link, Op, VarId};
+use rpy_base::{NoMem, Seq};
+use rpy_meaning::{Covers, RowOp};
+use rpy_tree::{ClassId, NodeId};
+use std::alloc::Global;
+
+/// The blocks, and the first variable that is not used yet.
+#[derive(Drop)]
+pub struct Code {
+    pub blocks: Seq<Block>,
+    pub next: VarId,
+}
+
+/// A block, and how many of the variables go on to it, the first ones.
+#[derive(Clone, Copy, Debug, PartialEq, Eq)]
+pub struct Aim {
+    pub to: u64,
+    pub keep: usize,
+}
+
+/// An exception of the class goes to the block with the first variables, of which the local, if
+/// there is one, is the exception then.
+#[derive(Clone, Copy, Debug, PartialEq, Eq)]
+pub struct Hand {
+    pub class: ClassId,
+    pub local: Option<u32>,
+    pub aim: Aim,
+}
+
+/// Where exceptions go: to the first hand that takes them, else on with the first variables and the
+/// exception; for which failures they come; and whether a `try` stands around.
+#[derive(Drop)]
+pub struct Scope {
+    pub hands: Seq<Hand>,
+    pub default: Aim,
+    pub covers: Covers,
+    pub tried: bool,
+}
+
+/// A block, and the places of the variables that go on to it.
+#[derive(Drop)]
+pub struct Jump {
+    pub to: u64,
+    pub places: Seq<usize>,
+}
+
+/// An operation at a node, and whether its result is the node's value.
+#[derive(Drop)]
+pub struct Act {
+    pub node: NodeId,
+    pub value: bool,
+    pub op: RowOp,
+}
+
+pub fn act(node: NodeId, value: bool, op: RowOp) -> Act {
+    Act { node, value, op }
+}
+
+/// On to a block with the first variables.
+pub fn jump_first(alloc: Global, to: u64, keep: usize) -> Result<Jump, NoMem> {
+    Ok(Jump {
+        to,
+        places: first(alloc, keep)?,
+    })
+}
+
+/// On to a block with the first variables and one more.
+pub fn jump_and(alloc: Global, to: u64, keep: usize, last: usize) -> Result<Jump, NoMem> {
+    Ok(Jump {
+        to,
+        places: first_and(alloc, keep, last)?,
+    })
+}
+
+/// On to a block with the first variables, of which a local is another then.
+pub fn jump_stored(
+    alloc: Global,
+    to: u64,
+    keep: usize,
+    local: u32,
+    place: usize,
+) -> Result<Jump, NoMem> {
+    Ok(Jump {
+        to,
+        places: stored(alloc, keep, local as usize, place)?,
+    })
+}
+
+// The variable at a place of a block whose first variable is this one.
+fn variable(base: VarId, place: usize) -> Result<VarId, NoMem> {
+    match base.checked_add(place as u64) {
+        None => Err(NoMem),
+        Some(variable) => Ok(variable),
+    }
+}
+
+fn variables(alloc: Global, base: VarId, places: &[usize]) -> Result<Seq<VarId>, NoMem> {
+    let mut variables = Seq::new(alloc);
+    for place in places {
+        variables.push(variable(base, *place)?)?;
+    }
+    Ok(variables)
+}
+
+fn inputs(alloc: Global, base: VarId, m: usize) -> Result<Seq<VarId>, NoMem> {
+    let places = first(alloc, m)?;
+    variables(alloc, base, places.as_slice())
+}
+
+fn link(alloc: Global, base: VarId, jump: &Jump) -> Result<Link, NoMem> {
+    Ok(Link {
+        to: jump.to,
+        args: variables(alloc, base, jump.places.as_slice())?,
+    })
+}
+
+// Where a hand takes the exception at this place.
+fn hand_jump(alloc: Global, hand: Hand, place: usize) -> Result<Jump, NoMem> {
+    match hand.local {
+        None => jump_first(alloc, hand.aim.to, hand.aim.keep),
+        Some(local) => jump_stored(alloc, hand.aim.to, hand.aim.keep, local, place),
+    }
+}
+
+fn hand_link(
+    alloc: Global,
+    base: VarId,
+    hand: Hand,
+    place: usize,
+) -> Result<(ClassId, Link), NoMem> {
+    let jump = hand_jump(alloc, hand, place)?;
+    Ok((hand.class, link(alloc, base, &jump)?))
+}
+
+fn hand_links(
+    alloc: Global,
+    base: VarId,
+    hands: &[Hand],
+    place: usize,
+) -> Result<Seq<(ClassId, Link)>, NoMem> {
+    let mut links = Seq::new(alloc);
+    for hand in hands {
+        links.push(hand_link(alloc, base, *hand, place)?)?;
+    }
+    Ok(links)
+}
+
+fn default_link(alloc: Global, base: VarId, aim: Aim, place: usize) -> Result<Link, NoMem> {
+    let jump = jump_and(alloc, aim.to, aim.keep, place)?;
+    link(alloc, base, &jump)
+}
+
+fn ops_of(
+    alloc: Global,
+    base: VarId,
+    covers: Covers,
+    of: Act,
+    args: &[usize],
+    m: usize,
+) -> Result<Seq<Op>, NoMem> {
+    let mut ops = Seq::new(alloc);
+    ops.push(Op {
+        result: variable(base, m)?,
+        op: of.op,
+        args: variables(alloc, base, args)?,
+        node: of.node,
+        value: of.value,
+        covered: covers,
+    })?;
+    Ok(ops)
+}
+
+impl Code {
+    pub fn new(alloc: Global) -> Code {
+        Code {
+            blocks: Seq::new(alloc),
+            next: 0,
+        }
+    }
+
+    // So many variables are used from here on.
+    fn take(&mut self, count: usize) -> Result<VarId, NoMem> {
+        let base = self.next;
+        self.next = variable(base, count)?;
+        Ok(base)
+    }
+
+    fn put(&mut self, block: Block) -> Result<u64, NoMem> {
+        let number = self.blocks.len() as u64;
+        self.blocks.push(block)?;
+        Ok(number)
+    }
+
+    /// A block with m inputs that goes on at once.
+    pub fn put_jump(&mut self, alloc: Global, m: usize, jump: Jump) -> Result<u64, NoMem> {
+        let base = self.take(m)?;
+        self.put(Block {
+            inputs: inputs(alloc, base, m)?,
+            ops: Seq::new(alloc),
+            exit: Exit::Goto(link(alloc, base, &jump)?),
+        })
+    }
+
+    /// A block with m inputs that goes on by the truth of one of them.
+    pub fn put_fork(
+        &mut self,
+        alloc: Global,
+        m: usize,
+        test: usize,
+        yes: Jump,
+        no: Jump,
+    ) -> Result<u64, NoMem> {
+        let base = self.take(m)?;
+        self.put(Block {
+            inputs: inputs(alloc, base, m)?,
+            ops: Seq::new(alloc),
+            exit: Exit::If(
+                variable(base, test)?,
+                link(alloc, base, &yes)?,
+                link(alloc, base, &no)?,
+            ),
+        })
+    }
+
+    /// A block with m inputs and one operation, whose result or exception is at place m.
+    pub fn put_op(
+        &mut self,
+        alloc: Global,
+        scope: &Scope,
+        of: Act,
+        args: Seq<usize>,
+        m: usize,
+        norm: Jump,
+    ) -> Result<u64, NoMem> {
+        let base = self.take(m)?;
+        let result = self.take(1)?;
+        self.put(Block {
+            inputs: inputs(alloc, base, m)?,
+            ops: ops_of(alloc, base, scope.covers, of, args.as_slice(), m)?,
+            exit: Exit::OnRaise(
+                result,
+                hand_links(alloc, base, scope.hands.as_slice(), m)?,
+                Some(default_link(alloc, base, scope.default, m)?),
+                link(alloc, base, &norm)?,
+            ),
+        })
+    }
+
+    /// A block with m inputs and one operation that cannot raise.
+    pub fn put_plain(
+        &mut self,
+        alloc: Global,
+        covers: Covers,
+        of: Act,
+        m: usize,
+        norm: Jump,
+    ) -> Result<u64, NoMem> {
+        let base = self.take(m)?;
+        let _result = self.take(1)?;
+        let none: Seq<usize> = Seq::new(alloc);
+        self.put(Block {
+            inputs: inputs(alloc, base, m)?,
+            ops: ops_of(alloc, base, covers, of, none.as_slice(), m)?,
+            exit: Exit::Goto(link(alloc, base, &norm)?),
+        })
+    }
+
+    /// A block with one input, which it returns.
+    pub fn put_return(&mut self, alloc: Global) -> Result<u64, NoMem> {
+        let base = self.take(1)?;
+        self.put(Block {
+            inputs: inputs(alloc, base, 1)?,
+            ops: Seq::new(alloc),
+            exit: Exit::Return(base),
+        })
+    }
+
+    /// A block with one input, an exception with which it leaves the function.
+    pub fn put_raise(&mut self, alloc: Global) -> Result<u64, NoMem> {
+        let base = self.take(1)?;
+        self.put(Block {
+            inputs: inputs(alloc, base, 1)?,
+            ops: Seq::new(alloc),
+            exit: Exit::Raise(base),
+        })
+    }
+
+    /// A block with m inputs that goes on to another, which is not there yet, with the first of them.
+    pub fn put_head(&mut self, alloc: Global, m: usize) -> Result<Head, NoMem> {
+        let base = self.take(m)?;
+        let jump = jump_first(alloc, 0, 0)?;
+        let number = self.put(Block {
+            inputs: inputs(alloc, base, m)?,
+            ops: Seq::new(alloc),
+            exit: Exit::Goto(link(alloc, base, &jump)?),
+        })?;
+        Ok(Head { number, base, m })
+    }
+
+    /// The head goes on to this block.
+    pub fn aim(&mut self, alloc: Global, head: Head, to: u64) -> Result<(), NoMem> {
+        let jump = jump_first(alloc, to, head.m)?;
+        let block = Block {
+            inputs: inputs(alloc, head.base, head.m)?,
+            ops: Seq::new(alloc),
+            exit: Exit::Goto(link(alloc, head.base, &jump)?),
+        };
+        let at = head.number as usize;
+        if at < self.blocks.len() {
+            self.blocks.set(at, block);
+        }
+        Ok(())
+    }
+}
+
+/// A block to which others go on before it is known where it goes.
+#[derive(Clone, Copy, Debug, PartialEq, Eq)]
+pub struct Head {
+    pub number: u64,
+    pub base: VarId,
+    pub m: usize,
+}

@@ -1,0 +1,951 @@
+// Expressions to blocks. What comes after a part is put first, so each block goes on to blocks with
+// known numbers. Where a part begins, the first variables of a block are the function's locals, and
+// those that enclosing parts hold stand behind them. A part's value is one more.
+use crate::NEVER;
+use crate::code::{Act, Code, Head, Jump, Scope, act, jump_and, jump_first, jump_stored};
+use crate::copy::copy_op;
+use crate::narrow::{Narrowing, Side, narrowed};
+use crate::places::{one, plus, range, three, two};
+use rpy_base::{NoMem, Own, Seq};
+use rpy_copies::copy_const;
+use rpy_meaning::RowOp;
+use rpy_resolved::{Expr, Subject, Target};
+use rpy_tree::{CmpOp, NodeId, SiteId};
+use std::alloc::Global;
+
+fn is_raise(op: &RowOp) -> bool {
+    match op {
+        RowOp::Raise => true,
+        _ => false,
+    }
+}
+
+// Nothing follows what raises.
+fn onward(alloc: Global, op: &RowOp, norm: u64, m: usize, last: usize) -> Result<Jump, NoMem> {
+    if is_raise(op) {
+        jump_first(alloc, NEVER, 0)
+    } else {
+        jump_and(alloc, norm, m, last)
+    }
+}
+
+// An operation on the last of m + count variables, in whose place its result goes on.
+fn put_last(
+    alloc: Global,
+    code: &mut Code,
+    scope: &Scope,
+    of: Act,
+    m: usize,
+    count: usize,
+    norm: u64,
+) -> Result<u64, NoMem> {
+    let args = range(alloc, m, count)?;
+    let last = plus(m, count)?;
+    let jump = onward(alloc, &of.op, norm, m, last)?;
+    code.put_op(alloc, scope, of, args, last, jump)
+}
+
+// An operation without operands.
+fn put_leaf(
+    alloc: Global,
+    code: &mut Code,
+    scope: &Scope,
+    of: Act,
+    m: usize,
+    norm: u64,
+) -> Result<u64, NoMem> {
+    put_last(alloc, code, scope, of, m, 0, norm)
+}
+
+// A copy of the variable at a place.
+fn put_copy(
+    alloc: Global,
+    code: &mut Code,
+    scope: &Scope,
+    node: NodeId,
+    place: usize,
+    m: usize,
+    norm: u64,
+) -> Result<u64, NoMem> {
+    let args = one(alloc, place)?;
+    let jump = jump_and(alloc, norm, m, m)?;
+    code.put_op(alloc, scope, act(node, true, RowOp::Copy), args, m, jump)
+}
+
+// The meeting of the ways of `and` and `or`: the value is the last of m + 1 variables.
+fn put_meeting(
+    alloc: Global,
+    code: &mut Code,
+    scope: &Scope,
+    node: NodeId,
+    m: usize,
+    norm: u64,
+) -> Result<u64, NoMem> {
+    put_last(alloc, code, scope, act(node, true, RowOp::Copy), m, 1, norm)
+}
+
+/// Blocks that evaluate an expression where m variables are there, and the first of them. They go on
+/// to `norm` with its value as one more variable.
+#[cycle(expr)]
+pub fn put_expr(
+    alloc: Global,
+    code: &mut Code,
+    scope: &Scope,
+    e: &Expr,
+    m: usize,
+    norm: u64,
+) -> Result<u64, NoMem> {
+    match e {
+        Expr::Local(node, local) => {
+            put_copy(alloc, code, scope, *node, *local as usize, m, norm)
+        }
+        Expr::Constant(node, value) => {
+            let op = RowOp::Constant(copy_const(alloc, value)?);
+            put_leaf(alloc, code, scope, act(*node, true, op), m, norm)
+        }
+        Expr::Apply(node, value, op, es) => {
+            put_apply(
+                alloc,
+                code,
+                scope,
+                *node,
+                *value,
+                op,
+                es.as_slice(),
+                m,
+                norm,
+            )
+        }
+        Expr::And(node, a, b) => {
+            put_logic(alloc, code, scope, *node, true, a.get(), b.get(), m, norm)
+        }
+        Expr::Or(node, a, b) => {
+            put_logic(alloc, code, scope, *node, false, a.get(), b.get(), m, norm)
+        }
+        Expr::Display(node, site, pairs) => {
+            put_display(alloc, code, scope, *node, *site, pairs.as_slice(), m, norm)
+        }
+        Expr::Comprehension(node, site, item, target, subject, condition) => put_comprehension(
+            alloc,
+            code,
+            scope,
+            *node,
+            *site,
+            item.get(),
+            target.get(),
+            subject.get(),
+            condition,
+            m,
+            norm,
+        ),
+    }
+}
+
+// The operands from left to right, each one more variable.
+#[cycle(expr)]
+fn put_exprs(
+    alloc: Global,
+    code: &mut Code,
+    scope: &Scope,
+    es: &[Expr],
+    m: usize,
+    norm: u64,
+) -> Result<u64, NoMem> {
+    match es {
+        [] => Ok(norm),
+        [e, rest @ ..] => {
+            let more = plus(m, 1)?;
+            let next = put_exprs(alloc, code, scope, rest, more, norm)?;
+            put_expr(alloc, code, scope, e, m, next)
+        }
+    }
+}
+
+// Whether the operand of `not` is one whose own parts stand in a test.
+fn has_ways(e: &Expr) -> bool {
+    match e {
+        Expr::And(_, _, _) => true,
+        Expr::Or(_, _, _) => true,
+        Expr::Apply(_, _, RowOp::Not, _) => true,
+        _ => false,
+    }
+}
+
+#[cycle(expr)]
+fn put_apply(
+    alloc: Global,
+    code: &mut Code,
+    scope: &Scope,
+    node: NodeId,
+    value: bool,
+    op: &RowOp,
+    es: &[Expr],
+    m: usize,
+    norm: u64,
+) -> Result<u64, NoMem> {
+    match es {
+        [a] => match op {
+            RowOp::Not => {
+                if has_ways(a) {
+                    put_not(alloc, code, scope, node, a, m, norm)
+                } else {
+                    put_operation(alloc, code, scope, node, value, op, es, m, norm)
+                }
+            }
+            _ => put_operation(alloc, code, scope, node, value, op, es, m, norm),
+        },
+        _ => put_operation(alloc, code, scope, node, value, op, es, m, norm),
+    }
+}
+
+#[cycle(expr)]
+fn put_operation(
+    alloc: Global,
+    code: &mut Code,
+    scope: &Scope,
+    node: NodeId,
+    value: bool,
+    op: &RowOp,
+    es: &[Expr],
+    m: usize,
+    norm: u64,
+) -> Result<u64, NoMem> {
+    let op = copy_op(alloc, op)?;
+    let last = put_last(alloc, code, scope, act(node, value, op), m, es.len(), norm)?;
+    put_exprs(alloc, code, scope, es, m, last)
+}
+
+// `not` of a test: its operand's ways lead to the two answers.
+#[cycle(expr)]
+fn put_not(
+    alloc: Global,
+    code: &mut Code,
+    scope: &Scope,
+    node: NodeId,
+    a: &Expr,
+    m: usize,
+    norm: u64,
+) -> Result<u64, NoMem> {
+    let meet = put_meeting(alloc, code, scope, node, m, norm)?;
+    let no = put_leaf(
+        alloc,
+        code,
+        scope,
+        act(node, false, RowOp::Bool(true)),
+        m,
+        meet,
+    )?;
+    let yes = put_leaf(
+        alloc,
+        code,
+        scope,
+        act(node, false, RowOp::Bool(false)),
+        m,
+        meet,
+    )?;
+    put_test(alloc, code, scope, a, node, m, yes, no)
+}
+
+// `and` and `or` as a value: the right operand where it is needed, else the left one's value.
+#[cycle(expr)]
+fn put_logic(
+    alloc: Global,
+    code: &mut Code,
+    scope: &Scope,
+    node: NodeId,
+    is_and: bool,
+    a: &Expr,
+    b: &Expr,
+    m: usize,
+    norm: u64,
+) -> Result<u64, NoMem> {
+    let meet = put_meeting(alloc, code, scope, node, m, norm)?;
+    let right = put_expr(alloc, code, scope, b, m, meet)?;
+    let go = Branch {
+        to: right,
+        value: false,
+        narrow: true,
+    };
+    let stay = Branch {
+        to: meet,
+        value: true,
+        narrow: false,
+    };
+    if is_and {
+        put_simple(alloc, code, scope, a, node, m, go, stay)
+    } else {
+        put_simple(alloc, code, scope, a, node, m, stay, go)
+    }
+}
+
+// ---- tests
+
+// Where a test leads, whether with the value that was tested, and whether what it says of a local
+// counts there.
+#[derive(Clone, Copy, Debug, PartialEq, Eq)]
+struct Branch {
+    to: u64,
+    value: bool,
+    narrow: bool,
+}
+
+/// Blocks that go on by the truth of an expression, with m variables. A test that cannot be one is a
+/// fault at the node.
+#[cycle(expr)]
+pub fn put_test(
+    alloc: Global,
+    code: &mut Code,
+    scope: &Scope,
+    e: &Expr,
+    node: NodeId,
+    m: usize,
+    yes: u64,
+    no: u64,
+) -> Result<u64, NoMem> {
+    match e {
+        Expr::And(inner, a, b) => {
+            let right = put_test(alloc, code, scope, b.get(), *inner, m, yes, no)?;
+            put_test(alloc, code, scope, a.get(), *inner, m, right, no)
+        }
+        Expr::Or(inner, a, b) => {
+            let right = put_test(alloc, code, scope, b.get(), *inner, m, yes, no)?;
+            put_test(alloc, code, scope, a.get(), *inner, m, yes, right)
+        }
+        Expr::Apply(inner, _, RowOp::Not, es) => {
+            put_negated(alloc, code, scope, es.as_slice(), *inner, m, yes, no)
+        }
+        _ => put_branches(alloc, code, scope, e, node, m, yes, no),
+    }
+}
+
+#[cycle(expr)]
+fn put_negated(
+    alloc: Global,
+    code: &mut Code,
+    scope: &Scope,
+    es: &[Expr],
+    node: NodeId,
+    m: usize,
+    yes: u64,
+    no: u64,
+) -> Result<u64, NoMem> {
+    match es {
+        [a] => put_test(alloc, code, scope, a, node, m, no, yes),
+        _ => put_unfit(alloc, code, scope, m),
+    }
+}
+
+// An operation without the operands that it needs.
+fn put_unfit(alloc: Global, code: &mut Code, scope: &Scope, m: usize) -> Result<u64, NoMem> {
+    let none: Seq<usize> = Seq::new(alloc);
+    let jump = jump_first(alloc, NEVER, 0)?;
+    code.put_op(alloc, scope, act(0, false, RowOp::Copy), none, m, jump)
+}
+
+#[cycle(expr)]
+fn put_branches(
+    alloc: Global,
+    code: &mut Code,
+    scope: &Scope,
+    e: &Expr,
+    node: NodeId,
+    m: usize,
+    yes: u64,
+    no: u64,
+) -> Result<u64, NoMem> {
+    let yes = Branch {
+        to: yes,
+        value: false,
+        narrow: true,
+    };
+    let no = Branch {
+        to: no,
+        value: false,
+        narrow: true,
+    };
+    put_simple(alloc, code, scope, e, node, m, yes, no)
+}
+
+// Whether the two sides of a comparison are needed after it.
+fn needs_sides(e: &Expr) -> bool {
+    match narrowed(e, true) {
+        Some(narrowing) => narrowing.side != None,
+        None => match narrowed(e, false) {
+            Some(narrowing) => narrowing.side != None,
+            None => false,
+        },
+    }
+}
+
+// The place of a side of a comparison whose left side is at m.
+fn side_place(m: usize, side: Side) -> Result<usize, NoMem> {
+    match side {
+        Side::Left => Ok(m),
+        Side::Right => plus(m, 1),
+    }
+}
+
+fn narrowing_args(alloc: Global, m: usize, narrowing: &Narrowing) -> Result<Seq<usize>, NoMem> {
+    match narrowing.side {
+        None => one(alloc, narrowing.local as usize),
+        Some(side) => two(alloc, narrowing.local as usize, side_place(m, side)?),
+    }
+}
+
+// Where the branch goes on with the first m variables, perhaps of them a local another, and perhaps
+// with the value at a place.
+fn branch_jump(alloc: Global, branch: Branch, m: usize, value: usize) -> Result<Jump, NoMem> {
+    if branch.value {
+        jump_and(alloc, branch.to, m, value)
+    } else {
+        jump_first(alloc, branch.to, m)
+    }
+}
+
+// A block in which the local is narrowed, where the value that was tested is at a place.
+fn put_narrowing(
+    alloc: Global,
+    code: &mut Code,
+    scope: &Scope,
+    node: NodeId,
+    narrowing: Narrowing,
+    m: usize,
+    value: usize,
+    to: u64,
+) -> Result<Jump, NoMem> {
+    let count = plus(value, 1)?;
+    let args = narrowing_args(alloc, m, &narrowing)?;
+    let jump = jump_stored(alloc, to, m, narrowing.local, count)?;
+    let block = code.put_op(
+        alloc,
+        scope,
+        act(node, false, narrowing.op),
+        args,
+        count,
+        jump,
+    )?;
+    jump_first(alloc, block, count)
+}
+
+fn put_branch(
+    alloc: Global,
+    code: &mut Code,
+    scope: &Scope,
+    e: &Expr,
+    node: NodeId,
+    truth: bool,
+    m: usize,
+    value: usize,
+    branch: Branch,
+) -> Result<Jump, NoMem> {
+    if branch.narrow {
+        match narrowed(e, truth) {
+            None => branch_jump(alloc, branch, m, value),
+            Some(narrowing) => {
+                put_narrowing(alloc, code, scope, node, narrowing, m, value, branch.to)
+            }
+        }
+    } else {
+        branch_jump(alloc, branch, m, value)
+    }
+}
+
+// The truth of the value at a place, the last one, and the ways on.
+fn put_truth(
+    alloc: Global,
+    code: &mut Code,
+    scope: &Scope,
+    e: &Expr,
+    node: NodeId,
+    m: usize,
+    value: usize,
+    yes: Branch,
+    no: Branch,
+) -> Result<u64, NoMem> {
+    let truth = plus(value, 1)?;
+    let all = plus(truth, 1)?;
+    let yes = put_branch(alloc, code, scope, e, node, true, m, value, yes)?;
+    let no = put_branch(alloc, code, scope, e, node, false, m, value, no)?;
+    let fork = code.put_fork(alloc, all, truth, yes, no)?;
+    let args = one(alloc, value)?;
+    let jump = jump_and(alloc, fork, truth, truth)?;
+    code.put_op(
+        alloc,
+        scope,
+        act(node, false, RowOp::Truth),
+        args,
+        truth,
+        jump,
+    )
+}
+
+// A test that is neither `not` nor `and` nor `or`.
+#[cycle(expr)]
+fn put_simple(
+    alloc: Global,
+    code: &mut Code,
+    scope: &Scope,
+    e: &Expr,
+    node: NodeId,
+    m: usize,
+    yes: Branch,
+    no: Branch,
+) -> Result<u64, NoMem> {
+    match e {
+        Expr::Apply(inner, value, RowOp::Compare(op), es) => {
+            if needs_sides(e) {
+                let place = plus(m, es.len())?;
+                let truth = put_truth(alloc, code, scope, e, node, m, place, yes, no)?;
+                put_sides(
+                    alloc,
+                    code,
+                    scope,
+                    *inner,
+                    *value,
+                    *op,
+                    es.as_slice(),
+                    m,
+                    truth,
+                )
+            } else {
+                let truth = put_truth(alloc, code, scope, e, node, m, m, yes, no)?;
+                put_expr(alloc, code, scope, e, m, truth)
+            }
+        }
+        _ => {
+            let truth = put_truth(alloc, code, scope, e, node, m, m, yes, no)?;
+            put_expr(alloc, code, scope, e, m, truth)
+        }
+    }
+}
+
+// A comparison whose sides go on before its result.
+#[cycle(expr)]
+fn put_sides(
+    alloc: Global,
+    code: &mut Code,
+    scope: &Scope,
+    node: NodeId,
+    value: bool,
+    op: CmpOp,
+    es: &[Expr],
+    m: usize,
+    norm: u64,
+) -> Result<u64, NoMem> {
+    let count = es.len();
+    let args = range(alloc, m, count)?;
+    let last = plus(m, count)?;
+    let jump = jump_and(alloc, norm, last, last)?;
+    let block = code.put_op(
+        alloc,
+        scope,
+        act(node, value, RowOp::Compare(op)),
+        args,
+        last,
+        jump,
+    )?;
+    put_exprs(alloc, code, scope, es, m, block)
+}
+
+// ---- displays of dicts
+
+#[cycle(expr)]
+fn put_display(
+    alloc: Global,
+    code: &mut Code,
+    scope: &Scope,
+    node: NodeId,
+    site: SiteId,
+    pairs: &[(Expr, Expr)],
+    m: usize,
+    norm: u64,
+) -> Result<u64, NoMem> {
+    let next = put_pairs(alloc, code, scope, node, pairs, m, norm)?;
+    put_leaf(
+        alloc,
+        code,
+        scope,
+        act(node, true, RowOp::Dict(site)),
+        m,
+        next,
+    )
+}
+
+// The stores of pairs to the dict at m.
+#[cycle(expr)]
+fn put_pairs(
+    alloc: Global,
+    code: &mut Code,
+    scope: &Scope,
+    node: NodeId,
+    pairs: &[(Expr, Expr)],
+    m: usize,
+    norm: u64,
+) -> Result<u64, NoMem> {
+    match pairs {
+        [] => Ok(norm),
+        [pair, rest @ ..] => {
+            let next = put_pairs(alloc, code, scope, node, rest, m, norm)?;
+            put_pair(alloc, code, scope, node, pair, m, next)
+        }
+    }
+}
+
+#[cycle(expr)]
+fn put_pair(
+    alloc: Global,
+    code: &mut Code,
+    scope: &Scope,
+    node: NodeId,
+    pair: &(Expr, Expr),
+    m: usize,
+    norm: u64,
+) -> Result<u64, NoMem> {
+    let key = plus(m, 1)?;
+    let value = plus(m, 2)?;
+    let all = plus(m, 3)?;
+    let args = three(alloc, m, key, value)?;
+    let jump = jump_first(alloc, norm, key)?;
+    let store = act(node, false, RowOp::StoreIndex);
+    let stored = code.put_op(alloc, scope, store, args, all, jump)?;
+    let right = put_expr(alloc, code, scope, &pair.1, value, stored)?;
+    put_expr(alloc, code, scope, &pair.0, key, right)
+}
+
+// ---- walks
+
+/// What is walked, as two more variables: the value and the place, or the end of a range and its
+/// first number.
+#[cycle(expr)]
+pub fn put_subject(
+    alloc: Global,
+    code: &mut Code,
+    scope: &Scope,
+    subject: &Subject,
+    node: NodeId,
+    m: usize,
+    norm: u64,
+) -> Result<u64, NoMem> {
+    match subject {
+        Subject::Over(site, e) => {
+            let zero = put_zero(alloc, code, scope, node, m, norm)?;
+            let walk = act(node, false, RowOp::Walk(*site));
+            let walk = put_last(alloc, code, scope, walk, m, 1, zero)?;
+            put_expr(alloc, code, scope, e, m, walk)
+        }
+        Subject::UpTo(e) => {
+            let zero = put_zero(alloc, code, scope, node, m, norm)?;
+            put_expr(alloc, code, scope, e, m, zero)
+        }
+        Subject::FromTo(a, b, _) => {
+            let swap = put_swap(alloc, code, m, norm)?;
+            let right = put_second(alloc, code, scope, b, m, swap)?;
+            put_expr(alloc, code, scope, a, m, right)
+        }
+    }
+}
+
+// An expression where one more variable is there.
+#[cycle(expr)]
+fn put_second(
+    alloc: Global,
+    code: &mut Code,
+    scope: &Scope,
+    e: &Expr,
+    m: usize,
+    norm: u64,
+) -> Result<u64, NoMem> {
+    let more = plus(m, 1)?;
+    put_expr(alloc, code, scope, e, more, norm)
+}
+
+// The place 0, after what is walked.
+fn put_zero(
+    alloc: Global,
+    code: &mut Code,
+    scope: &Scope,
+    node: NodeId,
+    m: usize,
+    norm: u64,
+) -> Result<u64, NoMem> {
+    let more = plus(m, 1)?;
+    put_leaf(
+        alloc,
+        code,
+        scope,
+        act(node, false, RowOp::Word(0)),
+        more,
+        norm,
+    )
+}
+
+// The two variables at m the other way round.
+fn put_swap(alloc: Global, code: &mut Code, m: usize, norm: u64) -> Result<u64, NoMem> {
+    let second = plus(m, 1)?;
+    let all = plus(m, 2)?;
+    let mut jump = jump_and(alloc, norm, m, second)?;
+    jump.places.push(m)?;
+    code.put_jump(alloc, all, jump)
+}
+
+/// The step of a walk over a range.
+pub fn step_of(subject: &Subject) -> Option<i64> {
+    match subject {
+        Subject::Over(_, _) => None,
+        Subject::UpTo(_) => Some(1),
+        Subject::FromTo(_, _, step) => Some(*step),
+    }
+}
+
+/// A walk: its node and step, the place of what is walked, and the number of variables while no item
+/// is there.
+#[derive(Clone, Copy, Debug, PartialEq, Eq)]
+pub struct Walk {
+    pub node: NodeId,
+    pub step: Option<i64>,
+    pub over: usize,
+    pub all: usize,
+}
+
+/// On to the next place, and to the head.
+pub fn put_advance(
+    alloc: Global,
+    code: &mut Code,
+    scope: &Scope,
+    walk: Walk,
+    head: Head,
+) -> Result<u64, NoMem> {
+    let at = plus(walk.over, 1)?;
+    let args = two(alloc, walk.over, at)?;
+    let jump = jump_and(alloc, head.number, at, walk.all)?;
+    let of = act(walk.node, false, RowOp::Advance(walk.step));
+    code.put_op(alloc, scope, of, args, walk.all, jump)
+}
+
+/// A turn of a walk, which begins at the head: where an item is there, a step is paid and it goes on
+/// to `turn` with the item as one more variable, else to `done` with the first variables.
+pub fn put_turn(
+    alloc: Global,
+    code: &mut Code,
+    scope: &Scope,
+    walk: Walk,
+    head: Head,
+    turn: u64,
+    done: Jump,
+) -> Result<(), NoMem> {
+    let more = plus(walk.all, 1)?;
+    let at = plus(walk.over, 1)?;
+    let args = two(alloc, walk.over, at)?;
+    let jump = jump_and(alloc, turn, walk.all, walk.all)?;
+    let of = act(walk.node, false, RowOp::Item(walk.step));
+    let item = code.put_op(alloc, scope, of, args, walk.all, jump)?;
+    let none: Seq<usize> = Seq::new(alloc);
+    let jump = jump_first(alloc, item, walk.all)?;
+    let of = act(walk.node, false, RowOp::Turn);
+    let paid = code.put_op(alloc, scope, of, none, walk.all, jump)?;
+    let yes = jump_first(alloc, paid, walk.all)?;
+    let fork = code.put_fork(alloc, more, walk.all, yes, done)?;
+    let args = two(alloc, walk.over, at)?;
+    let jump = jump_and(alloc, fork, walk.all, walk.all)?;
+    let of = act(walk.node, false, RowOp::HasItem(walk.step));
+    let begin = code.put_op(alloc, scope, of, args, walk.all, jump)?;
+    code.aim(alloc, head, begin)
+}
+
+// ---- comprehensions
+
+// What a comprehension does with the item that it binds: perhaps a test, then what it adds to the
+// list at m.
+#[cycle(expr)]
+fn put_gather(
+    alloc: Global,
+    code: &mut Code,
+    scope: &Scope,
+    item: &Expr,
+    condition: &Option<Own<Expr>>,
+    list: usize,
+    walk: Walk,
+    advance: u64,
+) -> Result<u64, NoMem> {
+    let more = plus(walk.all, 1)?;
+    let args = two(alloc, list, walk.all)?;
+    let jump = jump_first(alloc, advance, walk.all)?;
+    let of = act(walk.node, false, RowOp::AddItem);
+    let add = code.put_op(alloc, scope, of, args, more, jump)?;
+    let begin = put_expr(alloc, code, scope, item, walk.all, add)?;
+    match condition {
+        None => Ok(begin),
+        Some(e) => {
+            put_test(
+                alloc,
+                code,
+                scope,
+                e.get(),
+                walk.node,
+                walk.all,
+                begin,
+                advance,
+            )
+        }
+    }
+}
+
+#[cycle(expr)]
+fn put_comprehension(
+    alloc: Global,
+    code: &mut Code,
+    scope: &Scope,
+    node: NodeId,
+    site: SiteId,
+    item: &Expr,
+    target: &Target,
+    subject: &Subject,
+    condition: &Option<Own<Expr>>,
+    m: usize,
+    norm: u64,
+) -> Result<u64, NoMem> {
+    let over = plus(m, 1)?;
+    let walk = Walk {
+        node,
+        step: step_of(subject),
+        over,
+        all: plus(m, 3)?,
+    };
+    let head = code.put_head(alloc, walk.all)?;
+    let advance = put_advance(alloc, code, scope, walk, head)?;
+    let gather = put_gather(alloc, code, scope, item, condition, m, walk, advance)?;
+    let more = plus(walk.all, 1)?;
+    let bind = put_bind(alloc, code, scope, target, walk.all, more, walk.all, gather)?;
+    let done = jump_first(alloc, norm, over)?;
+    put_turn(alloc, code, scope, walk, head, bind, done)?;
+    let begin = put_subject(alloc, code, scope, subject, node, over, head.number)?;
+    let of = act(node, true, RowOp::Comprehension(site));
+    put_leaf(alloc, code, scope, of, m, begin)
+}
+
+// ---- targets
+
+/// Blocks that bind a target to the value at a place, where m variables are there, and go on with the
+/// first ones.
+#[cycle(expr)]
+pub fn put_bind(
+    alloc: Global,
+    code: &mut Code,
+    scope: &Scope,
+    target: &Target,
+    value: usize,
+    m: usize,
+    keep: usize,
+    norm: u64,
+) -> Result<u64, NoMem> {
+    match target {
+        Target::Name(node, local) => {
+            let args = one(alloc, value)?;
+            let jump = jump_stored(alloc, norm, keep, *local, m)?;
+            code.put_op(alloc, scope, act(*node, true, RowOp::Copy), args, m, jump)
+        }
+        Target::Attr(node, e, name) => {
+            let of = act(*node, true, RowOp::StoreAttr(name.copy(alloc)?));
+            let args = two(alloc, m, value)?;
+            let jump = jump_first(alloc, norm, keep)?;
+            let store = code.put_op(alloc, scope, of, args, plus(m, 1)?, jump)?;
+            put_expr(alloc, code, scope, e, m, store)
+        }
+        Target::Item(node, a, i) => {
+            put_item(alloc, code, scope, *node, a, i, value, m, keep, norm)
+        }
+        Target::Parts(node, parts) => {
+            put_parts(
+                alloc,
+                code,
+                scope,
+                *node,
+                parts.as_slice(),
+                value,
+                m,
+                keep,
+                norm,
+            )
+        }
+    }
+}
+
+#[cycle(expr)]
+fn put_item(
+    alloc: Global,
+    code: &mut Code,
+    scope: &Scope,
+    node: NodeId,
+    a: &Expr,
+    i: &Expr,
+    value: usize,
+    m: usize,
+    keep: usize,
+    norm: u64,
+) -> Result<u64, NoMem> {
+    let index = plus(m, 1)?;
+    let args = three(alloc, m, index, value)?;
+    let jump = jump_first(alloc, norm, keep)?;
+    let of = act(node, true, RowOp::StoreIndex);
+    let store = code.put_op(alloc, scope, of, args, plus(m, 2)?, jump)?;
+    let right = put_expr(alloc, code, scope, i, index, store)?;
+    put_expr(alloc, code, scope, a, m, right)
+}
+
+// The parts of a tuple's target take its items one after the other.
+#[cycle(expr)]
+fn put_parts(
+    alloc: Global,
+    code: &mut Code,
+    scope: &Scope,
+    node: NodeId,
+    parts: &[Target],
+    value: usize,
+    m: usize,
+    keep: usize,
+    norm: u64,
+) -> Result<u64, NoMem> {
+    let end = jump_first(alloc, norm, keep)?;
+    let end = code.put_jump(alloc, m, end)?;
+    let begin = put_items(alloc, code, scope, node, parts, parts.len(), value, m, end)?;
+    let args = one(alloc, value)?;
+    let jump = jump_first(alloc, begin, m)?;
+    code.put_op(alloc, scope, act(node, true, RowOp::Copy), args, m, jump)
+}
+
+// A count as the number that an operation carries.
+fn narrow(count: usize) -> Result<u32, NoMem> {
+    if count <= 4294967295 {
+        Ok(count as u32)
+    } else {
+        Err(NoMem)
+    }
+}
+
+// The last parts of a tuple's target, of which there are `count`.
+#[cycle(expr)]
+fn put_items(
+    alloc: Global,
+    code: &mut Code,
+    scope: &Scope,
+    node: NodeId,
+    parts: &[Target],
+    count: usize,
+    value: usize,
+    m: usize,
+    norm: u64,
+) -> Result<u64, NoMem> {
+    match parts {
+        [] => Ok(norm),
+        [part, rest @ ..] => {
+            let next = put_items(alloc, code, scope, node, rest, count, value, m, norm)?;
+            let place = count.saturating_sub(parts.len());
+            let more = plus(m, 1)?;
+            let bind = put_bind(alloc, code, scope, part, m, more, m, next)?;
+            let args = one(alloc, value)?;
+            let jump = jump_and(alloc, bind, m, m)?;
+            let of = act(node, false, RowOp::Unpack(narrow(count)?, narrow(place)?));
+            code.put_op(alloc, scope, of, args, m, jump)
+        }
+    }
+}

@@ -1,0 +1,19 @@
+//! Flow graphs of programs.
+#![tactic(auto)]
+
+mod code;
+mod copy;
+mod covers;
+mod expression;
+mod narrow;
+mod places;
+mod statement;
+mod whole;
+
+pub use whole::flow;
+
+/// The block that returns its input.
+const RETURN: u64 = 1;
+
+/// A block that goes on to itself. The way on from what always raises leads to it.
+const NEVER: u64 = 3;

@@ -1,0 +1,231 @@
+// What a test says of a local.
+use rpy_meaning::RowOp;
+use rpy_resolved::{Expr, Subject, Target};
+use rpy_tree::CmpOp;
+
+/// In a branch the local is what the operation gives of it, with one of the two sides of a
+/// comparison where it needs that.
+#[derive(Drop)]
+pub struct Narrowing {
+    pub op: RowOp,
+    pub local: u32,
+    pub side: Option<Side>,
+}
+
+#[derive(Clone, Copy, Debug, PartialEq, Eq)]
+pub enum Side {
+    Left,
+    Right,
+}
+
+fn narrowing(op: RowOp, local: u32) -> Narrowing {
+    Narrowing {
+        op,
+        local,
+        side: None,
+    }
+}
+
+fn local_of(e: &Expr) -> Option<u32> {
+    match e {
+        Expr::Local(_, local) => Some(*local),
+        _ => None,
+    }
+}
+
+fn is_none(e: &Expr) -> bool {
+    match e {
+        Expr::Apply(_, _, RowOp::None, _) => true,
+        Expr::Constant(_, rpy_tree::Const::None) => true,
+        _ => false,
+    }
+}
+
+// ---- whether a comprehension in an expression binds a local
+
+#[cycle(binds)]
+fn binds(e: &Expr, local: u32) -> bool {
+    match e {
+        Expr::Local(_, _) => false,
+        Expr::Constant(_, _) => false,
+        Expr::Apply(_, _, _, es) => some_binds(es.as_slice(), local),
+        Expr::And(_, a, b) => binds(a.get(), local) || binds(b.get(), local),
+        Expr::Or(_, a, b) => binds(a.get(), local) || binds(b.get(), local),
+        Expr::Display(_, _, pairs) => pair_binds(pairs.as_slice(), local),
+        Expr::Comprehension(_, _, item, target, subject, condition) => {
+            binds(item.get(), local)
+                || target_binds(target.get(), local)
+                || subject_binds(subject.get(), local)
+                || match condition {
+                    None => false,
+                    Some(e) => binds(e.get(), local),
+                }
+        }
+    }
+}
+
+#[cycle(binds)]
+fn some_binds(es: &[Expr], local: u32) -> bool {
+    for e in es {
+        if binds(e, local) {
+            return true;
+        }
+    }
+    false
+}
+
+#[cycle(binds)]
+fn one_binds(pair: &(Expr, Expr), local: u32) -> bool {
+    binds(&pair.0, local) || binds(&pair.1, local)
+}
+
+#[cycle(binds)]
+fn pair_binds(pairs: &[(Expr, Expr)], local: u32) -> bool {
+    for pair in pairs {
+        if one_binds(pair, local) {
+            return true;
+        }
+    }
+    false
+}
+
+#[cycle(binds)]
+fn subject_binds(subject: &Subject, local: u32) -> bool {
+    match subject {
+        Subject::Over(_, e) => binds(e, local),
+        Subject::UpTo(e) => binds(e, local),
+        Subject::FromTo(a, b, _) => binds(a, local) || binds(b, local),
+    }
+}
+
+#[cycle(binds)]
+fn target_binds(target: &Target, local: u32) -> bool {
+    match target {
+        Target::Name(_, bound) => *bound == local,
+        Target::Attr(_, e, _) => binds(e, local),
+        Target::Item(_, a, i) => binds(a, local) || binds(i, local),
+        Target::Parts(_, parts) => parts_bind(parts.as_slice(), local),
+    }
+}
+
+#[cycle(binds)]
+fn parts_bind(parts: &[Target], local: u32) -> bool {
+    for part in parts {
+        if target_binds(part, local) {
+            return true;
+        }
+    }
+    false
+}
+
+// ---- tests
+
+// A local that is one side of a comparison is not below zero where the other side is not.
+fn beside(local: &Expr, other: &Expr, side: Side) -> Option<Narrowing> {
+    match local_of(local) {
+        None => None,
+        Some(local) => {
+            if binds(other, local) {
+                None
+            } else {
+                Some(Narrowing {
+                    op: RowOp::NonNegative,
+                    local,
+                    side: Some(side),
+                })
+            }
+        }
+    }
+}
+
+// Of `a < b` and `a <= b`, where true, the right side is the greater one; where false, the left.
+fn less(a: &Expr, b: &Expr, truth: bool) -> Option<Narrowing> {
+    if truth {
+        beside(b, a, Side::Left)
+    } else {
+        beside(a, b, Side::Right)
+    }
+}
+
+// Of `a > b` and `a >= b`, where true, the left side is the greater one; where false, the right.
+fn greater(a: &Expr, b: &Expr, truth: bool) -> Option<Narrowing> {
+    if truth {
+        beside(a, b, Side::Right)
+    } else {
+        beside(b, a, Side::Left)
+    }
+}
+
+// `v is None`.
+fn none_test(a: &Expr, b: &Expr, truth: bool) -> Option<Narrowing> {
+    match local_of(a) {
+        None => None,
+        Some(local) => {
+            if !is_none(b) {
+                None
+            } else if truth {
+                Some(narrowing(RowOp::OnlyNone, local))
+            } else {
+                Some(narrowing(RowOp::DropNone, local))
+            }
+        }
+    }
+}
+
+fn compared(op: CmpOp, a: &Expr, b: &Expr, truth: bool) -> Option<Narrowing> {
+    match op {
+        CmpOp::Lt => less(a, b, truth),
+        CmpOp::Le => less(a, b, truth),
+        CmpOp::Gt => greater(a, b, truth),
+        CmpOp::Ge => greater(a, b, truth),
+        CmpOp::Is => none_test(a, b, truth),
+        CmpOp::IsNot => none_test(a, b, !truth),
+        _ => None,
+    }
+}
+
+// The truth of a local.
+fn truth_test(local: u32, truth: bool) -> Option<Narrowing> {
+    if truth {
+        Some(narrowing(RowOp::DropNone, local))
+    } else {
+        Some(narrowing(RowOp::FalseNone, local))
+    }
+}
+
+// `isinstance(v, C)`, where it is true.
+fn instance_test(class: u32, a: &Expr, truth: bool) -> Option<Narrowing> {
+    match local_of(a) {
+        None => None,
+        Some(local) => {
+            if truth {
+                Some(narrowing(RowOp::Lower(class), local))
+            } else {
+                None
+            }
+        }
+    }
+}
+
+fn applied(op: &RowOp, es: &[Expr], truth: bool) -> Option<Narrowing> {
+    match es {
+        [a] => match op {
+            RowOp::IsInstance(class) => instance_test(*class, a, truth),
+            _ => None,
+        },
+        [a, b] => match op {
+            RowOp::Compare(op) => compared(*op, a, b, truth),
+            _ => None,
+        },
+        _ => None,
+    }
+}
+
+/// What a test says of a local in its branch, `not`, `and` and `or` aside.
+pub fn narrowed(e: &Expr, truth: bool) -> Option<Narrowing> {
+    match e {
+        Expr::Local(_, local) => truth_test(*local, truth),
+        Expr::Apply(_, _, op, es) => applied(op, es.as_slice(), truth),
+        _ => None,
+    }
+}

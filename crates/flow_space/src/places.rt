@@ -1,0 +1,59 @@
+// Places of variables in a block: its inputs from 0, then the results of its operations.
+use rpy_base::{NoMem, Seq};
+use std::alloc::Global;
+
+// A number of variables always fits the memory.
+pub fn plus(m: usize, k: usize) -> Result<usize, NoMem> {
+    match m.checked_add(k) {
+        None => Err(NoMem),
+        Some(sum) => Ok(sum),
+    }
+}
+
+/// So many places from this one on.
+pub fn range(alloc: Global, from: usize, count: usize) -> Result<Seq<usize>, NoMem> {
+    let mut places = Seq::new(alloc);
+    for k in 0..count {
+        places.push(plus(from, k)?)?;
+    }
+    Ok(places)
+}
+
+/// The first places.
+pub fn first(alloc: Global, count: usize) -> Result<Seq<usize>, NoMem> {
+    range(alloc, 0, count)
+}
+
+/// The first places and one more.
+pub fn first_and(alloc: Global, count: usize, last: usize) -> Result<Seq<usize>, NoMem> {
+    let mut places = first(alloc, count)?;
+    places.push(last)?;
+    Ok(places)
+}
+
+/// The first places, with another in the place of one of them.
+pub fn stored(alloc: Global, count: usize, at: usize, place: usize) -> Result<Seq<usize>, NoMem> {
+    let mut places = first(alloc, count)?;
+    if at < places.len() {
+        places.set(at, place);
+    }
+    Ok(places)
+}
+
+pub fn one(alloc: Global, a: usize) -> Result<Seq<usize>, NoMem> {
+    let mut places = Seq::new(alloc);
+    places.push(a)?;
+    Ok(places)
+}
+
+pub fn two(alloc: Global, a: usize, b: usize) -> Result<Seq<usize>, NoMem> {
+    let mut places = one(alloc, a)?;
+    places.push(b)?;
+    Ok(places)
+}
+
+pub fn three(alloc: Global, a: usize, b: usize, c: usize) -> Result<Seq<usize>, NoMem> {
+    let mut places = two(alloc, a, b)?;
+    places.push(c)?;
+    Ok(places)
+}

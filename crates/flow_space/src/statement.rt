@@ -1,0 +1,721 @@
+// Statements to blocks.
+use crate::NEVER;
+use crate::code::{Aim, Code, Hand, Jump, Scope, act, jump_and, jump_first, jump_stored};
+use crate::copy::copy_op;
+use crate::covers::{copy_hands, covers_of};
+use crate::expression::{
+    Walk, put_advance, put_bind, put_expr, put_subject, put_test, put_turn, step_of,
+};
+use crate::places::{one, plus, three, two};
+use rpy_base::{NoMem, Seq, Text};
+use rpy_meaning::{Covers, RowOp};
+use rpy_resolved::{Class, Clause, Expr, Stmt, Subject, Target};
+use rpy_tree::NodeId;
+use std::alloc::Global;
+
+/// Where a statement goes on to: `norm` and the others with so many of the first variables, `ret`
+/// with the returned value besides.
+#[derive(Clone, Copy, Debug, PartialEq, Eq)]
+pub struct Ways {
+    pub norm: u64,
+    pub brk: Aim,
+    pub cont: Aim,
+    pub ret: Aim,
+}
+
+impl Ways {
+    fn on(self, norm: u64) -> Ways {
+        Ways {
+            norm,
+            brk: self.brk,
+            cont: self.cont,
+            ret: self.ret,
+        }
+    }
+
+    // In the body of a loop.
+    fn within(self, next: Aim, after: Aim) -> Ways {
+        Ways {
+            norm: next.to,
+            brk: after,
+            cont: next,
+            ret: self.ret,
+        }
+    }
+}
+
+// On with the first variables at once.
+fn put_aim(alloc: Global, code: &mut Code, m: usize, aim: Aim) -> Result<u64, NoMem> {
+    let jump = jump_first(alloc, aim.to, aim.keep)?;
+    code.put_jump(alloc, m, jump)
+}
+
+// On with the first variables and the last of m + 1.
+fn put_aim_and(alloc: Global, code: &mut Code, m: usize, aim: Aim) -> Result<u64, NoMem> {
+    let jump = jump_and(alloc, aim.to, aim.keep, m)?;
+    code.put_jump(alloc, plus(m, 1)?, jump)
+}
+
+// In the body of a `try` a handler sees the locals between any two statements: a block whose
+// operation cannot raise stands there.
+fn put_mark(
+    alloc: Global,
+    code: &mut Code,
+    scope: &Scope,
+    node: NodeId,
+    m: usize,
+    norm: u64,
+) -> Result<u64, NoMem> {
+    if scope.tried {
+        let none: Seq<usize> = Seq::new(alloc);
+        let jump = jump_first(alloc, norm, m)?;
+        code.put_op(alloc, scope, act(node, false, RowOp::None), none, m, jump)
+    } else {
+        Ok(norm)
+    }
+}
+
+/// The node of a statement.
+fn node_of(s: &Stmt) -> NodeId {
+    match s {
+        Stmt::Pass(node) => *node,
+        Stmt::Break(node) => *node,
+        Stmt::Continue(node) => *node,
+        Stmt::Return(node, _) => *node,
+        Stmt::Do(node, _) => *node,
+        Stmt::Assign(node, _, _) => *node,
+        Stmt::Augment(node, _, _, _) => *node,
+        Stmt::If(node, _, _, _) => *node,
+        Stmt::While(node, _, _) => *node,
+        Stmt::For(node, _, _, _) => *node,
+        Stmt::Try(node, _, _, _) => *node,
+        Stmt::Finally(node, _, _) => *node,
+    }
+}
+
+fn put_return(
+    alloc: Global,
+    code: &mut Code,
+    scope: &Scope,
+    e: &Expr,
+    m: usize,
+    t: Ways,
+) -> Result<u64, NoMem> {
+    let out = put_aim_and(alloc, code, m, t.ret)?;
+    put_expr(alloc, code, scope, e, m, out)
+}
+
+fn put_do(
+    alloc: Global,
+    code: &mut Code,
+    scope: &Scope,
+    e: &Expr,
+    m: usize,
+    norm: u64,
+) -> Result<u64, NoMem> {
+    let jump = jump_first(alloc, norm, m)?;
+    let drop = code.put_jump(alloc, plus(m, 1)?, jump)?;
+    put_expr(alloc, code, scope, e, m, drop)
+}
+
+// The targets take the value at m, which goes on as long as one is left.
+fn put_targets(
+    alloc: Global,
+    code: &mut Code,
+    scope: &Scope,
+    targets: &[Target],
+    m: usize,
+    norm: u64,
+) -> Result<u64, NoMem> {
+    let more = plus(m, 1)?;
+    match targets {
+        [] => {
+            let jump = jump_first(alloc, norm, m)?;
+            code.put_jump(alloc, more, jump)
+        }
+        [target] => put_bind(alloc, code, scope, target, m, more, m, norm),
+        [target, rest @ ..] => {
+            let next = put_targets(alloc, code, scope, rest, m, norm)?;
+            put_bind(alloc, code, scope, target, m, more, more, next)
+        }
+    }
+}
+
+fn put_assign(
+    alloc: Global,
+    code: &mut Code,
+    scope: &Scope,
+    targets: &[Target],
+    e: &Expr,
+    m: usize,
+    norm: u64,
+) -> Result<u64, NoMem> {
+    let bind = put_targets(alloc, code, scope, targets, m, norm)?;
+    put_expr(alloc, code, scope, e, m, bind)
+}
+
+// ---- augmented assignments
+
+// The operation on the old value and the right side, the last two of m + 2 variables.
+fn put_new(
+    alloc: Global,
+    code: &mut Code,
+    scope: &Scope,
+    node: NodeId,
+    op: &RowOp,
+    m: usize,
+    norm: u64,
+) -> Result<u64, NoMem> {
+    let right = plus(m, 1)?;
+    let all = plus(m, 2)?;
+    let of = act(node, false, copy_op(alloc, op)?);
+    let args = two(alloc, m, right)?;
+    let jump = jump_and(alloc, norm, m, all)?;
+    code.put_op(alloc, scope, of, args, all, jump)
+}
+
+fn put_augment_name(
+    alloc: Global,
+    code: &mut Code,
+    scope: &Scope,
+    node: NodeId,
+    at: NodeId,
+    local: u32,
+    op: &RowOp,
+    e: &Expr,
+    m: usize,
+    norm: u64,
+) -> Result<u64, NoMem> {
+    let more = plus(m, 1)?;
+    let jump = jump_stored(alloc, norm, m, local, more)?;
+    let of = act(at, true, RowOp::Copy);
+    let store = code.put_op(alloc, scope, of, one(alloc, m)?, more, jump)?;
+    let new = put_new(alloc, code, scope, node, op, m, store)?;
+    let right = put_expr(alloc, code, scope, e, more, new)?;
+    let jump = jump_and(alloc, right, m, m)?;
+    let of = act(at, false, RowOp::Copy);
+    code.put_op(alloc, scope, of, one(alloc, local as usize)?, m, jump)
+}
+
+fn put_augment_attr(
+    alloc: Global,
+    code: &mut Code,
+    scope: &Scope,
+    node: NodeId,
+    at: NodeId,
+    a: &Expr,
+    name: &Text,
+    op: &RowOp,
+    e: &Expr,
+    m: usize,
+    norm: u64,
+) -> Result<u64, NoMem> {
+    let old = plus(m, 1)?;
+    let right = plus(m, 2)?;
+    let jump = jump_first(alloc, norm, m)?;
+    let of = act(at, true, RowOp::StoreAttr(name.copy(alloc)?));
+    let store = code.put_op(alloc, scope, of, two(alloc, m, old)?, right, jump)?;
+    let new = put_new(alloc, code, scope, node, op, old, store)?;
+    let value = put_expr(alloc, code, scope, e, right, new)?;
+    let jump = jump_and(alloc, value, old, old)?;
+    let of = act(at, false, RowOp::Attr(name.copy(alloc)?));
+    let read = code.put_op(alloc, scope, of, one(alloc, m)?, old, jump)?;
+    put_expr(alloc, code, scope, a, m, read)
+}
+
+fn put_augment_item(
+    alloc: Global,
+    code: &mut Code,
+    scope: &Scope,
+    node: NodeId,
+    at: NodeId,
+    a: &Expr,
+    i: &Expr,
+    op: &RowOp,
+    e: &Expr,
+    m: usize,
+    norm: u64,
+) -> Result<u64, NoMem> {
+    let index = plus(m, 1)?;
+    let old = plus(m, 2)?;
+    let right = plus(m, 3)?;
+    let jump = jump_first(alloc, norm, m)?;
+    let of = act(at, true, RowOp::StoreIndex);
+    let store = code.put_op(alloc, scope, of, three(alloc, m, index, old)?, right, jump)?;
+    let new = put_new(alloc, code, scope, node, op, old, store)?;
+    let value = put_expr(alloc, code, scope, e, right, new)?;
+    let jump = jump_and(alloc, value, old, old)?;
+    let of = act(at, false, RowOp::Index(None));
+    let read = code.put_op(alloc, scope, of, two(alloc, m, index)?, old, jump)?;
+    let place = put_expr(alloc, code, scope, i, index, read)?;
+    put_expr(alloc, code, scope, a, m, place)
+}
+
+fn put_augment(
+    alloc: Global,
+    code: &mut Code,
+    scope: &Scope,
+    node: NodeId,
+    target: &Target,
+    op: &RowOp,
+    e: &Expr,
+    m: usize,
+    norm: u64,
+) -> Result<u64, NoMem> {
+    match target {
+        Target::Name(at, local) => {
+            put_augment_name(alloc, code, scope, node, *at, *local, op, e, m, norm)
+        }
+        Target::Attr(at, a, name) => {
+            put_augment_attr(alloc, code, scope, node, *at, a, name, op, e, m, norm)
+        }
+        Target::Item(at, a, i) => {
+            put_augment_item(alloc, code, scope, node, *at, a, i, op, e, m, norm)
+        }
+        Target::Parts(at, _) => {
+            let none: Seq<usize> = Seq::new(alloc);
+            let jump = jump_first(alloc, norm, m)?;
+            code.put_op(alloc, scope, act(*at, true, RowOp::Copy), none, m, jump)
+        }
+    }
+}
+
+// ---- loops
+
+// A step for the turn, and on to the body.
+fn put_pay(
+    alloc: Global,
+    code: &mut Code,
+    scope: &Scope,
+    node: NodeId,
+    m: usize,
+    norm: u64,
+) -> Result<u64, NoMem> {
+    let none: Seq<usize> = Seq::new(alloc);
+    let jump = jump_first(alloc, norm, m)?;
+    code.put_op(alloc, scope, act(node, false, RowOp::Turn), none, m, jump)
+}
+
+#[cycle(stmt)]
+fn put_while(
+    alloc: Global,
+    code: &mut Code,
+    classes: &[Class],
+    scope: &Scope,
+    node: NodeId,
+    test: &Expr,
+    body: &[Stmt],
+    m: usize,
+    t: Ways,
+) -> Result<u64, NoMem> {
+    let head = code.put_head(alloc, m)?;
+    let next = Aim {
+        to: head.number,
+        keep: m,
+    };
+    let after = Aim {
+        to: t.norm,
+        keep: m,
+    };
+    let begin = put_block(alloc, code, classes, scope, body, m, t.within(next, after))?;
+    let turn = put_pay(alloc, code, scope, node, m, begin)?;
+    let asked = put_test(alloc, code, scope, test, node, m, turn, t.norm)?;
+    code.aim(alloc, head, asked)?;
+    Ok(head.number)
+}
+
+#[cycle(stmt)]
+fn put_for(
+    alloc: Global,
+    code: &mut Code,
+    classes: &[Class],
+    scope: &Scope,
+    node: NodeId,
+    target: &Target,
+    subject: &Subject,
+    body: &[Stmt],
+    m: usize,
+    t: Ways,
+) -> Result<u64, NoMem> {
+    let walk = Walk {
+        node,
+        step: step_of(subject),
+        over: m,
+        all: plus(m, 2)?,
+    };
+    let head = code.put_head(alloc, walk.all)?;
+    let advance = put_advance(alloc, code, scope, walk, head)?;
+    let next = Aim {
+        to: advance,
+        keep: walk.all,
+    };
+    let after = Aim {
+        to: t.norm,
+        keep: m,
+    };
+    let begin = put_block(
+        alloc,
+        code,
+        classes,
+        scope,
+        body,
+        walk.all,
+        t.within(next, after),
+    )?;
+    let more = plus(walk.all, 1)?;
+    let bind = put_bind(alloc, code, scope, target, walk.all, more, walk.all, begin)?;
+    let done = jump_first(alloc, t.norm, m)?;
+    put_turn(alloc, code, scope, walk, head, bind, done)?;
+    put_subject(alloc, code, scope, subject, node, m, head.number)
+}
+
+// ---- exceptions
+
+// The hands of the clauses of a `try`, in their order, and where other exceptions go.
+#[derive(Drop)]
+struct Caught {
+    hands: Seq<Hand>,
+    bare: Option<Aim>,
+}
+
+// A hand for each class of a clause.
+fn add_hands(
+    caught: &mut Caught,
+    classes: &[u32],
+    local: Option<u32>,
+    aim: Aim,
+) -> Result<(), NoMem> {
+    for class in classes {
+        caught.hands.push(Hand {
+            class: *class,
+            local,
+            aim,
+        })?;
+    }
+    Ok(())
+}
+
+// A bare clause drops the exception.
+fn add_bare(
+    alloc: Global,
+    code: &mut Code,
+    caught: &mut Caught,
+    m: usize,
+    aim: Aim,
+) -> Result<(), NoMem> {
+    let drop = put_aim(alloc, code, plus(m, 1)?, aim)?;
+    caught.bare = Some(Aim { to: drop, keep: m });
+    Ok(())
+}
+
+#[cycle(stmt)]
+fn put_clause(
+    alloc: Global,
+    code: &mut Code,
+    classes: &[Class],
+    scope: &Scope,
+    clause: &Clause,
+    m: usize,
+    t: Ways,
+    caught: &mut Caught,
+) -> Result<(), NoMem> {
+    let begin = put_block(alloc, code, classes, scope, clause.body.as_slice(), m, t)?;
+    let aim = Aim { to: begin, keep: m };
+    if clause.bare {
+        add_bare(alloc, code, caught, m, aim)
+    } else {
+        add_hands(caught, clause.classes.as_slice(), clause.local, aim)
+    }
+}
+
+#[cycle(stmt)]
+fn put_clauses(
+    alloc: Global,
+    code: &mut Code,
+    classes: &[Class],
+    scope: &Scope,
+    clauses: &[Clause],
+    m: usize,
+    t: Ways,
+    caught: &mut Caught,
+) -> Result<(), NoMem> {
+    for clause in clauses {
+        put_clause(alloc, code, classes, scope, clause, m, t, caught)?;
+    }
+    Ok(())
+}
+
+// Where exceptions of a `try` body go: to its clauses, then where those of the `try` go.
+fn tried_scope(
+    alloc: Global,
+    classes: &[Class],
+    scope: &Scope,
+    clauses: &[Clause],
+    caught: Caught,
+) -> Result<Scope, NoMem> {
+    let Caught { hands, bare } = caught;
+    let covers = covers_of(classes, clauses, scope.covers);
+    match bare {
+        Some(default) => Ok(Scope {
+            hands,
+            default,
+            covers,
+            tried: true,
+        }),
+        None => Ok(Scope {
+            hands: copy_hands(hands, scope.hands.as_slice())?,
+            default: scope.default,
+            covers,
+            tried: true,
+        }),
+    }
+}
+
+#[cycle(stmt)]
+fn put_try(
+    alloc: Global,
+    code: &mut Code,
+    classes: &[Class],
+    scope: &Scope,
+    body: &[Stmt],
+    clauses: &[Clause],
+    other: &[Stmt],
+    m: usize,
+    t: Ways,
+) -> Result<u64, NoMem> {
+    let after = put_block(alloc, code, classes, scope, other, m, t)?;
+    let mut caught = Caught {
+        hands: Seq::new(alloc),
+        bare: None,
+    };
+    put_clauses(alloc, code, classes, scope, clauses, m, t, &mut caught)?;
+    let inner = tried_scope(alloc, classes, scope, clauses, caught)?;
+    put_block(alloc, code, classes, &inner, body, m, t.on(after))
+}
+
+// The last part, where one of the other ways was taken with m variables.
+#[cycle(stmt)]
+fn put_left(
+    alloc: Global,
+    code: &mut Code,
+    classes: &[Class],
+    scope: &Scope,
+    last: &[Stmt],
+    m: usize,
+    t: Ways,
+    aim: Aim,
+) -> Result<Aim, NoMem> {
+    let out = put_aim(alloc, code, m, aim)?;
+    let begin = put_block(alloc, code, classes, scope, last, m, t.on(out))?;
+    Ok(Aim { to: begin, keep: m })
+}
+
+// The last part, where a value was returned, which is held meanwhile.
+#[cycle(stmt)]
+fn put_returned(
+    alloc: Global,
+    code: &mut Code,
+    classes: &[Class],
+    scope: &Scope,
+    last: &[Stmt],
+    m: usize,
+    t: Ways,
+) -> Result<Aim, NoMem> {
+    let more = plus(m, 1)?;
+    let out = put_aim_and(alloc, code, m, t.ret)?;
+    let begin = put_block(alloc, code, classes, scope, last, more, t.on(out))?;
+    Ok(Aim { to: begin, keep: m })
+}
+
+// The last part, where an exception came, which is held meanwhile and then raised again.
+#[cycle(stmt)]
+fn put_raised(
+    alloc: Global,
+    code: &mut Code,
+    classes: &[Class],
+    scope: &Scope,
+    node: NodeId,
+    last: &[Stmt],
+    m: usize,
+    t: Ways,
+) -> Result<Aim, NoMem> {
+    let more = plus(m, 1)?;
+    let jump = jump_first(alloc, NEVER, 0)?;
+    let of = act(node, false, RowOp::Raise);
+    let out = code.put_op(alloc, scope, of, one(alloc, m)?, more, jump)?;
+    let begin = put_block(alloc, code, classes, scope, last, more, t.on(out))?;
+    Ok(Aim { to: begin, keep: m })
+}
+
+// The last part stands once for each way out of the body.
+#[cycle(stmt)]
+fn put_finally(
+    alloc: Global,
+    code: &mut Code,
+    classes: &[Class],
+    scope: &Scope,
+    node: NodeId,
+    body: &[Stmt],
+    last: &[Stmt],
+    m: usize,
+    t: Ways,
+) -> Result<u64, NoMem> {
+    let norm = put_block(alloc, code, classes, scope, last, m, t)?;
+    let brk = put_left(alloc, code, classes, scope, last, m, t, t.brk)?;
+    let cont = put_left(alloc, code, classes, scope, last, m, t, t.cont)?;
+    let ret = put_returned(alloc, code, classes, scope, last, m, t)?;
+    let default = put_raised(alloc, code, classes, scope, node, last, m, t)?;
+    let inner = Scope {
+        hands: Seq::new(alloc),
+        default,
+        covers: scope.covers,
+        tried: true,
+    };
+    let ways = Ways {
+        norm,
+        brk,
+        cont,
+        ret,
+    };
+    put_block(alloc, code, classes, &inner, body, m, ways)
+}
+
+// ---- all statements
+
+#[cycle(stmt)]
+fn put_if(
+    alloc: Global,
+    code: &mut Code,
+    classes: &[Class],
+    scope: &Scope,
+    node: NodeId,
+    test: &Expr,
+    body: &[Stmt],
+    other: &[Stmt],
+    m: usize,
+    t: Ways,
+) -> Result<u64, NoMem> {
+    let no = put_block(alloc, code, classes, scope, other, m, t)?;
+    let yes = put_block(alloc, code, classes, scope, body, m, t)?;
+    put_test(alloc, code, scope, test, node, m, yes, no)
+}
+
+// A statement without blocks of its own.
+fn put_simple(
+    alloc: Global,
+    code: &mut Code,
+    scope: &Scope,
+    s: &Stmt,
+    m: usize,
+    t: Ways,
+) -> Result<u64, NoMem> {
+    match s {
+        Stmt::Break(_) => put_aim(alloc, code, m, t.brk),
+        Stmt::Continue(_) => put_aim(alloc, code, m, t.cont),
+        Stmt::Return(_, e) => put_return(alloc, code, scope, e, m, t),
+        Stmt::Do(_, e) => put_do(alloc, code, scope, e, m, t.norm),
+        Stmt::Assign(_, targets, e) => {
+            put_assign(alloc, code, scope, targets.as_slice(), e, m, t.norm)
+        }
+        Stmt::Augment(node, target, op, e) => {
+            put_augment(alloc, code, scope, *node, target, op, e, m, t.norm)
+        }
+        _ => Ok(t.norm),
+    }
+}
+
+#[cycle(stmt)]
+fn put_stmt(
+    alloc: Global,
+    code: &mut Code,
+    classes: &[Class],
+    scope: &Scope,
+    s: &Stmt,
+    m: usize,
+    t: Ways,
+) -> Result<u64, NoMem> {
+    match s {
+        Stmt::If(node, test, body, other) => put_if(
+            alloc,
+            code,
+            classes,
+            scope,
+            *node,
+            test,
+            body.as_slice(),
+            other.as_slice(),
+            m,
+            t,
+        ),
+        Stmt::While(node, test, body) => {
+            put_while(
+                alloc,
+                code,
+                classes,
+                scope,
+                *node,
+                test,
+                body.as_slice(),
+                m,
+                t,
+            )
+        }
+        Stmt::For(node, target, subject, body) => put_for(
+            alloc,
+            code,
+            classes,
+            scope,
+            *node,
+            target,
+            subject,
+            body.as_slice(),
+            m,
+            t,
+        ),
+        Stmt::Try(_, body, clauses, other) => put_try(
+            alloc,
+            code,
+            classes,
+            scope,
+            body.as_slice(),
+            clauses.as_slice(),
+            other.as_slice(),
+            m,
+            t,
+        ),
+        Stmt::Finally(node, body, last) => put_finally(
+            alloc,
+            code,
+            classes,
+            scope,
+            *node,
+            body.as_slice(),
+            last.as_slice(),
+            m,
+            t,
+        ),
+        _ => put_simple(alloc, code, scope, s, m, t),
+    }
+}
+
+/// Blocks that do what the statements do where m variables are there, and the first of them.
+#[cycle(stmt)]
+pub fn put_block(
+    alloc: Global,
+    code: &mut Code,
+    classes: &[Class],
+    scope: &Scope,
+    body: &[Stmt],
+    m: usize,
+    t: Ways,
+) -> Result<u64, NoMem> {
+    match body {
+        [] => Ok(t.norm),
+        [s, rest @ ..] => {
+            let next = put_block(alloc, code, classes, scope, rest, m, t)?;
+            let next = put_mark(alloc, code, scope, node_of(s), m, next)?;
+            let begin = put_stmt(alloc, code, classes, scope, s, m, t.on(next))?;
+            put_mark(alloc, code, scope, node_of(s), m, begin)
+        }
+    }
+}

@@ -1,0 +1,99 @@
+// The graphs of a program.
+use crate::code::{Aim, Code, Scope, act, jump_and, jump_first};
+use crate::statement::{Ways, put_block};
+use crate::{NEVER, RETURN};
+use flow_graph::{Graph, Graphs};
+use rpy_base::{NoMem, Seq};
+use rpy_meaning::{Covers, RowOp};
+use rpy_resolved::{Class, Function, resolved};
+use rpy_tree::{FunId, Program};
+use std::alloc::Global;
+
+fn no_covers() -> Covers {
+    Covers {
+        index: false,
+        zero: false,
+        number: false,
+        attribute: false,
+    }
+}
+
+// The end of the body gives None.
+fn put_end(alloc: Global, code: &mut Code, function: &Function, m: usize) -> Result<u64, NoMem> {
+    let of = act(function.node, false, RowOp::None);
+    let jump = jump_and(alloc, RETURN, 0, m)?;
+    code.put_plain(alloc, no_covers(), of, m, jump)
+}
+
+// Nothing goes on from here.
+fn put_never(alloc: Global, code: &mut Code) -> Result<u64, NoMem> {
+    let jump = jump_first(alloc, NEVER, 0)?;
+    code.put_jump(alloc, 0, jump)
+}
+
+// The graph of a function: its head, and the blocks that leave it, stand first.
+fn graph_of(
+    alloc: Global,
+    classes: &[Class],
+    number: FunId,
+    function: &Function,
+) -> Result<Graph, NoMem> {
+    let locals = function.locals as usize;
+    let mut code = Code::new(alloc);
+    let head = code.put_head(alloc, locals)?;
+    let returning = code.put_return(alloc)?;
+    let raising = code.put_raise(alloc)?;
+    let _never = put_never(alloc, &mut code)?;
+    let end = put_end(alloc, &mut code, function, locals)?;
+    let outside = Aim {
+        to: end,
+        keep: locals,
+    };
+    let ways = Ways {
+        norm: end,
+        brk: outside,
+        cont: outside,
+        ret: Aim {
+            to: returning,
+            keep: 0,
+        },
+    };
+    let scope = Scope {
+        hands: Seq::new(alloc),
+        default: Aim {
+            to: raising,
+            keep: 0,
+        },
+        covers: no_covers(),
+        tried: false,
+    };
+    let begin = put_block(
+        alloc,
+        &mut code,
+        classes,
+        &scope,
+        function.body.as_slice(),
+        locals,
+        ways,
+    )?;
+    code.aim(alloc, head, begin)?;
+    let Code { blocks, next: _ } = code;
+    Ok(Graph {
+        function: number,
+        blocks,
+    })
+}
+
+/// The flow graphs of a program's functions, in their order.
+pub fn flow(alloc: Global, program: &Program) -> Result<Graphs, NoMem> {
+    let resolved = resolved(alloc, program)?;
+    let classes = resolved.classes.as_slice();
+    let mut graphs = Seq::new(alloc);
+    let mut number: FunId = 0;
+    for function in resolved.functions.as_slice() {
+        let graph = graph_of(alloc, classes, number, function)?;
+        graphs.push(graph)?;
+        number = number.wrapping_add(1);
+    }
+    Ok(Graphs { graphs })
+}
