@@ -2,7 +2,6 @@
 use Rattle.std.proofs.Common.{◌≡◌, ℕ, List, [], ◌∷◌, Option, Some, None, false, refl}
 use Rattle.std.specs.Prelude.{ℤ, pos, negsuc, codes}
 use Rattle.rpy_tree.specs.declared.syntax.BinOp.TheVariants as binop
-use Rattle.rpy_tree.specs.declared.syntax.UnOp.TheVariants as unop
 use Rattle.rpy_tree.specs.declared.program.Const.{Const}
 use Rattle.rpy_tree.specs.declared.program.Const.TheVariants as const
 use Rattle.rpy_nodes.specs.declared.event.Act.{Act}
@@ -48,7 +47,7 @@ list_of_two : run [] [] (step 0 (act.Int (pos 1)) called.Plain 7 ∷ step 1 (act
     ≡ record { slots = record { node = 2; value = Some (const.List 7) } ∷ []; prebuilt = record { site = 7; pairs = (const.None, const.Word (pos 1)) ∷ (const.None, const.Word (pos 2)) ∷ [] } ∷ []; roots = []; fault = None }
 list_of_two = refl
 
--- range(n, 0, -2): the step has its value at the node of the sign
-step_of_a_range : (run_words [] (step 0 (act.Name 0) called.Plain 0 ∷ step 1 (act.Name 1) called.Plain 0 ∷ step 2 (act.Int (pos 0)) called.Plain 0 ∷ step 3 (act.Int (pos 2)) called.Plain 0 ∷ step 4 (act.Unary unop.Neg) called.Plain 0 ∷ step 5 (act.Call 3) called.Range 0 ∷ []) (start [] [])).roots
-    ≡ record { node = 4; value = const.Word (negsuc 1) } ∷ []
+-- range(n, m, 2): the step has its value at its node
+step_of_a_range : (run_words [] (step 0 (act.Name 0) called.Plain 0 ∷ step 1 (act.Name 1) called.Plain 0 ∷ step 2 (act.Name 2) called.Plain 0 ∷ step 3 (act.Int (pos 2)) called.Plain 0 ∷ step 4 (act.Call 3) called.Range 0 ∷ []) (start [] [])).roots
+    ≡ record { node = 3; value = const.Word (pos 2) } ∷ []
 step_of_a_range = refl
