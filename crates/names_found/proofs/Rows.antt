@@ -3,6 +3,7 @@ use Rattle.std.proofs.Common.{◌≡◌, ℕ, List, [], ◌∷◌, Option, Some,
 use Rattle.rpy_nodes.specs.declared.event.Act.{Act}
 use Rattle.rpy_nodes.specs.declared.event.Act.TheVariants as act
 use Rattle.rpy_nodes.specs.declared.event.Event.{Event}
+use Rattle.names_bound.specs.Base.{builtin_bases}
 use Rattle.names_bound.specs.declared.fault.FaultKind.TheVariants as fault
 use Rattle.names_bound.specs.declared.scopes.Scopes.{Scopes}
 use Rattle.names_bound.specs.declared.stand.Stand.{Stand}
@@ -31,6 +32,13 @@ sites = refl
 
 stands : map (λ s. s.stand) found.steps ≡ stand.Local 0 ∷ stand.Local 1 ∷ stand.Local 1 ∷ stand.Local 0 ∷ stand.Nothing ∷ stand.Nothing ∷ []
 stands = refl
+
+-- except (KeyError, Z), x: with the local x, where Z is 90 and bound nowhere; KeyError is class 7 and has the number 20
+abbrev head : Finder
+head = find_events (record { bindings = []; members = []; bases = builtin_bases }) (50 ∷ []) (record { file = 0; place = 0; body = true }) (event 4 (act.Caught 20) ∷ event 4 act.CaughtEnd ∷ event 4 (act.Caught 90) ∷ event 4 act.CaughtEnd ∷ event 4 (act.Catch 50) ∷ event 4 act.Clause ∷ []) (start (record { node = 1; dict = false }))
+
+classes : map (λ s. s.stand) head.steps ≡ stand.Nothing ∷ stand.Class 7 ∷ stand.Nothing ∷ stand.Unknown ∷ stand.Local 0 ∷ stand.Nothing ∷ []
+classes = refl
 
 -- outside a function the same names are unknown, at the first of their nodes
 outside : (find_events (record { bindings = []; members = []; bases = [] }) [] (record { file = 0; place = 0; body = false }) events (start (record { node = 1; dict = false }))).fault

@@ -76,13 +76,19 @@ abbrev pub bind_seen : Option ℕ → Seen
 bind_seen None = nothing
 bind_seen (Some local) = seen (stand.Local local) false false called.Plain
 
--- what an act stands for after these parts
-abbrev pub act_seen : Scopes → List ℕ → Place → List Part → Act → Seen
-act_seen scopes locals at parts (act.Name name) = name_seen scopes locals at name
-act_seen scopes locals at parts (act.Attr name) = attr_seen scopes at (part_under parts 0) name
-act_seen scopes locals at parts (act.Call count) = call_seen (part_under parts count) count
-act_seen scopes locals at parts (act.Bind name) = bind_seen (local_in locals at name)
-act_seen scopes locals at parts other = nothing
+-- the class at whose end an act stands in the head of a clause
+abbrev pub class_seen : Stand → Seen
+class_seen caught = seen caught false false called.Plain
+
+-- what an act stands for after these parts, and after the names of this class
+abbrev pub act_seen : Scopes → List ℕ → Place → List Part → Stand → Act → Seen
+act_seen scopes locals at parts caught (act.Name name) = name_seen scopes locals at name
+act_seen scopes locals at parts caught (act.Attr name) = attr_seen scopes at (part_under parts 0) name
+act_seen scopes locals at parts caught (act.Call count) = call_seen (part_under parts count) count
+act_seen scopes locals at parts caught (act.Bind name) = bind_seen (local_in locals at name)
+act_seen scopes locals at parts caught act.CaughtEnd = class_seen caught
+act_seen scopes locals at parts caught (act.Catch name) = bind_seen (local_in locals at name)
+act_seen scopes locals at parts caught other = nothing
 
 abbrev pub is_unknown : Stand → Bool
 is_unknown stand.Unknown = true
@@ -151,8 +157,11 @@ set_caught s w = record w { caught = s }
 abbrev pub find_seen : Scopes → Event → Seen → Finder → Finder
 find_seen scopes e s w = add_seen e s (add_fault (act_fault scopes w.caught e.node e.act s.part.stand) w)
 
+abbrev pub find_after : Scopes → List ℕ → Place → Event → Finder → Finder
+find_after scopes locals at e w = find_seen scopes e (act_seen scopes locals at w.parts w.caught e.act) w
+
 abbrev pub find_event : Scopes → List ℕ → Place → Event → Finder → Finder
-find_event scopes locals at e w = find_seen scopes e (act_seen scopes locals at w.parts e.act) (set_caught (act_caught scopes locals at w.caught e.act) w)
+find_event scopes locals at e w = find_after scopes locals at e (set_caught (act_caught scopes locals at w.caught e.act) w)
 
 abbrev pub find_events : Scopes → List ℕ → Place → List Event → Finder → Finder
 find_events scopes locals at [] w = w

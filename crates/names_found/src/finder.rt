@@ -168,15 +168,31 @@ fn bind_seen(local: Option<usize>) -> Seen
     }
 }
 
-// What an act stands for after these parts.
-fn act_seen(scopes: &Scopes, locals: &Locals, at: Place, parts: &[Part], act: Act) -> Seen
-    ensures { result ≡ spec.act_seen scopes.now locals.now at parts.now act }
+// The class at whose end an act stands in the head of a clause.
+fn class_seen(caught: Stand) -> Seen
+    ensures { result ≡ spec.class_seen caught }
+{
+    what_is_seen(caught, false, false, Called::Plain)
+}
+
+// What an act stands for after these parts, and after the names of this class.
+fn act_seen(
+    scopes: &Scopes,
+    locals: &Locals,
+    at: Place,
+    parts: &[Part],
+    caught: Stand,
+    act: Act,
+) -> Seen
+    ensures { result ≡ spec.act_seen scopes.now locals.now at parts.now caught act }
 {
     match act {
         Act::Name(name) => name_seen(scopes, locals, at, name),
         Act::Attr(name) => attr_seen(scopes, at, part_under(parts, 0), name),
         Act::Call(count) => call_seen(part_under(parts, count), count),
         Act::Bind(name) => bind_seen(local_in(locals, at, name)),
+        Act::CaughtEnd => class_seen(caught),
+        Act::Catch(name) => bind_seen(local_in(locals, at, name)),
         _ => nothing(),
     }
 }
@@ -315,8 +331,9 @@ impl Finder {
     ) -> Result<(), NoMem>
         ensures { OnOk result (self.new ≡ spec.find_event scopes.now locals.now at event self.old) }
     {
-        let seen = act_seen(scopes, locals, at, self.parts.as_slice(), event.act);
         self.caught = act_caught(scopes, locals, at, self.caught, event.act);
+        let parts = self.parts.as_slice();
+        let seen = act_seen(scopes, locals, at, parts, self.caught, event.act);
         let fault = act_fault(scopes, self.caught, event.node, event.act, seen.part.stand);
         self.add_fault(fault);
         self.add_seen(event, seen)

@@ -11,7 +11,7 @@ use Rattle.names_found.specs.declared.step.Called.{Called}
 use Rattle.names_found.specs.declared.step.Called.TheVariants as called
 use Rattle.names_found.specs.declared.step.Step.{Step}
 use Rattle.names_value.specs.Arithmetic.{word_binary}
-use Rattle.names_value.specs.Machine.{run, start}
+use Rattle.names_value.specs.Machine.{run, run_words, start}
 use Rattle.names_value.specs.declared.machine.Machine.{Machine}
 
 -- the true result of 1 << 63 is no word, that of -1 << 63 is the smallest
@@ -43,6 +43,11 @@ abbrev step : ℕ → Act → Called → ℕ → Step
 step node a c site = record { node = node; act = a; stand = stand.Nothing; late = false; called = c; site = site }
 
 -- [1, 2] is the list of site 7, which has the two items
-list_of_two : run [] [] (step 0 (act.Int (pos 1)) called.Plain 7 ∷ step 1 (act.Int (pos 2)) called.Plain 7 ∷ step 2 (act.List 2) called.Plain 7 ∷ []) start
-    ≡ record { slots = record { node = 2; value = Some (const.List 7) } ∷ []; prebuilt = record { site = 7; pairs = (const.None, const.Word (pos 1)) ∷ (const.None, const.Word (pos 2)) ∷ [] } ∷ []; fault = None }
+list_of_two : run [] [] (step 0 (act.Int (pos 1)) called.Plain 7 ∷ step 1 (act.Int (pos 2)) called.Plain 7 ∷ step 2 (act.List 2) called.Plain 7 ∷ []) (start [] [])
+    ≡ record { slots = record { node = 2; value = Some (const.List 7) } ∷ []; prebuilt = record { site = 7; pairs = (const.None, const.Word (pos 1)) ∷ (const.None, const.Word (pos 2)) ∷ [] } ∷ []; roots = []; fault = None }
 list_of_two = refl
+
+-- range(n, m, 2): the step has its value at its node
+step_of_a_range : (run_words [] (step 0 (act.Name 0) called.Plain 0 ∷ step 1 (act.Name 1) called.Plain 0 ∷ step 2 (act.Name 2) called.Plain 0 ∷ step 3 (act.Int (pos 2)) called.Plain 0 ∷ step 4 (act.Call 3) called.Range 0 ∷ []) (start [] [])).roots
+    ≡ record { node = 3; value = const.Word (pos 2) } ∷ []
+step_of_a_range = refl

@@ -12,10 +12,10 @@ use Rattle.names_found.specs.declared.unit.Found.{Found}
 use Rattle.names_value.specs.Machine.{run, run_words, start}
 use Rattle.names_value.specs.Slots.{last_slot, without_last}
 use Rattle.names_value.specs.declared.constants.Checked.{Checked}
-use Rattle.names_value.specs.declared.constants.Root.{Root}
 use Rattle.names_value.specs.declared.constants.Values.{Values}
 use Rattle.names_value.specs.declared.machine.Machine.{Machine}
 use Rattle.names_value.specs.declared.machine.Prebuilt.{Prebuilt}
+use Rattle.names_value.specs.declared.machine.Root.{Root}
 
 abbrev pub steps_in : Option Found → List Step
 steps_in None = []
@@ -31,9 +31,6 @@ open_at (Some (Some c)) = false
 
 abbrev pub is_open : List (Option Const) → ℕ → Bool
 is_open values number = open_at (slice_get values number)
-
-abbrev pub machine_with : List Prebuilt → Machine
-machine_with prebuilt = record { slots = []; prebuilt = prebuilt; fault = None }
 
 abbrev pub value_at_end : Machine → Option Const × Machine
 value_at_end m = ((last_slot m.slots).value, record m { slots = without_last m.slots })
@@ -56,7 +53,7 @@ settle_with number r v = put number r.0 (record v { prebuilt = r.1.prebuilt })
 
 -- a constant is tried with the values so far
 abbrev pub settle : List (List ℕ) → ℕ → List Step → Values → Values
-settle names number steps v = settle_with number (value_after names v.constants steps (machine_with v.prebuilt)) v
+settle names number steps v = settle_with number (value_after names v.constants steps (start v.prebuilt [])) v
 
 abbrev pub settle_open : List (List ℕ) → ℕ → List Step → Values → Values
 settle_open names number steps v = if is_open v.constants number then settle names number steps v else v
@@ -113,7 +110,7 @@ abbrev pub add_ended : ℕ → Option Const × Machine → Checked → Checked
 add_ended node r w = add_root node r.0 (add_fault r.1.fault (record w { prebuilt = r.1.prebuilt }))
 
 abbrev pub add_expression : List (List ℕ) → List (Option Const) → List Step → Checked → Checked
-add_expression names values steps w = add_ended (last_node steps) (value_after names values steps (machine_with w.prebuilt)) w
+add_expression names values steps w = add_ended (last_node steps) (value_after names values steps (start w.prebuilt [])) w
 
 abbrev pub add_steps : List (List ℕ) → List (Option Const) → Option (List Step) → Checked → Checked
 add_steps names values None w = w
@@ -126,8 +123,12 @@ abbrev pub add_defaults : List (List ℕ) → List (Option Const) → List Defau
 add_defaults names values [] w = w
 add_defaults names values (d ∷ ds) w = add_defaults names values ds (add_default names values d w)
 
+abbrev pub add_ran : Machine → Checked → Checked
+add_ran m w = add_fault m.fault (record w { roots = m.roots })
+
+-- the steps of ranges in a body have values
 abbrev pub add_body : List (Option Const) → List Step → Checked → Checked
-add_body values steps w = add_fault (run_words values steps start).fault w
+add_body values steps w = add_ran (run_words values steps (start [] w.roots)) w
 
 abbrev pub add_value : Option ℕ → ℕ → Const → Checked → Checked
 add_value class node c w = add_root node (Some c) (add_fault (class_fault class c node) w)

@@ -22,6 +22,7 @@ use Rattle.names_value.specs.Same.{same}
 use Rattle.names_value.specs.Slots.{last_slot, without_last, without, take_slots, values_of}
 use Rattle.names_value.specs.declared.machine.Machine.{Machine}
 use Rattle.names_value.specs.declared.machine.Prebuilt.{Prebuilt}
+use Rattle.names_value.specs.declared.machine.Root.{Root}
 use Rattle.names_value.specs.declared.slots.Slot.{Slot}
 
 -- a program has fewer than 2 ^ 32 things of each kind
@@ -189,6 +190,23 @@ call_fault called.Range args = step_fault (slice_get args 0)
 call_fault called.Write args = write_fault (slice_get args (length args - 1))
 call_fault other args = None
 
+abbrev pub root_of : ℕ → Option Const → Option Root
+root_of node None = None
+root_of node (Some c) = Some (record { node = node; value = c })
+
+abbrev pub step_root : Option Slot → Option Root
+step_root None = None
+step_root (Some slot) = root_of slot.node slot.value
+
+-- the third argument of a range is constant, and has a value where it ends
+abbrev pub call_root : Called → List Slot → Option Root
+call_root called.Range args = step_root (slice_get args 0)
+call_root other args = None
+
+abbrev pub with_root : Option Root → List Root → List Root
+with_root None roots = roots
+with_root (Some root) roots = roots ++ root ∷ []
+
 -- ---- words in bodies
 
 abbrev pub word_layer_of : Const-F Const → Option ℤ
@@ -212,8 +230,9 @@ word_in constants s late = if late then None else word (word_of constants s)
 
 -- ---- steps
 
-abbrev pub start : Machine
-start = record { slots = []; prebuilt = []; fault = None }
+-- nothing waits yet
+abbrev pub start : List Prebuilt → List Root → Machine
+start prebuilt roots = record { slots = []; prebuilt = prebuilt; roots = roots; fault = None }
 
 abbrev pub push : ℕ → Option Const → Machine → Machine
 push node value m = record m { slots = m.slots ++ record { node = node; value = value } ∷ [] }
@@ -251,7 +270,7 @@ abbrev pub dict : ℕ → ℕ → ℕ → Machine → Machine
 dict node count site m = dict_with node count site (take_slots (count * 2) m.slots) m
 
 abbrev pub call_with : ℕ → Called → List Slot × List Slot → Machine → Machine
-call_with node c taken m = push node None (record m { slots = without 1 taken.1; fault = lesser m.fault (call_fault c taken.0) })
+call_with node c taken m = push node None (record m { slots = without 1 taken.1; roots = with_root (call_root c taken.0) m.roots; fault = lesser m.fault (call_fault c taken.0) })
 
 abbrev pub call : ℕ → ℕ → Called → Machine → Machine
 call node count c m = call_with node c (take_slots count m.slots) m

@@ -3,7 +3,7 @@ ghost use Rattle.std.specs.Prelude.{◌≡◌, [], IfOk, OnOk, length};
 ghost use Rattle.names_value.specs.Constants as spec;
 
 use crate::copy::copy_const;
-use crate::machine::{Machine, Prebuilt};
+use crate::machine::{Machine, Prebuilt, Root};
 use crate::slots::take_slot;
 use names_bound::fault::fault_if;
 use names_bound::{ConstantAt, Fault, FaultKind, lesser};
@@ -59,16 +59,6 @@ fn value_after(
     Ok(slot.value)
 }
 
-fn machine_with(alloc: Global, prebuilt: Seq<Prebuilt>) -> Machine
-    ensures { result ≡ spec.machine_with prebuilt }
-{
-    Machine {
-        slots: Seq::new(alloc),
-        prebuilt,
-        fault: None,
-    }
-}
-
 impl Values {
     fn put(&mut self, number: usize, value: Option<Const>)
         ensures { self.new ≡ spec.put number value self.old }
@@ -95,11 +85,12 @@ impl Values {
         ensures { OnOk result (self.new ≡ spec.settle names.now number steps.now self.old) }
     {
         let prebuilt = mem::replace(&mut self.prebuilt, Seq::new(alloc));
-        let mut machine = machine_with(alloc, prebuilt);
+        let mut machine = Machine::new(alloc, prebuilt, Seq::new(alloc));
         let value = value_after(alloc, names, self.constants.as_slice(), steps, &mut machine)?;
         let Machine {
             slots: _,
             prebuilt,
+            roots: _,
             fault: _,
         } = machine;
         self.prebuilt = prebuilt;
@@ -175,13 +166,6 @@ pub fn constant_values(
     Ok(values)
 }
 
-/// The value of the constant expression that ends at a node.
-#[derive(Drop)]
-pub struct Root {
-    pub node: NodeId,
-    pub value: Const,
-}
-
 /// The values at the ends of constant expressions, the lists and dicts of defaults, and the least
 /// fault.
 #[derive(Drop)]
@@ -252,11 +236,12 @@ impl Checked {
         ensures { OnOk result (self.new ≡ spec.add_expression names.now values.now steps.now self.old) }
     {
         let prebuilt = mem::replace(&mut self.prebuilt, Seq::new(alloc));
-        let mut machine = machine_with(alloc, prebuilt);
+        let mut machine = Machine::new(alloc, prebuilt, Seq::new(alloc));
         let value = value_after(alloc, names, values, steps, &mut machine)?;
         let Machine {
             slots: _,
             prebuilt,
+            roots: _,
             fault,
         } = machine;
         self.prebuilt = prebuilt;
@@ -302,9 +287,17 @@ impl Checked {
     ) -> Result<(), NoMem>
         ensures { OnOk result (self.new ≡ spec.add_body values.now steps.now self.old) }
     {
-        let mut machine = Machine::new(alloc);
+        let roots = mem::replace(&mut self.roots, Seq::new(alloc));
+        let mut machine = Machine::new(alloc, Seq::new(alloc), roots);
         machine.run_words(alloc, values, steps)?;
-        self.add_fault(machine.fault);
+        let Machine {
+            slots: _,
+            prebuilt: _,
+            roots,
+            fault,
+        } = machine;
+        self.roots = roots;
+        self.add_fault(fault);
         Ok(())
     }
 

@@ -9,6 +9,6 @@ pub mod same;
 pub mod slots;
 
 pub use arithmetic::{word_binary, word_unary};
-pub use constants::{Checked, Root, Values, bad_constants, constant_values};
+pub use constants::{Checked, Values, bad_constants, constant_values};
 pub use copy::{copy_const, copy_pairs};
-pub use machine::{Machine, Prebuilt};
+pub use machine::{Machine, Prebuilt, Root};

@@ -23,11 +23,20 @@ pub struct Prebuilt {
     pub pairs: Seq<(Const, Const)>,
 }
 
-/// The parts that wait, the lists and dicts that are made before the run, and the least fault.
+/// The value of the constant expression that ends at a node.
+#[derive(Drop)]
+pub struct Root {
+    pub node: NodeId,
+    pub value: Const,
+}
+
+/// The parts that wait, the lists and dicts that are made before the run, the values of arguments
+/// that have to be constant, and the least fault.
 #[derive(Drop)]
 pub struct Machine {
     pub slots: Seq<Slot>,
     pub prebuilt: Seq<Prebuilt>,
+    pub roots: Seq<Root>,
     pub fault: Option<Fault>,
 }
 
@@ -315,6 +324,47 @@ fn call_fault(called: Called, args: &Seq<Slot>) -> Option<Fault>
     }
 }
 
+// A part as the end of a constant expression.
+fn step_root(alloc: Global, slot: Option<&Slot>) -> Result<Option<Root>, NoMem>
+    ensures { IfOk result (λ root. root ≡ spec.step_root (option_copied slot.entry)) }
+{
+    match slot {
+        None => Ok(None),
+        Some(slot) => {
+            let value = copy_option(alloc, &slot.value)?;
+            Ok(root_of(slot.node, value))
+        }
+    }
+}
+
+fn root_of(node: NodeId, value: Option<Const>) -> Option<Root>
+    ensures { result ≡ spec.root_of node value }
+{
+    match value {
+        None => None,
+        Some(value) => Some(Root { node, value }),
+    }
+}
+
+// The step of a range, of arguments that were taken last one first.
+fn call_root(alloc: Global, called: Called, args: &Seq<Slot>) -> Result<Option<Root>, NoMem>
+    ensures { IfOk result (λ root. root ≡ spec.call_root called args.now) }
+{
+    match called {
+        Called::Range => step_root(alloc, args.get(0)),
+        _ => Ok(None),
+    }
+}
+
+fn keep_root(roots: &mut Seq<Root>, root: Option<Root>) -> Result<(), NoMem>
+    ensures { OnOk result (roots.new ≡ spec.with_root root roots.old) }
+{
+    match root {
+        None => Ok(()),
+        Some(root) => roots.push(root),
+    }
+}
+
 // The word that a name stands for.
 fn word_at(constants: &[Option<Const>], number: usize) -> Option<i64>
     ensures { result ≡ spec.word_at constants.now number }
@@ -355,12 +405,13 @@ fn tuple_of(values: Option<Seq<Const>>) -> Option<Const>
 }
 
 impl Machine {
-    pub fn new(alloc: Global) -> Machine
-        ensures { result ≡ spec.start }
+    pub fn new(alloc: Global, prebuilt: Seq<Prebuilt>, roots: Seq<Root>) -> Machine
+        ensures { result ≡ spec.start prebuilt roots }
     {
         Machine {
             slots: Seq::new(alloc),
-            prebuilt: Seq::new(alloc),
+            prebuilt,
+            roots,
             fault: None,
         }
     }
@@ -428,6 +479,7 @@ impl Machine {
     {
         let args = take_slots(alloc, &mut self.slots, count)?;
         drop_slots(&mut self.slots, 1);
+        keep_root(&mut self.roots, call_root(alloc, called, &args)?)?;
         self.fault = lesser(self.fault, call_fault(called, &args));
         self.push(node, None)
     }

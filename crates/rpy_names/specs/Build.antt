@@ -30,6 +30,7 @@ use Rattle.names_value.specs.Constants.{constant_values, bad_constants}
 use Rattle.names_value.specs.Machine.{narrow}
 use Rattle.names_value.specs.declared.constants.Checked.{Checked}
 use Rattle.names_value.specs.declared.constants.Values.{Values}
+use Rattle.rpy_names.specs.Clauses.{clause_infos}
 use Rattle.rpy_names.specs.Tables.{function_infos, class_infos, program_sites}
 use Rattle.rpy_names.specs.Uses.{uses}
 use Rattle.rpy_names.specs.declared.build.Bound.{Bound}
@@ -110,6 +111,7 @@ parts_of l b found sites v c entry = record {
   functions = function_infos l.units found b.functions;
   classes = program_classes l.names l.units b v.constants;
   sites = program_sites sites v.prebuilt c.prebuilt;
+  clauses = clause_infos found;
   entry = narrow entry.function;
 }
 

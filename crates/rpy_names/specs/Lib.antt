@@ -1,4 +1,5 @@
 pub mod Build
+pub mod Clauses
 pub mod Gives
 pub mod Place
 pub mod Resolve

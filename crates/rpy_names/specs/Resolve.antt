@@ -12,7 +12,7 @@ use Rattle.rpy_names.specs.declared.move_in.Room.{Room}
 use Rattle.rpy_base.specs.declared.fault.NoMem.{NoMem as NoMemory}
 
 abbrev pub program_with : List Named → Parts → Program
-program_with modules p = record { names = names_of modules; modules = modules_of modules; uses = p.uses; functions = p.functions; classes = p.classes; sites = p.sites; entry = p.entry }
+program_with modules p = record { names = names_of modules; modules = modules_of modules; uses = p.uses; functions = p.functions; classes = p.classes; sites = p.sites; clauses = p.clauses; entry = p.entry }
 
 abbrev pub program_by : List Named → Result Parts NameFault → Option Program
 program_by modules (Ok p) = Some (program_with modules p)

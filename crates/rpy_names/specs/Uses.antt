@@ -4,13 +4,15 @@ use Rattle.rpy_tree.specs.declared.program.Const.{Const}
 use Rattle.rpy_tree.specs.declared.program.Const.TheVariants as const
 use Rattle.rpy_tree.specs.declared.program.Use.{Use}
 use Rattle.rpy_tree.specs.declared.program.Use.TheVariants as use_
+use Rattle.rpy_nodes.specs.declared.event.Act.{Act}
+use Rattle.rpy_nodes.specs.declared.event.Act.TheVariants as act
 use Rattle.names_bound.specs.declared.stand.Stand.{Stand}
 use Rattle.names_bound.specs.declared.stand.Stand.TheVariants as stand
 use Rattle.names_found.specs.declared.step.Step.{Step}
 use Rattle.names_found.specs.declared.unit.Default.{Default}
 use Rattle.names_found.specs.declared.unit.Found.{Found}
 use Rattle.names_value.specs.Machine.{narrow, constant_at}
-use Rattle.names_value.specs.declared.constants.Root.{Root}
+use Rattle.names_value.specs.declared.machine.Root.{Root}
 
 abbrev pub Uses : Type 0
 Uses = List Use
@@ -50,8 +52,14 @@ abbrev pub put_stand : List (Option Const) → ℕ → ℕ → Stand → Uses �
 put_stand values modules node stand.Nothing uses = uses
 put_stand values modules node s uses = put node (use_of values modules s) uses
 
+-- what the head of a clause names has no use
+abbrev pub put_act : List (Option Const) → ℕ → ℕ → Stand → Act → Uses → Uses
+put_act values modules node s act.CaughtEnd uses = uses
+put_act values modules node s (act.Catch name) uses = uses
+put_act values modules node s other uses = put_stand values modules node s uses
+
 abbrev pub put_step : List (Option Const) → ℕ → Step → Uses → Uses
-put_step values modules s uses = put_stand values modules s.node s.stand uses
+put_step values modules s uses = put_act values modules s.node s.stand s.act uses
 
 abbrev pub put_steps : List (Option Const) → ℕ → List Step → Uses → Uses
 put_steps values modules [] uses = uses
@@ -72,7 +80,7 @@ abbrev pub put_units : List (Option Const) → ℕ → List Found → Uses → U
 put_units values modules [] uses = uses
 put_units values modules (u ∷ us) uses = put_units values modules us (put_unit values modules u uses)
 
--- the node of a constant expression has its value
+-- the node of a constant expression, and of the third argument of a range, has its value
 abbrev pub put_roots : List Root → Uses → Uses
 put_roots [] uses = uses
 put_roots (r ∷ rs) uses = put_roots rs (put r.node (use_.Value r.value) uses)

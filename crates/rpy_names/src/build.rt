@@ -3,6 +3,7 @@ ghost use Rattle.std.specs.Prelude.{◌≡◌, [], IfOk, OnOk};
 ghost use Rattle.rpy_names.specs.Build as spec;
 ghost use Rattle.rpy_names.specs.Gives.{Gives};
 
+use crate::clauses::clause_infos;
 use crate::fault::NameFault;
 use crate::tables::{Sources, class_infos, function_infos, program_sites};
 use crate::tell::told;
@@ -17,7 +18,7 @@ use names_value::{Checked, Values, bad_constants, constant_values};
 use rpy_base::{NoMem, Seq};
 use rpy_nodes::words::ENTRY_POINT;
 use rpy_nodes::{Listing, Named, Names, Parameter, Unit, What, list_program};
-use rpy_tree::{ClassInfo, Const, FunId, FunInfo, NodeId, Site, Use};
+use rpy_tree::{ClassInfo, ClauseInfo, Const, FunId, FunInfo, NodeId, Site, Use};
 use std::alloc::Global;
 
 /// All parts of a program but its modules.
@@ -27,6 +28,7 @@ pub struct Parts {
     pub functions: Seq<FunInfo>,
     pub classes: Seq<ClassInfo>,
     pub sites: Seq<Site>,
+    pub clauses: Seq<ClauseInfo>,
     pub entry: FunId,
 }
 
@@ -276,11 +278,13 @@ fn parts_of(
         values.prebuilt.as_slice(),
         checked.prebuilt.as_slice(),
     )?;
+    let clauses = clause_infos(alloc, found)?;
     Ok(Parts {
         uses,
         functions,
         classes,
         sites,
+        clauses,
         entry: narrow(entry.function),
     })
 }

@@ -2,6 +2,7 @@
 #![tactic(auto)]
 
 pub mod build;
+mod clauses;
 pub mod fault;
 mod move_in;
 mod place;

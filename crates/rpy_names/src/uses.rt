@@ -8,6 +8,7 @@ use names_found::{Found, Step};
 use names_value::machine::narrow;
 use names_value::{Root, copy_const};
 use rpy_base::{NoMem, Seq};
+use rpy_nodes::Act;
 use rpy_tree::{Const, NodeId, Use};
 use std::alloc::Global;
 
@@ -68,6 +69,28 @@ fn put(uses: &mut Seq<Use>, node: NodeId, of: Use)
     }
 }
 
+fn put_stand(
+    alloc: Global,
+    uses: &mut Seq<Use>,
+    values: &[Option<Const>],
+    modules: usize,
+    node: NodeId,
+    stand: Stand,
+) -> Result<(), NoMem>
+    requires { modules < 2 ^ 63 }
+    ensures { OnOk result (uses.new ≡ spec.put_stand values.now modules node stand uses.old) }
+{
+    match stand {
+        Stand::Nothing => Ok(()),
+        stand => {
+            let of = use_of(alloc, values, modules, stand)?;
+            put(uses, node, of);
+            Ok(())
+        }
+    }
+}
+
+// What the head of a clause names has no use.
 fn put_step(
     alloc: Global,
     uses: &mut Seq<Use>,
@@ -78,13 +101,10 @@ fn put_step(
     requires { modules < 2 ^ 63 }
     ensures { OnOk result (uses.new ≡ spec.put_step values.now modules step.now uses.old) }
 {
-    match step.stand {
-        Stand::Nothing => Ok(()),
-        stand => {
-            let of = use_of(alloc, values, modules, stand)?;
-            put(uses, step.node, of);
-            Ok(())
-        }
+    match step.act {
+        Act::CaughtEnd => Ok(()),
+        Act::Catch(_) => Ok(()),
+        _ => put_stand(alloc, uses, values, modules, step.node, step.stand),
     }
 }
 
@@ -177,7 +197,8 @@ fn put_roots(alloc: Global, uses: &mut Seq<Use>, roots: &[Root]) -> Result<(), N
     Ok(())
 }
 
-/// The use of each node. The node of a constant expression has its value.
+/// The use of each node. The node of a constant expression, and of the third argument of a range, has
+/// its value.
 pub fn program_uses(
     alloc: Global,
     nodes: u32,

@@ -25,6 +25,7 @@ fn program(room: Room, modules: Seq<Named>, parts: Parts) -> Program
         functions,
         classes,
         sites,
+        clauses,
         entry,
     } = parts;
     Program {
@@ -34,6 +35,7 @@ fn program(room: Room, modules: Seq<Named>, parts: Parts) -> Program
         functions,
         classes,
         sites,
+        clauses,
         entry,
     }
 }
