@@ -1,8 +1,14 @@
 // The words for operations in the text of graphs.
+ghost use Rattle.std.specs.Prelude.{◌≡◌, ◌++◌, OnOk};
+ghost use Rattle.flow_graph.specs.GraphText as spec;
+
+use rpy_base::{NoMem, Text};
 use rpy_meaning::RowOp;
 use rpy_tree::{BinOp, CmpOp, UnOp};
 
-fn unary(op: UnOp) -> &'static [u8] {
+fn unary(op: UnOp) -> &'static [u8]
+    ensures { result.now ≡ spec.unary_word op }
+{
     match op {
         UnOp::Neg => b"neg".as_slice(),
         UnOp::Pos => b"pos".as_slice(),
@@ -10,7 +16,9 @@ fn unary(op: UnOp) -> &'static [u8] {
     }
 }
 
-fn binary(op: BinOp) -> &'static [u8] {
+fn binary(op: BinOp) -> &'static [u8]
+    ensures { result.now ≡ spec.binary_word op }
+{
     match op {
         BinOp::Add => b"add".as_slice(),
         BinOp::Sub => b"sub".as_slice(),
@@ -26,23 +34,9 @@ fn binary(op: BinOp) -> &'static [u8] {
     }
 }
 
-fn checked(op: BinOp) -> &'static [u8] {
-    match op {
-        BinOp::Add => b"checkedadd".as_slice(),
-        BinOp::Sub => b"checkedsub".as_slice(),
-        BinOp::Mul => b"checkedmul".as_slice(),
-        BinOp::Div => b"checkeddiv".as_slice(),
-        BinOp::FloorDiv => b"checkedfloordiv".as_slice(),
-        BinOp::Mod => b"checkedmod".as_slice(),
-        BinOp::Shl => b"checkedshl".as_slice(),
-        BinOp::Shr => b"checkedshr".as_slice(),
-        BinOp::BitAnd => b"checkedbitand".as_slice(),
-        BinOp::BitOr => b"checkedbitor".as_slice(),
-        BinOp::BitXor => b"checkedbitxor".as_slice(),
-    }
-}
-
-fn compare(op: CmpOp) -> &'static [u8] {
+fn compare(op: CmpOp) -> &'static [u8]
+    ensures { result.now ≡ spec.compare_word op }
+{
     match op {
         CmpOp::Lt => b"lt".as_slice(),
         CmpOp::Le => b"le".as_slice(),
@@ -57,69 +51,71 @@ fn compare(op: CmpOp) -> &'static [u8] {
     }
 }
 
-// The words for what is made, called and walked.
-fn further(op: &RowOp) -> &'static [u8] {
-    match op {
-        RowOp::Slice(_, _, _) => b"slice".as_slice(),
-        RowOp::AllButLast(_) => b"allbutlast".as_slice(),
-        RowOp::Tuple => b"tuple".as_slice(),
-        RowOp::List(_) => b"list".as_slice(),
-        RowOp::Dict(_) => b"dict".as_slice(),
-        RowOp::Comprehension(_) => b"comprehension".as_slice(),
-        RowOp::AddItem => b"additem".as_slice(),
-        RowOp::Call(_) => b"call".as_slice(),
-        RowOp::CallOf(_, _) => b"callof".as_slice(),
-        RowOp::CallValue => b"callvalue".as_slice(),
-        RowOp::New(_) => b"new".as_slice(),
-        RowOp::Method(_, _) => b"method".as_slice(),
-        RowOp::Raise => b"raise".as_slice(),
-        RowOp::Print => b"print".as_slice(),
-        RowOp::Walk(_) => b"walk".as_slice(),
-        RowOp::HasItem(_) => b"hasitem".as_slice(),
-        RowOp::Item(_) => b"item".as_slice(),
-        RowOp::Advance(_) => b"advance".as_slice(),
-        RowOp::Turn => b"turn".as_slice(),
-        RowOp::Unpack(_, _) => b"unpack".as_slice(),
-        RowOp::DropNone => b"dropnone".as_slice(),
-        RowOp::OnlyNone => b"onlynone".as_slice(),
-        RowOp::FalseNone => b"falsenone".as_slice(),
-        RowOp::Lower(_) => b"lower".as_slice(),
-        _ => b"nonnegative".as_slice(),
-    }
+fn put_checked(text: &mut Text, op: BinOp) -> Result<(), NoMem>
+    ensures { OnOk result (text.new ≡ text.old ++ (spec.checked_word op)) }
+{
+    text.append(b"checked")?;
+    text.append(binary(op))
 }
 
-/// The word for an operation: its name, and that of its operator where it has one.
-pub fn word(op: &RowOp) -> &'static [u8] {
+/// The word for an operation: its name, or that of its operator.
+pub fn put_word(text: &mut Text, op: &RowOp) -> Result<(), NoMem>
+    ensures { OnOk result (text.new ≡ text.old ++ spec.word op.now) }
+{
     match op {
-        RowOp::Word(_) => b"word".as_slice(),
-        RowOp::Str(_) => b"str".as_slice(),
-        RowOp::Bool(_) => b"bool".as_slice(),
-        RowOp::None => b"none".as_slice(),
-        RowOp::Constant(_) => b"constant".as_slice(),
-        RowOp::Copy => b"copy".as_slice(),
-        RowOp::Unary(op) => unary(*op),
-        RowOp::Binary(op, _) => binary(*op),
-        RowOp::AddTo => b"addto".as_slice(),
-        RowOp::CheckedNeg => b"checkedneg".as_slice(),
-        RowOp::Checked(op) => checked(*op),
-        RowOp::Compare(op) => compare(*op),
-        RowOp::Not => b"not".as_slice(),
-        RowOp::Truth => b"truth".as_slice(),
-        RowOp::Intmask => b"intmask".as_slice(),
-        RowOp::Min => b"min".as_slice(),
-        RowOp::Max => b"max".as_slice(),
-        RowOp::Len => b"len".as_slice(),
-        RowOp::Ord => b"ord".as_slice(),
-        RowOp::Chr => b"chr".as_slice(),
-        RowOp::ToStr => b"tostr".as_slice(),
-        RowOp::ToInt => b"toint".as_slice(),
-        RowOp::Write => b"write".as_slice(),
-        RowOp::IsInstance(_) => b"isinstance".as_slice(),
-        RowOp::Index(_) => b"index".as_slice(),
-        RowOp::StoreIndex => b"storeindex".as_slice(),
-        RowOp::DeleteIndex => b"deleteindex".as_slice(),
-        RowOp::Attr(_) => b"attr".as_slice(),
-        RowOp::StoreAttr(_) => b"storeattr".as_slice(),
-        _ => further(op),
+        RowOp::Word(_) => text.append(b"word"),
+        RowOp::Str(_) => text.append(b"str"),
+        RowOp::Bool(_) => text.append(b"bool"),
+        RowOp::None => text.append(b"none"),
+        RowOp::Constant(_) => text.append(b"constant"),
+        RowOp::Copy => text.append(b"copy"),
+        RowOp::Unary(op) => text.append(unary(*op)),
+        RowOp::Binary(op, _) => text.append(binary(*op)),
+        RowOp::AddTo => text.append(b"addto"),
+        RowOp::CheckedNeg => text.append(b"checkedneg"),
+        RowOp::Checked(op) => put_checked(text, *op),
+        RowOp::Compare(op) => text.append(compare(*op)),
+        RowOp::Not => text.append(b"not"),
+        RowOp::Truth => text.append(b"truth"),
+        RowOp::Intmask => text.append(b"intmask"),
+        RowOp::Min => text.append(b"min"),
+        RowOp::Max => text.append(b"max"),
+        RowOp::Len => text.append(b"len"),
+        RowOp::Ord => text.append(b"ord"),
+        RowOp::Chr => text.append(b"chr"),
+        RowOp::ToStr => text.append(b"tostr"),
+        RowOp::ToInt => text.append(b"toint"),
+        RowOp::Write => text.append(b"write"),
+        RowOp::IsInstance(_) => text.append(b"isinstance"),
+        RowOp::Index(_) => text.append(b"index"),
+        RowOp::StoreIndex => text.append(b"storeindex"),
+        RowOp::DeleteIndex => text.append(b"deleteindex"),
+        RowOp::Attr(_) => text.append(b"attr"),
+        RowOp::StoreAttr(_) => text.append(b"storeattr"),
+        RowOp::Slice(_, _, _) => text.append(b"slice"),
+        RowOp::AllButLast(_) => text.append(b"allbutlast"),
+        RowOp::Tuple => text.append(b"tuple"),
+        RowOp::List(_) => text.append(b"list"),
+        RowOp::Dict(_) => text.append(b"dict"),
+        RowOp::Comprehension(_) => text.append(b"comprehension"),
+        RowOp::AddItem => text.append(b"additem"),
+        RowOp::Call(_) => text.append(b"call"),
+        RowOp::CallOf(_, _) => text.append(b"callof"),
+        RowOp::CallValue => text.append(b"callvalue"),
+        RowOp::New(_) => text.append(b"new"),
+        RowOp::Method(_, _) => text.append(b"method"),
+        RowOp::Raise => text.append(b"raise"),
+        RowOp::Print => text.append(b"print"),
+        RowOp::Walk(_) => text.append(b"walk"),
+        RowOp::HasItem(_) => text.append(b"hasitem"),
+        RowOp::Item(_) => text.append(b"item"),
+        RowOp::Advance(_) => text.append(b"advance"),
+        RowOp::Turn => text.append(b"turn"),
+        RowOp::Unpack(_, _) => text.append(b"unpack"),
+        RowOp::DropNone => text.append(b"dropnone"),
+        RowOp::OnlyNone => text.append(b"onlynone"),
+        RowOp::FalseNone => text.append(b"falsenone"),
+        RowOp::Lower(_) => text.append(b"lower"),
+        RowOp::NonNegative => text.append(b"nonnegative"),
     }
 }

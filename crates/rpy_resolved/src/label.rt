@@ -1,6 +1,10 @@
 // The names of functions and classes, with those of their modules before them.
+ghost use Rattle.std.specs.Prelude.{◌≡◌, ◌++◌, ◌∷◌, [], IfOk, OnOk};
+ghost use Rattle.std.specs.List.{flat_map};
+ghost use Rattle.rpy_resolved.specs.Label as spec;
+
 use rpy_base::{NoMem, Seq, Text};
-use rpy_tree::{Member, Program};
+use rpy_tree::{Member, Module, Program};
 use std::alloc::Global;
 
 /// By their numbers the names of the functions, `MODULE.F` or `MODULE.CLASS.F`, and those of the
@@ -11,87 +15,195 @@ pub struct Labels {
     pub classes: Seq<Text>,
 }
 
-// The names of the builtin exception classes, in the order of their numbers.
-fn builtin_names() -> &'static [u8] {
-    b"Exception StandardError ArithmeticError OverflowError ZeroDivisionError LookupError IndexError KeyError ValueError AttributeError AssertionError RuntimeError NotImplementedError ".as_slice()
-}
-
-fn under(alloc: Global, before: &Text, name: &Text) -> Result<Text, NoMem> {
+fn under(alloc: Global, before: &Text, name: &Text) -> Result<Text, NoMem>
+    ensures { IfOk result (λ text. text ≡ spec.under before.now name.now) }
+{
     let mut text = before.copy(alloc)?;
-    text.push(b'.')?;
+    text.append(b".")?;
     text.append(name.bytes())?;
     Ok(text)
 }
 
-fn builtin_classes(alloc: Global) -> Result<Seq<Text>, NoMem> {
-    let mut names = Seq::new(alloc);
-    let mut word = Text::new(alloc);
-    for byte in builtin_names() {
-        if *byte == b' ' {
-            names.push(word.copy(alloc)?)?;
-            word = Text::new(alloc);
-        } else {
-            word.push(*byte)?;
-        }
-    }
-    Ok(names)
+// One more name, after that before it.
+fn push_under(
+    alloc: Global,
+    before: &Text,
+    name: &Text,
+    labels: &mut Seq<Text>,
+) -> Result<(), NoMem>
+    ensures { OnOk result (labels.new ≡ labels.old ++ spec.under before.now name.now ∷ []) }
+{
+    let label = under(alloc, before, name)?;
+    labels.push(label)
 }
 
-impl Labels {
-    fn add_method(&mut self, alloc: Global, class: &Text, member: &Member) -> Result<(), NoMem> {
-        match member {
-            Member::Def(f) => self.functions.push(under(alloc, class, &f.name)?),
-            _ => Ok(()),
-        }
+fn push_method(
+    alloc: Global,
+    class: &Text,
+    member: &Member,
+    labels: &mut Seq<Text>,
+) -> Result<(), NoMem>
+    ensures { OnOk result (labels.new ≡ labels.old ++ spec.method_label class.now member.now) }
+{
+    match member {
+        Member::Def(f) => push_under(alloc, class, &f.name, labels),
+        _ => Ok(()),
     }
+}
 
-    fn add_methods(
-        &mut self,
-        alloc: Global,
-        class: &Text,
-        members: &[Member],
-    ) -> Result<(), NoMem> {
-        for member in members {
-            self.add_method(alloc, class, member)?;
-        }
-        Ok(())
+fn push_methods(
+    alloc: Global,
+    class: &Text,
+    members: &[Member],
+    labels: &mut Seq<Text>,
+) -> Result<(), NoMem>
+    ensures { OnOk result (labels.new ≡ labels.old ++ flat_map (spec.method_label class.now) members.now) }
+{
+    for member in members {
+        push_method(alloc, class, member, labels)?;
     }
+    Ok(())
+}
 
-    fn add_member(&mut self, alloc: Global, module: &Text, member: &Member) -> Result<(), NoMem> {
-        match member {
-            Member::Def(f) => self.functions.push(under(alloc, module, &f.name)?),
-            Member::Class(class) => {
-                let name = under(alloc, module, &class.name)?;
-                self.add_methods(alloc, &name, class.members.as_slice())?;
-                self.classes.push(name)
+// The functions of a module's member.
+fn push_functions(
+    alloc: Global,
+    file: &Text,
+    member: &Member,
+    labels: &mut Seq<Text>,
+) -> Result<(), NoMem>
+    ensures { OnOk result (labels.new ≡ labels.old ++ spec.member_functions file.now member.now) }
+{
+    match member {
+        Member::Def(f) => push_under(alloc, file, &f.name, labels),
+        Member::Class(class) => {
+            let name = under(alloc, file, &class.name)?;
+            push_methods(alloc, &name, class.members.as_slice(), labels)
+        }
+        _ => Ok(()),
+    }
+}
+
+fn push_all_functions(
+    alloc: Global,
+    file: &Text,
+    members: &[Member],
+    labels: &mut Seq<Text>,
+) -> Result<(), NoMem>
+    ensures { OnOk result (labels.new ≡ labels.old ++ flat_map (spec.member_functions file.now) members.now) }
+{
+    for member in members {
+        push_functions(alloc, file, member, labels)?;
+    }
+    Ok(())
+}
+
+fn push_class(
+    alloc: Global,
+    file: &Text,
+    member: &Member,
+    labels: &mut Seq<Text>,
+) -> Result<(), NoMem>
+    ensures { OnOk result (labels.new ≡ labels.old ++ spec.member_class file.now member.now) }
+{
+    match member {
+        Member::Class(class) => push_under(alloc, file, &class.name, labels),
+        _ => Ok(()),
+    }
+}
+
+fn push_classes(
+    alloc: Global,
+    file: &Text,
+    members: &[Member],
+    labels: &mut Seq<Text>,
+) -> Result<(), NoMem>
+    ensures { OnOk result (labels.new ≡ labels.old ++ flat_map (spec.member_class file.now) members.now) }
+{
+    for member in members {
+        push_class(alloc, file, member, labels)?;
+    }
+    Ok(())
+}
+
+fn functions_of(
+    alloc: Global,
+    names: &[Text],
+    modules: &[Module],
+    labels: &mut Seq<Text>,
+) -> Result<(), NoMem>
+    ensures { OnOk result (labels.new ≡ labels.old ++ spec.of_modules spec.member_functions names.now modules.now) }
+{
+    match names {
+        [] => Ok(()),
+        [name, names @ ..] => match modules {
+            [] => Ok(()),
+            [module, modules @ ..] => {
+                push_all_functions(alloc, name, module.members.as_slice(), labels)?;
+                functions_of(alloc, names, modules, labels)
             }
-            _ => Ok(()),
-        }
+        },
     }
+}
 
-    fn add_members(
-        &mut self,
-        alloc: Global,
-        module: &Text,
-        members: &[Member],
-    ) -> Result<(), NoMem> {
-        for member in members {
-            self.add_member(alloc, module, member)?;
-        }
-        Ok(())
+fn classes_of(
+    alloc: Global,
+    names: &[Text],
+    modules: &[Module],
+    labels: &mut Seq<Text>,
+) -> Result<(), NoMem>
+    ensures { OnOk result (labels.new ≡ labels.old ++ spec.of_modules spec.member_class names.now modules.now) }
+{
+    match names {
+        [] => Ok(()),
+        [name, names @ ..] => match modules {
+            [] => Ok(()),
+            [module, modules @ ..] => {
+                push_classes(alloc, name, module.members.as_slice(), labels)?;
+                classes_of(alloc, names, modules, labels)
+            }
+        },
     }
+}
+
+fn push_name(alloc: Global, name: &[u8], labels: &mut Seq<Text>) -> Result<(), NoMem>
+    ensures { OnOk result (labels.new ≡ labels.old ++ name.now ∷ []) }
+{
+    let name = Text::from_bytes(alloc, name)?;
+    labels.push(name)
+}
+
+// The builtin exception classes, in the order of their numbers.
+fn builtin_classes(alloc: Global) -> Result<Seq<Text>, NoMem>
+    ensures { IfOk result (λ labels. labels ≡ spec.builtin_classes) }
+{
+    let mut labels = Seq::new(alloc);
+    push_name(alloc, b"Exception", &mut labels)?;
+    push_name(alloc, b"StandardError", &mut labels)?;
+    push_name(alloc, b"ArithmeticError", &mut labels)?;
+    push_name(alloc, b"OverflowError", &mut labels)?;
+    push_name(alloc, b"ZeroDivisionError", &mut labels)?;
+    push_name(alloc, b"LookupError", &mut labels)?;
+    push_name(alloc, b"IndexError", &mut labels)?;
+    push_name(alloc, b"KeyError", &mut labels)?;
+    push_name(alloc, b"ValueError", &mut labels)?;
+    push_name(alloc, b"AttributeError", &mut labels)?;
+    push_name(alloc, b"AssertionError", &mut labels)?;
+    push_name(alloc, b"RuntimeError", &mut labels)?;
+    push_name(alloc, b"NotImplementedError", &mut labels)?;
+    Ok(labels)
 }
 
 /// The names of a program's functions and classes.
-pub fn labels_of(alloc: Global, program: &Program) -> Result<Labels, NoMem> {
-    let mut labels = Labels {
-        functions: Seq::new(alloc),
-        classes: builtin_classes(alloc)?,
-    };
-    for (place, module) in program.modules.as_slice().iter().enumerate() {
-        if let Some(name) = program.names.get(place) {
-            labels.add_members(alloc, name, module.members.as_slice())?;
-        }
-    }
-    Ok(labels)
+pub fn labels_of(alloc: Global, program: &Program) -> Result<Labels, NoMem>
+    ensures functions { IfOk result (λ labels. labels.functions ≡ spec.function_labels program.now) }
+    ensures classes { IfOk result (λ labels. labels.classes ≡ spec.class_labels program.now) }
+{
+    let names = program.names.as_slice();
+    let modules = program.modules.as_slice();
+    let mut functions = Seq::new(alloc);
+    functions_of(alloc, names, modules, &mut functions)?;
+    let mut classes = builtin_classes(alloc)?;
+    classes_of(alloc, names, modules, &mut classes)?;
+    Ok(Labels { functions, classes })
 }

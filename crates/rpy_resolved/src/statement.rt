@@ -3,8 +3,8 @@ use crate::expression::{
     node_of, one_of, resolve_expr, resolve_subject, resolve_target, resolve_targets,
 };
 use crate::names::{Names, leaf};
-use crate::tree::{Clause, Expr, Stmt};
-use rpy_base::{NoMem, Seq};
+use crate::tree::{Clause, Expr, Stmt, Subject, Target};
+use rpy_base::{NoMem, Own, Seq};
 use rpy_meaning::RowOp;
 use rpy_tree as syntax;
 use rpy_tree::{BinOp, ClassId, ClauseInfo, NodeId};
@@ -168,6 +168,26 @@ fn do_of(alloc: Global, names: &Names<'_>, n: NodeId, e: &syntax::Expr) -> Resul
     Ok(Stmt::Do(names.node(n), e))
 }
 
+fn own_target(
+    alloc: Global,
+    names: &Names<'_>,
+    target: &syntax::Target,
+) -> Result<Own<Target>, NoMem> {
+    let target = resolve_target(alloc, names, target)?;
+    Own::new(alloc, target)
+}
+
+// What a loop at this node walks.
+fn own_subject(
+    alloc: Global,
+    names: &Names<'_>,
+    n: NodeId,
+    over: &syntax::Expr,
+) -> Result<Own<Subject>, NoMem> {
+    let subject = resolve_subject(alloc, names, names.walk(n), over)?;
+    Own::new(alloc, subject)
+}
+
 // A statement without blocks of its own.
 fn simple(alloc: Global, names: &Names<'_>, s: &syntax::Stmt) -> Result<Stmt, NoMem> {
     match s {
@@ -261,8 +281,8 @@ fn resolve_for(
     over: &syntax::Expr,
     body: &[syntax::Stmt],
 ) -> Result<Stmt, NoMem> {
-    let target = resolve_target(alloc, names, target)?;
-    let subject = resolve_subject(alloc, names, names.walk(n), over)?;
+    let target = own_target(alloc, names, target)?;
+    let subject = own_subject(alloc, names, n, over)?;
     let body = resolve_block(alloc, names, body)?;
     Ok(Stmt::For(names.node(n), target, subject, body))
 }

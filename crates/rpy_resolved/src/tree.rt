@@ -55,7 +55,7 @@ pub enum Stmt {
     Augment(NodeId, Target, RowOp, Expr),
     If(NodeId, Expr, Seq<Stmt>, Seq<Stmt>),
     While(NodeId, Expr, Seq<Stmt>),
-    For(NodeId, Target, Subject, Seq<Stmt>),
+    For(NodeId, Own<Target>, Own<Subject>, Seq<Stmt>),
     /// The body, the clauses, and what follows a body without exception.
     Try(NodeId, Seq<Stmt>, Seq<Clause>, Seq<Stmt>),
     Finally(NodeId, Seq<Stmt>, Seq<Stmt>),

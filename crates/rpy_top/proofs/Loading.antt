@@ -4,10 +4,11 @@ use Rattle.std.specs.Prelude.{slice_get, nat_lt, nat_le, IfSome}
 use Rattle.std.proofs.lemmas.Bool.Decides.{nat_tests}
 use Rattle.rpy_base.specs.Reading.{Disk}
 use Rattle.rpy_front.specs.Modules.{are_short}
-use Rattle.rpy_top.specs.Answer.{Filed, filed, Sunk, AllRead, AreBytes, AreFirst, OfSources, Translates, PutEnds, BuildsTo, StopsAt, StopsAtNext, StopsLoading, limit}
+use Rattle.rpy_top.specs.Answer.{Filed, filed, Sunk, AllRead, AreBytes, AreFirst, OfSources, Writes, PutEnds, BuildsTo, StopsAt, StopsAtNext, StopsLoading, limit}
 use Rattle.rpy_top.proofs.Rules.{and_both}
 use Rattle.rpy_top.specs.declared.building.BuildWork.{BuildWork}
 use Rattle.rpy_top.specs.declared.building.BuildWork.TheVariants.{Ended, AtFile, Refused, Misnamed}
+use Rattle.rpy_top.specs.declared.job.Task.{Task}
 use Rattle.rpy_top.specs.declared.status.Status.{Status}
 use Rattle.rpy_top.specs.declared.status.Status.TheVariants as status
 
@@ -71,7 +72,7 @@ shorts files (n ∷ names) (b ∷ sources) first = and_both _ _ (le_true (length
 
 -- ---- the text is put, or not
 
-pub put_fails : (names : List (List ℕ)) (files : Filed) (text : List ℕ) (out : Sunk) (s : Status) → OfSources (λ sources modules. Translates sources modules text) names files → AllRead files → PutEnds (Err s) text out → BuildsTo (Ended s) names files out
-put_fails names files text out status.WriteFault of read ends = ((of.0, of.1, (text, of.2, ends)), read)
-put_fails names files text out status.NoMem of read ends = (read, ends)
-put_fails names files text out s of read ends = absurd ends
+pub put_fails : (task : Task) (names : List (List ℕ)) (files : Filed) (text : List ℕ) (out : Sunk) (s : Status) → OfSources (λ sources modules. Writes task sources modules text) names files → AllRead files → PutEnds (Err s) text out → BuildsTo task (Ended s) names files out
+put_fails task names files text out status.WriteFault of read ends = ((of.0, of.1, (text, of.2, ends)), read)
+put_fails task names files text out status.NoMem of read ends = (read, ends)
+put_fails task names files text out s of read ends = absurd ends

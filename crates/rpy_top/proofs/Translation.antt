@@ -18,7 +18,9 @@ use Rattle.rpy_first.specs.declared.fault.TranslateFault.TheVariants.{Source, Na
 use Rattle.rpy_first.specs.Gives.{Gives}
 use Rattle.rpy_names.specs.Resolve.{prog}
 use Rattle.rpy_tree.specs.declared.program.Program.{Program}
-use Rattle.rpy_top.specs.Answer.{TranslatesBody, Sunk, Says, SaysLine, text_of, only_body, TranslatesModules, TranslatesTo}
+use Rattle.rpy_top.specs.Answer.{TranslatesBody, Sunk, Says, SaysLine, text_of, only_body, TranslatesModules, DrawsModules, WritesModules, WritesTo}
+use Rattle.rpy_top.specs.declared.job.Task.{Task}
+use Rattle.rpy_top.specs.declared.job.Task.TheVariants.{Build, Flow}
 use Rattle.rpy_top.specs.declared.status.Status.{Status}
 use Rattle.rpy_first.specs.declared.body.Body.{Body}
 use Rattle.rpy_top.proofs.Abstract.{and_left, and_right, eq_of}
@@ -72,12 +74,17 @@ built_only name (m ∷ []) body text named is_path is = built name m.module body
 built_only name (m ∷ n ∷ ms) body text named is_path is = absurd (none_some body is_path)
 
 -- what becomes of sources is what becomes of their modules
-pub translated : (sources names : List (List ℕ)) (ms : List Named) (r : Result (List ℕ) TranslateFault) → AreModules sources names ms → TranslatesModules ms r → TranslatesTo sources names r
-translated sources names ms (Ok text) are t = record { modules = ms; make = record { are = are; program = t.0.0; is = t.0.1 }; body = t.1.0; is = t.1.1; built = t.1.2 }
-translated sources names ms (Err (Source file line kind)) are t = absurd t
-translated sources names ms (Err (Name file line kind)) are t = record { modules = ms; are = are; misnamed = t }
-translated sources names ms (Err NotYet) are t = record { modules = ms; make = record { are = are; program = t.0.0; is = t.0.1 }; is_none = t.1 }
-translated sources names ms (Err NoMem) are t = tt
+pub written : (task : Task) (sources names : List (List ℕ)) (ms : List Named) (r : Result (List ℕ) TranslateFault) → AreModules sources names ms → WritesModules task ms r → WritesTo task sources names r
+written Build sources names ms (Ok text) are t = record { modules = ms; make = record { are = are; program = t.0.0; is = t.0.1 }; body = t.1.0; is = t.1.1; built = t.1.2 }
+written Build sources names ms (Err (Source file line kind)) are t = absurd t
+written Build sources names ms (Err (Name file line kind)) are t = record { modules = ms; are = are; misnamed = t }
+written Build sources names ms (Err NotYet) are t = record { modules = ms; make = record { are = are; program = t.0.0; is = t.0.1 }; is_none = t.1 }
+written Build sources names ms (Err NoMem) are t = tt
+written Flow sources names ms (Ok text) are t = record { modules = ms; make = record { are = are; program = t.0; is = t.1 }; draws = t.2 }
+written Flow sources names ms (Err (Source file line kind)) are t = absurd t
+written Flow sources names ms (Err (Name file line kind)) are t = record { modules = ms; are = are; misnamed = t }
+written Flow sources names ms (Err NotYet) are t = absurd t
+written Flow sources names ms (Err NoMem) are t = tt
 
 pub module_named : (name : List ℕ) → is_module_name name ≡ true → is_name name ≡ true
 module_named name h = and_left (is_name name) _ (and_left (is_name name && not (is_keyword name)) _ h)

@@ -19,7 +19,13 @@ use Rattle.rpy_front.specs.Names.{IsMisnamed, name_refusal}
 use Rattle.rpy_tree.specs.declared.program.Program.{Program}
 use Rattle.rpy_top.specs.declared.building.BuildWork.{BuildWork}
 use Rattle.rpy_top.specs.declared.building.BuildWork.TheVariants.{Ended, AtFile, Refused as RefusedAt, Misnamed}
-use Rattle.rpy_top.specs.Command.{Brought, Building, Running as RunningFile, NotThere, module_name}
+use Rattle.rpy_top.specs.Command.{Brought, Writing, Running as RunningFile, NotThere, module_name}
+use Rattle.rpy_top.specs.declared.job.Task.{Task}
+use Rattle.rpy_top.specs.declared.job.Task.TheVariants.{Build, Flow}
+use Rattle.rpy_resolved.specs.Label.{class_labels, function_labels}
+use Rattle.flow_graph.specs.GraphText.{graphs_text}
+use Rattle.flow_graph.specs.Whole.{Covers}
+use Rattle.flow_graph.specs.declared.graph.Graphs.{Graphs}
 use Rattle.rpy_first.specs.declared.body.Body.{Body}
 use Rattle.rpy_top.specs.declared.status.Status.{Status}
 use Rattle.rpy_top.specs.declared.status.Status.TheVariants.{Done, Usage, NotSource, NotProgram, TooMany, NotC, Stuck, NoFile, NotRead, WriteFault, Raised, Failed, Running, NoMem, WorkSpent, TooLong, NotYet}
@@ -136,6 +142,23 @@ pub record Translates (sources names : List (List ℕ)) (text : List ℕ) : Type
   pub is : only_body modules ≡ Some body
   pub built : Built (program_of body) text
 
+-- the text is that of graphs of the program's functions, one for each in their order
+pub record DrawsProgram (program : Program) (text : List ℕ) : Type 0 where
+  pub graphs : Graphs
+  pub covers : Covers program graphs
+  pub is : text ≡ graphs_text (function_labels program) (class_labels program) graphs
+
+-- and the program is what the sources are
+pub record Draws (sources names : List (List ℕ)) (text : List ℕ) : Type 0 where
+  pub modules : List Named
+  pub make : AreProgram sources names modules
+  pub draws : DrawsProgram make.program text
+
+-- what is written of the program that the sources are
+abbrev pub Writes : Task → List (List ℕ) → List (List ℕ) → List ℕ → Type 0
+Writes Build sources names text = Translates sources names text
+Writes Flow sources names text = Draws sources names text
+
 -- the sources are a program, which is not of one module of the first path
 pub record IsNotYet (sources names : List (List ℕ)) : Type 0 where
   pub modules : List Named
@@ -166,13 +189,30 @@ TranslatesModules ms (Err (NoProgram file line kind)) = IsMisnamed ms file line 
 TranslatesModules ms (Err Unready) = ((p : Program) × (prog ms ≡ Some p)) × (only_body ms ≡ None)
 TranslatesModules ms (Err NoMemory) = Unit {0}
 
--- what a call that translates sources answers
-abbrev pub TranslatesTo : List (List ℕ) → List (List ℕ) → Result (List ℕ) TranslateFault → Type 0
-TranslatesTo sources names (Ok text) = Translates sources names text
-TranslatesTo sources names (Err (Refused file line kind)) = IsRefusedAt sources names file line kind
-TranslatesTo sources names (Err (NoProgram file line kind)) = AreNoProgram sources names file line kind
-TranslatesTo sources names (Err Unready) = IsNotYet sources names
-TranslatesTo sources names (Err NoMemory) = Unit {0}
+-- what a call that draws the graphs of modules answers
+abbrev pub DrawsModules : List Named → Result (List ℕ) TranslateFault → Type 0
+DrawsModules ms (Ok text) = (p : Program) × (prog ms ≡ Some p) × DrawsProgram p text
+DrawsModules ms (Err (Refused file line kind)) = ⊥
+DrawsModules ms (Err (NoProgram file line kind)) = IsMisnamed ms file line kind
+DrawsModules ms (Err Unready) = ⊥
+DrawsModules ms (Err NoMemory) = Unit {0}
+
+abbrev pub WritesModules : Task → List Named → Result (List ℕ) TranslateFault → Type 0
+WritesModules Build ms result = TranslatesModules ms result
+WritesModules Flow ms result = DrawsModules ms result
+
+-- the sources are a program of which this is not written yet
+abbrev pub IsLeft : Task → List (List ℕ) → List (List ℕ) → Type 0
+IsLeft Build sources names = IsNotYet sources names
+IsLeft Flow sources names = ⊥
+
+-- what a call answers that writes this of the program that sources are
+abbrev pub WritesTo : Task → List (List ℕ) → List (List ℕ) → Result (List ℕ) TranslateFault → Type 0
+WritesTo task sources names (Ok text) = Writes task sources names text
+WritesTo task sources names (Err (Refused file line kind)) = IsRefusedAt sources names file line kind
+WritesTo task sources names (Err (NoProgram file line kind)) = AreNoProgram sources names file line kind
+WritesTo task sources names (Err Unready) = IsLeft task sources names
+WritesTo task sources names (Err NoMemory) = Unit {0}
 
 -- ---- the work
 
@@ -189,31 +229,31 @@ StopsLoading (Ended NoMem) names files = AllRead files
 StopsLoading work names files = ⊥
 
 -- when the work on files ends in each way
-abbrev pub BuildsTo : BuildWork → List (List ℕ) → Filed → Sunk → Type 0
-BuildsTo (Ended Done) names files out = OfSources (λ sources modules. (text : List ℕ) × Translates sources modules text × Took out text) names files × AllRead files
-BuildsTo (Ended WriteFault) names files out = OfSources (λ sources modules. (text : List ℕ) × Translates sources modules text × TookPart out text) names files × AllRead files
-BuildsTo (Ended NoMem) names files out = StopsLoading (Ended NoMem) names files × IsQuiet out
-BuildsTo (Ended status) names files out = ⊥
-BuildsTo (AtFile file NotYet) names files out = (file ≡ 0) × OfSources IsNotYet names files × IsQuiet out × AllRead files
-BuildsTo (AtFile file status) names files out = StopsLoading (AtFile file status) names files × IsQuiet out
-BuildsTo (RefusedAt file line kind) names files out = OfSources (λ sources modules. IsRefusedAt sources modules file line kind) names files × IsQuiet out × AllRead files
-BuildsTo (Misnamed file line kind) names files out = OfSources (λ sources modules. AreNoProgram sources modules file line kind) names files × IsQuiet out × AllRead files
+abbrev pub BuildsTo : Task → BuildWork → List (List ℕ) → Filed → Sunk → Type 0
+BuildsTo task (Ended Done) names files out = OfSources (λ sources modules. (text : List ℕ) × Writes task sources modules text × Took out text) names files × AllRead files
+BuildsTo task (Ended WriteFault) names files out = OfSources (λ sources modules. (text : List ℕ) × Writes task sources modules text × TookPart out text) names files × AllRead files
+BuildsTo task (Ended NoMem) names files out = StopsLoading (Ended NoMem) names files × IsQuiet out
+BuildsTo task (Ended status) names files out = ⊥
+BuildsTo task (AtFile file NotYet) names files out = (file ≡ 0) × OfSources (IsLeft task) names files × IsQuiet out × AllRead files
+BuildsTo task (AtFile file status) names files out = StopsLoading (AtFile file status) names files × IsQuiet out
+BuildsTo task (RefusedAt file line kind) names files out = OfSources (λ sources modules. IsRefusedAt sources modules file line kind) names files × IsQuiet out × AllRead files
+BuildsTo task (Misnamed file line kind) names files out = OfSources (λ sources modules. AreNoProgram sources modules file line kind) names files × IsQuiet out × AllRead files
 
--- at most 64 files are built
-abbrev pub Builds : Bool → BuildWork → List (List ℕ) → Filed → Sunk → Type 0
-Builds true work names files out = BuildsTo work names files out
-Builds false work names files out = (work ≡ Ended TooMany) × IsQuiet out × AllRead files
+-- at most 64 files make a program
+abbrev pub Builds : Task → Bool → BuildWork → List (List ℕ) → Filed → Sunk → Type 0
+Builds task true work names files out = BuildsTo task work names files out
+Builds task false work names files out = (work ≡ Ended TooMany) × IsQuiet out × AllRead files
 
 -- when the work of a call ends in each way
 abbrev pub Works : BuildWork → Brought → Filed → Sunk → Type 0
 Works work NotThere files out = (work ≡ Ended Usage) × IsQuiet out × AllRead files
-Works work (Building names) files out = Builds (nat_le (length names) 64) work names files out
+Works work (Writing task names) files out = Builds task (nat_le (length names) 64) work names files out
 Works work (RunningFile file words) files out = ⊥
 
 -- the files that the words name
 abbrev pub files_of : Brought → List (List ℕ)
 files_of NotThere = []
-files_of (Building names) = names
+files_of (Writing task names) = names
 files_of (RunningFile file words) = file ∷ []
 
 -- the file at a place
@@ -295,9 +335,9 @@ untranslated (NoProgram file line kind) = Misnamed file line kind
 untranslated Unready = AtFile 0 NotYet
 untranslated NoMemory = Ended NoMem
 
-abbrev pub TranslatesFiles : List (List ℕ) → List (List ℕ) → Result (List ℕ) BuildWork → Type 0
-TranslatesFiles sources names (Ok text) = Translates sources (map module_name names) text
-TranslatesFiles sources names (Err work) = (work ≡ Ended NoMem) ⊎ ((fault : TranslateFault) × (work ≡ untranslated fault) × TranslatesTo sources (map module_name names) (Err fault))
+abbrev pub WritesFiles : Task → List (List ℕ) → List (List ℕ) → Result (List ℕ) BuildWork → Type 0
+WritesFiles task sources names (Ok text) = Writes task sources (map module_name names) text
+WritesFiles task sources names (Err work) = (work ≡ Ended NoMem) ⊎ ((fault : TranslateFault) × (work ≡ untranslated fault) × WritesTo task sources (map module_name names) (Err fault))
 
 -- a line is said, if there was memory for it
 abbrev pub SaysLine : {N : Type 0} → Status → Status → Result (List ℕ) N → Sunk → Type 0

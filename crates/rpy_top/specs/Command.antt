@@ -8,7 +8,9 @@ use Rattle.rpy_top.specs.declared.words.RunWords.{RunWords}
 use Rattle.rpy_top.specs.declared.words.RunAsked.{RunAsked}
 use Rattle.rpy_top.specs.declared.words.Opted.{Opted as CodeOpted}
 use Rattle.rpy_top.specs.declared.job.Job.{Job}
-use Rattle.rpy_top.specs.declared.job.Job.TheVariants.{Build as JobBuild, CRun as JobCRun, Nothing as NoJob}
+use Rattle.rpy_top.specs.declared.job.Job.TheVariants.{Write as JobWrite, CRun as JobCRun, Nothing as NoJob}
+use Rattle.rpy_top.specs.declared.job.Task.{Task}
+use Rattle.rpy_top.specs.declared.job.Task.TheVariants as task
 use Rattle.rpy_top.specs.declared.words.Options.{Options as CodeOptions}
 use Rattle.rpy_top.specs.declared.words.Options.TheVariants.{Read as OptionsRead, Bad as OptionsBad}
 use Rattle.rpy_top.specs.declared.words.RunOf.{RunOf}
@@ -277,7 +279,7 @@ RunIs RunBad what = what ≡ None
 -- ---- the commands that are there so far; other words are as words that fit no command
 
 pub data Brought : Type 0 where
-  Building : (files : List (List ℕ)) → Brought
+  Writing : (what : Task) → (files : List (List ℕ)) → Brought
   Running : (file : List ℕ) → (words : RunWords) → Brought
   NotThere : Brought
 
@@ -287,11 +289,12 @@ run_file (file ∷ []) words = Running file words
 run_file other words = NotThere
 
 abbrev pub brought : Option Command → Brought
-brought (Some (Build files)) = Building files
+brought (Some (Build files)) = Writing task.Build files
+brought (Some (Flow files)) = Writing task.Flow files
 brought (Some (CRun words)) = run_file words.files words
 brought other = NotThere
 
 abbrev pub JobIs : Job → Brought → Type 0
-JobIs (JobBuild files) what = (what ≡ Building files.now) × (are_sources files.now ≡ true)
+JobIs (JobWrite t files) what = (what ≡ Writing t files.now) × (are_sources files.now ≡ true)
 JobIs (JobCRun file asked) what = what ≡ Running file.now (words_of asked)
 JobIs NoJob what = what ≡ NotThere

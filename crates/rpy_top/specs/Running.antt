@@ -19,7 +19,7 @@ use Rattle.csub_runner.specs.declared.run.CRan.{CRan}
 use Rattle.csub_runner.specs.declared.run.RunFault.{RunFault}
 use Rattle.csub_runner.specs.declared.run.RunFault.TheVariants.{Stuck, WriteFault, WorkSpent, NoMem}
 use Rattle.rpy_top.specs.Answer.{Filed, Sunk, IsQuiet, AllRead, AreBytes, Loads, Says, Answers, c_limit, line}
-use Rattle.rpy_top.specs.Command.{Brought, Building, Running as RunningFile, NotThere}
+use Rattle.rpy_top.specs.Command.{Brought, Writing, Running as RunningFile, NotThere}
 use Rattle.rpy_top.specs.declared.words.RunWords.{RunWords}
 use Rattle.rpy_top.specs.declared.crun.CWork.{CWork}
 use Rattle.rpy_top.specs.declared.crun.CWork.TheVariants.{Unread, Refused, Starved, Ran}
@@ -158,11 +158,11 @@ AnswersRun answered file words files out err seen seen_now =
 -- the whole call, with the watchers before and after it
 abbrev pub AnswersCall : Status → Brought → Filed → Sunk → Sunk → List Seen → List Seen → Type 0
 AnswersCall answered (RunningFile file words) files out err seen seen_now = AnswersRun answered file words files out err seen seen_now
-AnswersCall answered (Building names) files out err seen seen_now = Answers answered (Building names) files out err
+AnswersCall answered (Writing task names) files out err seen seen_now = Answers answered (Writing task names) files out err
 AnswersCall answered NotThere files out err seen seen_now = Answers answered NotThere files out err
 
 -- watchers that only a run may change
 abbrev pub AreLeft : {W : Type 0} → Brought → List W → List W → Type 0
 AreLeft (RunningFile file words) old new = Unit {0}
-AreLeft (Building names) old new = new ≡ old
+AreLeft (Writing task names) old new = new ≡ old
 AreLeft NotThere old new = new ≡ old

@@ -1,12 +1,13 @@
-// The work of `build`: files to the C text of their program, or what stops it.
+// The work on files: what is written of their program, or what stops it.
 ghost use Rattle.std.specs.Prelude.{◌≡◌, ◌≤◌, ◌<◌, length, nat_le, true};
 ghost use Rattle.rpy_top.specs.Command.{are_sources};
 ghost use Rattle.rpy_front.specs.Modules.{are_short};
 ghost use Rattle.rpy_top.specs.Answer as spec;
-ghost use Rattle.rpy_top.specs.Answer.{sunk, filed, Builds, BuildsTo, LoadsNext, LoadsAll, TranslatesFiles, Said, SaysLine};
+ghost use Rattle.rpy_top.specs.Answer.{sunk, filed, Builds, BuildsTo, LoadsNext, LoadsAll, WritesFiles, Said, SaysLine};
 
 use crate::edge::{load, put, say, say_text};
-use crate::sources::{LIMIT, names_of, translate_sources};
+use crate::job::Task;
+use crate::sources::{LIMIT, names_of, write_sources};
 use crate::status::Status;
 use rpy_base::{Files, NoMem, Seq, Sink, Text};
 use rpy_first::{NameKind, SourceKind, TranslateFault, refusal};
@@ -87,27 +88,33 @@ fn untranslated(fault: TranslateFault) -> BuildWork
     }
 }
 
-// The C text of the program that sources are, which the names of their files name.
+// What is written of the program that sources are, which the names of their files name.
 #[tactic(auto, using(crate::proofs::Translation::sources_named, crate::proofs::Translation::some_sources))]
-fn translate_files(alloc: Global, files: &[Text], sources: &[Text]) -> Result<Text, BuildWork>
+fn write_files(
+    alloc: Global,
+    task: Task,
+    files: &[Text],
+    sources: &[Text],
+) -> Result<Text, BuildWork>
     requires named { are_sources files.now ≡ true }
     requires few { length files.now ≤ 64 }
     requires same { length sources.now ≡ length files.now }
     requires short { are_short sources.now ≡ true }
-    ensures { TranslatesFiles sources.now files.now result }
+    ensures { WritesFiles task sources.now files.now result }
 {
     let names = match names_of(alloc, files) {
         Ok(names) => names,
         Err(NoMem) => return Err(BuildWork::Ended(Status::NoMem)),
     };
-    match translate_sources(alloc, sources, &names) {
+    match write_sources(alloc, task, sources, &names) {
         Ok(text) => Ok(text),
         Err(fault) => Err(untranslated(fault)),
     }
 }
 
-fn build_few<F: Files, K: Sink>(
+fn write_few<F: Files, K: Sink>(
     alloc: Global,
+    task: Task,
     names: &[Text],
     files: &mut F,
     out: &mut K,
@@ -115,13 +122,13 @@ fn build_few<F: Files, K: Sink>(
     requires named { are_sources names.now ≡ true }
     requires few { length names.now ≤ 64 }
     ensures held { F.held files.new ≡ F.held files.old }
-    ensures builds { BuildsTo result names.now (filed F.held F.faults files.old files.new) (sunk K.faults K.taken out.old out.new) }
+    ensures builds { BuildsTo task result names.now (filed F.held F.faults files.old files.new) (sunk K.faults K.taken out.old out.new) }
 {
     let sources = match load_all(alloc, files, names) {
         Ok(sources) => sources,
         Err(work) => return work,
     };
-    match translate_files(alloc, names, sources.as_slice()) {
+    match write_files(alloc, task, names, sources.as_slice()) {
         Ok(text) => match put(out, text.bytes()) {
             Ok(()) => BuildWork::Ended(Status::Done),
             Err(status) => BuildWork::Ended(status),
@@ -131,18 +138,19 @@ fn build_few<F: Files, K: Sink>(
 }
 
 /// The work on files, of which there may be 64.
-pub fn build<F: Files, K: Sink>(
+pub fn write<F: Files, K: Sink>(
     alloc: Global,
+    task: Task,
     names: &[Text],
     files: &mut F,
     out: &mut K,
 ) -> BuildWork
     requires { are_sources names.now ≡ true }
     ensures held { F.held files.new ≡ F.held files.old }
-    ensures builds { Builds (nat_le (length names.now) 64) result names.now (filed F.held F.faults files.old files.new) (sunk K.faults K.taken out.old out.new) }
+    ensures builds { Builds task (nat_le (length names.now) 64) result names.now (filed F.held F.faults files.old files.new) (sunk K.faults K.taken out.old out.new) }
 {
     if names.len() <= MOST_FILES {
-        build_few(alloc, names, files, out)
+        write_few(alloc, task, names, files, out)
     } else {
         BuildWork::Ended(Status::TooMany)
     }

@@ -6,10 +6,17 @@ ghost use Rattle.rpy_top.specs.Command.{JobIs, brought, command};
 use crate::words::{Asked, RunAsked, what_words_ask};
 use rpy_base::Text;
 
+/// What is written of a program: its C text, or its flow graphs.
+#[derive(Clone, Copy)]
+pub enum Task {
+    Build,
+    Flow,
+}
+
 /// What there is to do for a command that is there.
 #[derive(Clone, Copy)]
 pub enum Job<'a> {
-    Build(&'a [Text]),
+    Write(Task, &'a [Text]),
     /// The C file, and the words of its run.
     CRun(&'a Text, RunAsked<'a>),
     Nothing,
@@ -29,10 +36,10 @@ pub fn job_of(words: &[Text]) -> Job<'_>
     ensures { JobIs result (brought (command words.now)) }
 {
     match what_words_ask(words) {
-        Asked::Build(files) => Job::Build(files),
+        Asked::Build(files) => Job::Write(Task::Build, files),
         Asked::Check(_) => Job::Nothing,
         Asked::Annotate(_) => Job::Nothing,
-        Asked::Flow(_) => Job::Nothing,
+        Asked::Flow(files) => Job::Write(Task::Flow, files),
         Asked::Run(_) => Job::Nothing,
         Asked::LlRun(_) => Job::Nothing,
         Asked::CRun(asked) => c_run_of(asked),

@@ -1,16 +1,20 @@
-// Sources to the C text of their program.
+// Sources to what is written of their program.
 ghost use Rattle.std.specs.Prelude.{◌≡◌, ◌≤◌, ◌<◌, ◌++◌, map, length, true, IfOk, codes};
 ghost use Rattle.rpy_front.specs.Modules.{are_short};
 ghost use Rattle.rpy_top.specs.Command.{are_module_names, is_name, are_sources, module_name};
-ghost use Rattle.rpy_top.specs.Answer.{OnlyBody, TranslatesBody, TranslatesModules, TranslatesTo, text_of};
+ghost use Rattle.rpy_top.specs.Answer.{OnlyBody, TranslatesBody, TranslatesModules, DrawsProgram, DrawsModules, WritesModules, WritesTo, text_of};
 
+use crate::job::Task;
 use crate::lower::lower;
 use crate::words::module_name;
+use flow_graph::graphs_text;
+use flow_space::flow;
 use genc_writer::write_c;
 use rpy_base::{NoMem, Seq, Text};
 use rpy_first::{Body, TranslateFault, first_path};
 use rpy_front::{read_modules, refused_name};
 use rpy_names::{Named, resolve};
+use rpy_tree::Program;
 use std::alloc::Global;
 
 /// How many bytes a source may have.
@@ -70,10 +74,45 @@ fn translate_modules(
     }
 }
 
-/// The C text of sources, each with its module's name.
-#[tactic(auto, using(crate::proofs::Translation::first_named, crate::proofs::Translation::translated))]
-pub fn translate_sources(
+// The text of a program's graphs.
+fn draw(alloc: Global, program: &Program) -> Result<Text, NoMem>
+    ensures { IfOk result (λ text. DrawsProgram program.now text) }
+{
+    let graphs = flow(alloc, program)?;
+    graphs_text(alloc, program, &graphs)
+}
+
+// The text of the graphs of modules.
+fn draw_modules(alloc: Global, modules: Seq<Named>) -> Result<Text, TranslateFault>
+    ensures { DrawsModules modules result }
+{
+    match resolve(alloc, modules) {
+        Ok(program) => Ok(draw(alloc, &program)?),
+        Err(refusal) => Err(refused_name(alloc, refusal.modules.as_slice(), refusal.fault)),
+    }
+}
+
+// What is written of modules, the first of which has this name.
+fn write_modules(
     alloc: Global,
+    task: Task,
+    name: &[u8],
+    modules: Seq<Named>,
+) -> Result<Text, TranslateFault>
+    requires { is_name name.now ≡ true }
+    ensures { WritesModules task modules result }
+{
+    match task {
+        Task::Build => translate_modules(alloc, name, modules),
+        Task::Flow => draw_modules(alloc, modules),
+    }
+}
+
+/// What is written of sources, each with its module's name.
+#[tactic(auto, using(crate::proofs::Translation::first_named, crate::proofs::Translation::written))]
+pub fn write_sources(
+    alloc: Global,
+    task: Task,
     sources: &[Text],
     names: &[Text],
 ) -> Result<Text, TranslateFault>
@@ -82,10 +121,10 @@ pub fn translate_sources(
     requires same { length names.now ≡ length sources.now }
     requires named { are_module_names names.now ≡ true }
     requires short { are_short sources.now ≡ true }
-    ensures { TranslatesTo sources.now names.now result }
+    ensures { WritesTo task sources.now names.now result }
 {
     let modules = read_modules(alloc, sources, names)?;
-    translate_modules(alloc, names[0].bytes(), modules)
+    write_modules(alloc, task, names[0].bytes(), modules)
 }
 
 /// The names of the modules that files are.

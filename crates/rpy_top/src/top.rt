@@ -2,34 +2,36 @@
 ghost use Rattle.std.specs.Prelude.{◌≡◌, ◌≤◌, ◌<◌, length, map, All, true};
 ghost use Rattle.rpy_base.specs.Watching.{Seen, IsFresh};
 ghost use Rattle.rpy_front.specs.Modules.{are_short};
-ghost use Rattle.rpy_top.specs.Command.{command, brought, Building, are_module_names, are_sources};
+ghost use Rattle.rpy_top.specs.Command.{command, brought, Writing, are_module_names, are_sources};
+ghost use Rattle.rpy_top.specs.declared.job.Task.TheVariants.{Build};
 ghost use Rattle.rpy_top.specs.declared.status.Status.{Status};
-ghost use Rattle.rpy_top.specs.Answer.{code, sunk, filed, Answers, TranslatesTo};
+ghost use Rattle.rpy_top.specs.Answer.{code, sunk, filed, Answers, WritesTo};
 ghost use Rattle.rpy_top.specs.Running.{AnswersCall, AreLeft};
 
-use crate::building::{BuildWork, build, say_work};
+use crate::building::{BuildWork, say_work, write};
 use crate::crun::crun;
-use crate::job::{Job, job_of};
-use crate::sources::translate_sources;
+use crate::job::{Job, Task, job_of};
+use crate::sources::write_sources;
 use crate::status::Status;
 use rpy_base::{Files, HeapWatch, Seq, Sink, Text};
 use rpy_first::TranslateFault;
 use std::alloc::Global;
 
-// Builds, and writes the line for it.
-fn build_and_say<F: Files, K: Sink, E: Sink>(
+// Writes what is asked of the program of files, and the line for it.
+fn write_and_say<F: Files, K: Sink, E: Sink>(
     alloc: Global,
+    task: Task,
     names: &[Text],
     files: &mut F,
     out: &mut K,
     err: &mut E,
 ) -> Status
     requires { are_sources names.now ≡ true }
-    ensures answers { Answers result (Building names.now) (filed F.held F.faults files.old files.new)
+    ensures answers { Answers result (Writing task names.now) (filed F.held F.faults files.old files.new)
         (sunk K.faults K.taken out.old out.new) (sunk E.faults E.taken err.old err.new) }
     ensures held { F.held files.new ≡ F.held files.old }
 {
-    let work = build(alloc, names, files, out);
+    let work = write(alloc, task, names, files, out);
     say_work(alloc, work, names, err)
 }
 
@@ -49,7 +51,7 @@ fn work<F: Files, K: Sink, E: Sink>(
     ensures watchers { AreLeft (brought (command words.now)) watch.old.items watch.new.items }
 {
     match job_of(words) {
-        Job::Build(names) => build_and_say(alloc, names, files, out, err),
+        Job::Write(task, names) => write_and_say(alloc, task, names, files, out, err),
         Job::CRun(file, asked) => crun(alloc, file, &asked, files, out, err, watch),
         Job::Nothing => say_work(alloc, BuildWork::Ended(Status::Usage), &[], err),
     }
@@ -88,7 +90,7 @@ pub fn translate(
     requires same { length names.now ≡ length sources.now }
     requires named { are_module_names names.now ≡ true }
     requires short { are_short sources.now ≡ true }
-    ensures { TranslatesTo sources.now names.now result }
+    ensures { WritesTo Build sources.now names.now result }
 {
-    translate_sources(alloc, sources.as_slice(), names.as_slice())
+    write_sources(alloc, Task::Build, sources.as_slice(), names.as_slice())
 }

@@ -1,4 +1,4 @@
-use Rattle.std.proofs.Common.{◌+◌, ◌*◌}
+use Rattle.std.proofs.Common.{◌+◌, ◌*◌, ◌≤◌, length}
 use Rattle.std.specs.Prelude.{sum_by}
 use Rattle.rpy_tree.specs.Size.{expr_nodes, stmt_nodes, body_nodes, clause_nodes}
 use Rattle.rpy_resolved.proofs.statement.+stmt.Given as goal
@@ -42,3 +42,9 @@ decreases-resolve_arms l = 8 * (sum_by (λ arm. expr_nodes arm.0 + body_nodes ar
 
 abbrev pub decreases-resolve_if : goal.decreases-resolve_if
 decreases-resolve_if l = 8 * (expr_nodes l.arm.now.0 + body_nodes l.arm.now.1 + sum_by (λ arm. expr_nodes arm.0 + body_nodes arm.1) l.rest.now + body_nodes l.other.now) + 5
+
+abbrev pub decreases-resolve_arms-loop-left : goal.decreases-resolve_arms-loop-left
+decreases-resolve_arms-loop-left l = l.left
+
+abbrev pub invariant-resolve_arms-loop-left : goal.invariant-resolve_arms-loop-left
+invariant-resolve_arms-loop-left l = l.left ≤ length l.arms

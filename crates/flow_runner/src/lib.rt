@@ -1,0 +1,7 @@
+//! A plain machine for flow graphs, for tests.
+#![tactic(auto)]
+
+mod machine;
+mod start;
+
+pub use machine::{Ending, Ran, run_graphs};
