@@ -141,17 +141,17 @@ abbrev pub numbered : {A : Type 0} → (ℕ → A → List ℕ) → ℕ → List
 numbered f k [] = []
 numbered f k (x ∷ xs) = f k x ++ numbered f (k + 1) xs
 
-module _ (functions classes : List (List ℕ)) where
+abbrev pub any : Option Link → List ℕ
+any None = []
+any (Some l) = codes "  on any " ++ link l ++ codes "\n"
+
+module _ (classes : List (List ℕ)) where
   abbrev pub caught : ℕ × Link → List ℕ
   caught c = codes "  on " ++ name_at classes c.0 ++ codes " " ++ link c.1 ++ codes "\n"
 
-  abbrev pub any : Option Link → List ℕ
-  any None = []
-  any (Some l) = codes "  on any " ++ link l ++ codes "\n"
-
   abbrev pub exit_text : Exit → List ℕ
   exit_text (exit.Goto l) = codes "  goto " ++ link l ++ codes "\n"
-  exit_text (exit.If v yes no) = codes "  if " ++ variable v ++ codes " " ++ link yes ++ codes " else " ++ link no ++ codes "\n"
+  exit_text (exit.If v a b) = codes "  if " ++ variable v ++ codes " " ++ link a ++ codes " else " ++ link b ++ codes "\n"
   exit_text (exit.OnRaise v all other norm) =
       codes "  caught " ++ variable v ++ codes "\n" ++ flat_map caught all ++ any other ++ codes "  else " ++ link norm ++ codes "\n"
   exit_text (exit.Return v) = codes "  return " ++ variable v ++ codes "\n"
@@ -160,8 +160,9 @@ module _ (functions classes : List (List ℕ)) where
   abbrev pub block_text : ℕ → Block → List ℕ
   block_text n b = codes "block " ++ place n b.inputs ++ codes "\n" ++ flat_map operation b.ops ++ exit_text b.exit
 
+module _ (functions classes : List (List ℕ)) where
   abbrev pub graph_text : Graph → List ℕ
-  graph_text g = codes "graph " ++ name_at functions g.function ++ codes "\n" ++ numbered block_text 0 g.blocks
+  graph_text g = codes "graph " ++ name_at functions g.function ++ codes "\n" ++ numbered (block_text classes) 0 g.blocks
 
   abbrev pub graphs_text : Graphs → List ℕ
   graphs_text gs = flat_map graph_text gs.graphs

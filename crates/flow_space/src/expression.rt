@@ -5,7 +5,7 @@ use crate::NEVER;
 use crate::code::{Act, Code, Head, Jump, Scope, act, jump_and, jump_first, jump_stored};
 use crate::copy::copy_op;
 use crate::narrow::{Narrowing, Side, narrowed};
-use crate::places::{one, plus, range, three, two};
+use crate::places::{narrow, one, plus, range, three, two};
 use rpy_base::{NoMem, Own, Seq};
 use rpy_copies::copy_const;
 use rpy_meaning::RowOp;
@@ -911,15 +911,6 @@ fn put_parts(
     let args = one(alloc, value)?;
     let jump = jump_first(alloc, begin, m)?;
     code.put_op(alloc, scope, act(node, true, RowOp::Copy), args, m, jump)
-}
-
-// A count as the number that an operation carries.
-fn narrow(count: usize) -> Result<u32, NoMem> {
-    if count <= 4294967295 {
-        Ok(count as u32)
-    } else {
-        Err(NoMem)
-    }
 }
 
 // The last parts of a tuple's target, of which there are `count`.

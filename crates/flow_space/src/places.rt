@@ -1,8 +1,10 @@
 // Places of variables in a block: its inputs from 0, then the results of its operations.
+ghost use Rattle.std.specs.Prelude.{◌≡◌, IfOk};
+
 use rpy_base::{NoMem, Seq};
 use std::alloc::Global;
 
-// A number of variables always fits the memory.
+/// A number of variables, which always fits the memory.
 pub fn plus(m: usize, k: usize) -> Result<usize, NoMem> {
     match m.checked_add(k) {
         None => Err(NoMem),
@@ -40,20 +42,34 @@ pub fn stored(alloc: Global, count: usize, at: usize, place: usize) -> Result<Se
     Ok(places)
 }
 
+/// One place.
 pub fn one(alloc: Global, a: usize) -> Result<Seq<usize>, NoMem> {
     let mut places = Seq::new(alloc);
     places.push(a)?;
     Ok(places)
 }
 
+/// Two places.
 pub fn two(alloc: Global, a: usize, b: usize) -> Result<Seq<usize>, NoMem> {
     let mut places = one(alloc, a)?;
     places.push(b)?;
     Ok(places)
 }
 
+/// Three places.
 pub fn three(alloc: Global, a: usize, b: usize, c: usize) -> Result<Seq<usize>, NoMem> {
     let mut places = two(alloc, a, b)?;
     places.push(c)?;
     Ok(places)
+}
+
+/// A count as the number that an operation or a graph carries.
+pub fn narrow(count: usize) -> Result<u32, NoMem>
+    ensures { IfOk result (λ number. number ≡ count) }
+{
+    if count <= 4294967295 {
+        Ok(count as u32)
+    } else {
+        Err(NoMem)
+    }
 }

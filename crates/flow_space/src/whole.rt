@@ -1,11 +1,15 @@
 // The graphs of a program.
+ghost use Rattle.std.specs.Prelude.{◌≡◌, length, IfOk};
+ghost use Rattle.flow_graph.specs.Whole.{CountFrom, Covers as CoversAll};
+
 use crate::code::{Aim, Code, Scope, act, jump_and, jump_first};
+use crate::places::narrow;
 use crate::statement::{Ways, put_block};
 use crate::{NEVER, RETURN};
 use flow_graph::{Graph, Graphs};
 use rpy_base::{NoMem, Seq};
 use rpy_meaning::{Covers, RowOp};
-use rpy_resolved::{Class, Function, resolved};
+use rpy_resolved::{Class, Function, Resolved, resolved};
 use rpy_tree::{FunId, Program};
 use std::alloc::Global;
 
@@ -37,7 +41,9 @@ fn graph_of(
     classes: &[Class],
     number: FunId,
     function: &Function,
-) -> Result<Graph, NoMem> {
+) -> Result<Graph, NoMem>
+    ensures { IfOk result (λ graph. graph.function ≡ number) }
+{
     let locals = function.locals as usize;
     let mut code = Code::new(alloc);
     let head = code.put_head(alloc, locals)?;
@@ -84,16 +90,37 @@ fn graph_of(
     })
 }
 
-/// The flow graphs of a program's functions, in their order.
-pub fn flow(alloc: Global, program: &Program) -> Result<Graphs, NoMem> {
-    let resolved = resolved(alloc, program)?;
-    let classes = resolved.classes.as_slice();
+// The graph of the next function, with its number.
+fn next_graph(
+    alloc: Global,
+    classes: &[Class],
+    graphs: &Seq<Graph>,
+    function: &Function,
+) -> Result<Graph, NoMem>
+    ensures { IfOk result (λ graph. graph.function ≡ length graphs.now) }
+{
+    let number = narrow(graphs.len())?;
+    graph_of(alloc, classes, number, function)
+}
+
+#[tactic(auto, using(crate::proofs::Counted::counted_next))]
+fn graphs_of(alloc: Global, resolved: &Resolved) -> Result<Seq<Graph>, NoMem>
+    ensures graphs { IfOk result (λ graphs. CountFrom 0 graphs) }
+    ensures all { IfOk result (λ graphs. length graphs ≡ length resolved.now.functions) }
+{
     let mut graphs = Seq::new(alloc);
-    let mut number: FunId = 0;
     for function in resolved.functions.as_slice() {
-        let graph = graph_of(alloc, classes, number, function)?;
+        let graph = next_graph(alloc, resolved.classes.as_slice(), &graphs, function)?;
         graphs.push(graph)?;
-        number = number.wrapping_add(1);
     }
+    Ok(graphs)
+}
+
+/// The flow graphs of a program's functions, one for each in their order.
+pub fn flow(alloc: Global, program: &Program) -> Result<Graphs, NoMem>
+    ensures { IfOk result (λ graphs. CoversAll program.now graphs) }
+{
+    let resolved = resolved(alloc, program)?;
+    let graphs = graphs_of(alloc, &resolved)?;
     Ok(Graphs { graphs })
 }

@@ -1,4 +1,7 @@
 // Whole programs.
+ghost use Rattle.std.specs.Prelude.{◌≡◌, ◌+◌, length, sum_by, IfOk, OnOk};
+ghost use Rattle.rpy_resolved.specs.Count.{function_count, member_count, method_count};
+
 use crate::expression::node_of;
 use crate::index::Index;
 use crate::label::labels_of;
@@ -55,7 +58,9 @@ fn add_function(
     labels: &[Text],
     f: &syntax::Function,
     functions: &mut Seq<Function>,
-) -> Result<(), NoMem> {
+) -> Result<(), NoMem>
+    ensures { OnOk result (length functions.new ≡ length functions.old + 1) }
+{
     let number = functions.len();
     let function = Function {
         node: names.node(f.node),
@@ -74,7 +79,9 @@ fn add_method(
     labels: &[Text],
     member: &Member,
     functions: &mut Seq<Function>,
-) -> Result<(), NoMem> {
+) -> Result<(), NoMem>
+    ensures { OnOk result (length functions.new ≡ length functions.old + method_count member.now) }
+{
     match member {
         Member::Def(f) => add_function(alloc, names, labels, f, functions),
         _ => Ok(()),
@@ -87,7 +94,9 @@ fn add_methods(
     labels: &[Text],
     members: &[Member],
     functions: &mut Seq<Function>,
-) -> Result<(), NoMem> {
+) -> Result<(), NoMem>
+    ensures { OnOk result (length functions.new ≡ length functions.old + sum_by method_count members.now) }
+{
     for member in members {
         add_method(alloc, names, labels, member, functions)?;
     }
@@ -100,7 +109,9 @@ fn add_member(
     labels: &[Text],
     member: &Member,
     functions: &mut Seq<Function>,
-) -> Result<(), NoMem> {
+) -> Result<(), NoMem>
+    ensures { OnOk result (length functions.new ≡ length functions.old + member_count member.now) }
+{
     match member {
         Member::Def(f) => add_function(alloc, names, labels, f, functions),
         Member::Class(class) => {
@@ -116,7 +127,9 @@ fn add_members(
     labels: &[Text],
     members: &[Member],
     functions: &mut Seq<Function>,
-) -> Result<(), NoMem> {
+) -> Result<(), NoMem>
+    ensures { OnOk result (length functions.new ≡ length functions.old + sum_by member_count members.now) }
+{
     for member in members {
         add_member(alloc, names, labels, member, functions)?;
     }
@@ -129,7 +142,9 @@ fn functions_of(
     program: &Program,
     index: &Index,
     labels: &[Text],
-) -> Result<Seq<Function>, NoMem> {
+) -> Result<Seq<Function>, NoMem>
+    ensures { IfOk result (λ functions. length functions ≡ function_count program.now.modules) }
+{
     let mut functions = Seq::new(alloc);
     let mut first: NodeId = 0;
     for module in program.modules.as_slice() {
@@ -211,7 +226,9 @@ fn copy_sites(alloc: Global, sites: &[Site]) -> Result<Seq<Site>, NoMem> {
 }
 
 /// A program with its names bound in its trees.
-pub fn resolved(alloc: Global, program: &Program) -> Result<Resolved, NoMem> {
+pub fn resolved(alloc: Global, program: &Program) -> Result<Resolved, NoMem>
+    ensures { IfOk result (λ resolved. length resolved.functions ≡ function_count program.now.modules) }
+{
     let index = Index::new(alloc, program)?;
     let labels = labels_of(alloc, program)?;
     Ok(Resolved {

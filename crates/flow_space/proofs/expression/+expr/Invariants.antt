@@ -69,4 +69,3 @@ decreases-put_parts l = 16 * targets_size l.parts.now + 3
 
 abbrev pub decreases-put_items : goal.decreases-put_items
 decreases-put_items l = 16 * targets_size l.parts.now + 2
-

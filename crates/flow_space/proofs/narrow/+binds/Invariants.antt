@@ -24,4 +24,3 @@ decreases-target_binds l = 4 * target_size l.target.now
 
 abbrev pub decreases-parts_bind : goal.decreases-parts_bind
 decreases-parts_bind l = 4 * targets_size l.parts.now + 1
-

@@ -38,4 +38,3 @@ decreases-put_stmt l = 16 * stmt_size l.s.now
 
 abbrev pub decreases-put_block : goal.decreases-put_block
 decreases-put_block l = 16 * block_size l.body.now
-
