@@ -4,5 +4,5 @@
 mod modules;
 mod program;
 
-pub use modules::read_modules;
+pub use modules::{LIMIT, are_short, read_modules};
 pub use program::{name_refusal, refused_name};

@@ -7,6 +7,9 @@ use rpy_first::{TranslateFault, read_module};
 use rpy_names::Named;
 use std::alloc::Global;
 
+/// How many bytes a source may have.
+pub const LIMIT: u64 = 1_048_576;
+
 // The module of a source, with its name.
 fn read_named(alloc: Global, source: &Text, name: &Text) -> Result<Named, TranslateFault>
     requires { length source.now ≤ 1048576 }
@@ -72,4 +75,16 @@ pub fn read_modules(
         read_next(alloc, source, name, &mut modules, sources, names)?;
     }
     Ok(modules)
+}
+
+/// Whether each source has at most as many bytes as one may have.
+pub fn are_short(sources: &[Text]) -> bool
+    ensures { result ≡ are_short sources.now }
+{
+    for source in sources {
+        if source.bytes().len() as u64 > LIMIT {
+            return false;
+        }
+    }
+    true
 }

@@ -7,11 +7,11 @@ ghost use Rattle.rpy_top.specs.Answer.{sunk, filed, Builds, BuildsTo, LoadsNext,
 
 use crate::edge::{load, put, say, say_text};
 use crate::job::Task;
-use crate::sources::{LIMIT, names_of, write_sources};
+use crate::sources::{names_of, write_sources};
 use crate::status::Status;
 use rpy_base::{Files, NoMem, Seq, Sink, Text};
 use rpy_first::{NameKind, SourceKind, TranslateFault, refusal};
-use rpy_front::name_refusal;
+use rpy_front::{LIMIT, name_refusal};
 use std::alloc::Global;
 
 /// How many files a program may have.

@@ -15,7 +15,7 @@ mod words;
 pub use building::MOST_FILES;
 pub use crun::C_LIMIT;
 pub use rpy_first::{NameKind, SourceKind, TranslateFault};
-pub use sources::{LIMIT, are_short};
+pub use rpy_front::{LIMIT, are_short};
 pub use top::{rpyc, translate};
 pub use words::{Command, RunWords, WordsFault, are_module_names, read_words};
 

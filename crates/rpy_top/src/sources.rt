@@ -17,9 +17,6 @@ use rpy_names::{Named, resolve};
 use rpy_tree::Program;
 use std::alloc::Global;
 
-/// How many bytes a source may have.
-pub const LIMIT: u64 = 1_048_576;
-
 // The name of the C function that is the program.
 fn entry_name(alloc: Global, name: &[u8]) -> Result<Text, NoMem>
     ensures { IfOk result (λ text. text ≡ name.now ++ codes ".entry_point") }
@@ -136,16 +133,4 @@ pub fn names_of(alloc: Global, files: &[Text]) -> Result<Vec<Text>, NoMem>
         names.push(Text::from_bytes(alloc, module_name(file.bytes()))?)?;
     }
     Ok(names)
-}
-
-/// Whether each source has at most as many bytes as one may have.
-pub fn are_short(sources: &[Text]) -> bool
-    ensures { result ≡ are_short sources.now }
-{
-    for source in sources {
-        if source.bytes().len() as u64 > LIMIT {
-            return false;
-        }
-    }
-    true
 }

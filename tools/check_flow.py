@@ -1,0 +1,131 @@
+#!/usr/bin/env python3
+"""Runs the flow graphs of programs and compares output, ending and steps with an independent interpreter.
+
+The programs are the accepted ones of ../shared/programs, with a large bound on steps and ten smaller ones each, and as
+many random ones as the first word says (1,000 without one). Where ../shared is missing the check is skipped. The last
+line is 'N passed, M failed'."""
+import glob
+import os
+import shlex
+import subprocess
+import sys
+
+TOP = os.path.dirname(os.path.dirname(os.path.abspath(__file__)))
+SHARED = os.path.join(os.path.dirname(TOP), 'shared')
+PROGRAM = os.path.join(TOP, 'crates', 'meaning_check', 'out', 'meaning_check')
+MOST = 20000
+BATCH = 200
+
+
+def piece(text):
+    return b'%d %s\n' % (len(text), text)
+
+
+class Programs:
+    def __init__(self, oracle, meaning):
+        self.oracle = oracle
+        self.meaning = meaning
+        self.waiting = []
+        self.passed = self.failed = self.programs = 0
+
+    def wanted(self, annotated, args, bound):
+        """Output, ending and the steps left, as the graphs' run writes them."""
+        out = []
+        ran = self.meaning.run(annotated, args, bound, out.append)
+        ending = self.oracle.ending(ran, 15)
+        left = '' if ran.kind == 'running' else ' %d' % (bound - ran.steps)
+        return ran.steps, (''.join(out) + '\n@@ ' + ending + left).encode('latin-1')
+
+    def add(self, name, files, sources, args, smaller):
+        annotated = self.oracle.front(files, sources, 15)
+        args = ['program'] + args
+        steps, full = self.wanted(annotated, args, MOST)
+        bounds = {MOST: full}
+        for k in range(smaller):
+            bound = steps * k // smaller
+            bounds[bound] = self.wanted(annotated, args, bound)[1]
+        modules = b''.join(
+            piece(os.path.basename(file).rsplit('.py', 1)[0].encode()) + piece(source)
+            for file, source in zip(files, sources))
+        words = b''.join(piece(arg.encode('latin-1')) for arg in args)
+        for bound, want in sorted(bounds.items()):
+            case = b'%d\n%d\n%s%d\n%s' % (bound, len(args), words, len(files), modules)
+            self.waiting.append(('%s, %d steps' % (name, bound), case, want))
+        self.programs += 1
+        if len(self.waiting) >= BATCH:
+            self.flush()
+
+    def flush(self):
+        """Runs the waiting cases in one process."""
+        told = b''.join(piece(case) for _, case, _ in self.waiting)
+        done = subprocess.run([PROGRAM], input=told, capture_output=True, timeout=600)
+        parts = done.stdout.split(b'\n@@@@\n')
+        for k, (name, _, want) in enumerate(self.waiting):
+            got = parts[k] if k < len(parts) else b'status %d' % done.returncode
+            if got == want or (want.endswith(b'steps spent') and got.rsplit(b' ', 1)[0] == want):
+                self.passed += 1
+            else:
+                self.failed += 1
+                print('%s: %r, and not %r' % (name, got[-200:], want[-200:]))
+        self.waiting = []
+
+
+def corpus(programs):
+    for folder in sorted(glob.glob(os.path.join(SHARED, 'programs', '*', ''))):
+        os.chdir(folder)
+        seen = set()
+        for command in sorted(glob.glob('cmd*')):
+            with open(command) as file:
+                words = shlex.split(file.read())
+            if not words or words[0] not in ('run', 'llrun', 'check', 'annotate', 'build'):
+                continue
+            try:
+                asked = programs.oracle.read_words(words)
+                args = list(getattr(asked, 'args', None) or [])
+                if (tuple(asked.files), tuple(args)) in seen:
+                    continue
+                seen.add((tuple(asked.files), tuple(args)))
+                sources = programs.oracle.read_files(asked.files)
+                name = os.path.basename(os.path.dirname(folder))
+                programs.add(name, asked.files, sources, args, 10)
+            except programs.oracle.Refused:
+                pass
+
+
+def fuzz(programs, generate, count):
+    for seed in range(count):
+        files = generate(seed, 5)
+        sources = [text if isinstance(text, bytes) else text.encode('latin-1') for _, text in files]
+        try:
+            programs.add('seed %d' % seed, [name for name, _ in files], sources, [], 3)
+        except programs.oracle.Refused:
+            pass
+
+
+def main():
+    if not os.path.isdir(os.path.join(SHARED, 'oracle')):
+        print('flow: skipped, the references in ../shared are not here')
+        return 0
+    if not os.path.exists(PROGRAM):
+        print('flow: the program is not built')
+        return 1
+    sys.path[:0] = [os.path.join(SHARED, 'oracle'), os.path.join(SHARED, 'fuzz')]
+    import gen
+    import meaning
+    import oracle
+    programs = Programs(oracle, meaning)
+
+    def work():
+        corpus(programs)
+        fuzz(programs, gen.generate, int(sys.argv[1]) if len(sys.argv) > 1 else 1000)
+        programs.flush()
+        return 0
+
+    oracle.run_with_stack(work)
+    print('%d programs' % programs.programs)
+    print('%d passed, %d failed' % (programs.passed, programs.failed))
+    return 0 if programs.failed == 0 and programs.passed > 0 else 1
+
+
+if __name__ == '__main__':
+    sys.exit(main())
