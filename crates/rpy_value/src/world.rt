@@ -1,0 +1,128 @@
+// The world of a run.
+ghost use Rattle.std.specs.Prelude.{◌≡◌, [], ◌∷◌, ◌++◌, length, slice_get, OnOk, IfOk};
+ghost use Rattle.std.specs.Option.{option_copied};
+ghost use Rattle.rpy_value.specs.Worlds.{Pays, items_in, with_object};
+
+use crate::object::{Object, Shape};
+use crate::val::Val;
+use rpy_base::{NoMem, Seq};
+use std::alloc::Global;
+use std::marker::Model;
+use std::mem;
+
+/// The objects in order of making, what was printed, and the steps left.
+#[derive(Drop)]
+pub struct World {
+    heap: Vec<Object>,
+    out: Vec<u8>,
+    left: u64,
+}
+
+impl Model for World {
+    ghost use Rattle.rpy_meaning.specs.World as meaning;
+    ghost use Rattle.rpy_value.specs.StoredWorld.{coded_world};
+
+    ghost Value = { meaning.World };
+
+    ghost coded = { coded_world };
+
+    ghost view = { λ w. record { heap = w.heap.items; out = w.out.items; left = w.left } };
+}
+
+impl World {
+    /// A world without objects.
+    pub fn new(alloc: Global, left: u64) -> World
+        ensures { result ≡ record { heap = []; out = []; left = left } }
+    {
+        World {
+            heap: Vec::new(alloc),
+            out: Vec::new(alloc),
+            left,
+        }
+    }
+
+    pub fn out(&self) -> &[u8]
+        ensures { result.now ≡ self.now.out }
+    {
+        self.out.as_slice()
+    }
+
+    pub fn left(&self) -> u64
+        ensures { result ≡ self.now.left }
+    {
+        self.left
+    }
+
+    pub fn objects(&self) -> &[Object]
+        ensures { result.now ≡ self.now.heap }
+    {
+        self.heap.as_slice()
+    }
+
+    pub fn object(&self, at: usize) -> Option<&Object>
+        ensures { option_copied result ≡ slice_get self.now.heap at }
+    {
+        self.heap.get(at)
+    }
+
+    /// The items of the list that is an object.
+    pub fn list_at(&self, at: usize) -> Option<&[Val]>
+        ensures { option_copied result ≡ items_in (slice_get self.now.heap at) }
+    {
+        match self.heap.get(at) {
+            Some(object) => match &object.shape {
+                Shape::List(items) => Some(items.as_slice()),
+                _ => None,
+            },
+            None => None,
+        }
+    }
+
+    /// Pays a cost, where so many steps are left.
+    pub fn pay(&mut self, cost: u64) -> bool
+        ensures { Pays cost self.old self.new result }
+    {
+        if self.left < cost {
+            false
+        } else {
+            self.left -= cost;
+            true
+        }
+    }
+
+    pub fn write(&mut self, bytes: &[u8]) -> Result<(), NoMem>
+        ensures { OnOk result (self.new ≡ record self.old { out = self.old.out ++ bytes.now }) }
+    {
+        self.out.extend_from_slice(bytes)?;
+        Ok(())
+    }
+
+    /// A new object, by its number.
+    pub fn push_object(&mut self, object: Object) -> Result<usize, NoMem>
+        ensures number { IfOk result (λ at. at ≡ length self.old.heap) }
+        ensures heap { OnOk result (self.new ≡ record self.old { heap = self.old.heap ++ object ∷ [] }) }
+    {
+        let at = self.heap.len();
+        self.heap.push(object)?;
+        Ok(at)
+    }
+
+    /// An object in the place of another, if there is one.
+    pub fn set_object(&mut self, at: usize, object: Object)
+        ensures { self.new ≡ with_object at object self.old }
+    {
+        if at < self.heap.len() {
+            self.heap[at] = object;
+        }
+    }
+
+    /// Takes out the object at a place and leaves an empty list.
+    pub fn take_object(&mut self, alloc: Global, at: usize) -> Option<Object> {
+        if at < self.heap.len() {
+            let empty = Object::list(Seq::new(alloc));
+            Some(mem::replace(&mut self.heap[at], empty))
+        } else {
+            None
+        }
+    }
+}
