@@ -1,5 +1,5 @@
 -- An operation's answer as the code gives it, with the world after.
-use Rattle.std.specs.Prelude.{◌≡◌}
+use Rattle.std.specs.Prelude.{◌≡◌, Bool, true, false, not}
 use Rattle.rpy_meaning.specs.World.{World, Op, Answer, Gives, Throws, Fails, Lacks, Enters, Bad, give, throw, bad}
 use Rattle.rpy_operate.specs.declared.answer.Answer as code
 use Rattle.rpy_operate.specs.declared.answer.Answer.TheVariants as answer
@@ -31,3 +31,8 @@ say answer.Bad = bad
 
 abbrev pub Always : Op → code.Answer → Type 0
 Always o a = say a ≡ o
+
+-- a flag as it is, or its opposite
+abbrev pub as_wanted : Bool → Bool → Bool
+as_wanted true = λ b. b
+as_wanted false = not

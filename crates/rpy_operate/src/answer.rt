@@ -1,5 +1,6 @@
 // What an operation answers.
-ghost use Rattle.std.specs.Prelude.{IfOk};
+ghost use Rattle.std.specs.Prelude.{◌≡◌, IfOk};
+ghost use Rattle.rpy_tree.specs.Value as value;
 ghost use Rattle.rpy_meaning.specs.World as meaning;
 ghost use Rattle.rpy_operate.specs.Answers.{Answers, Always};
 
@@ -22,7 +23,7 @@ pub enum Answer {
 }
 
 pub fn flag(flag: bool) -> Answer
-    ensures { Always (meaning.flag flag) result }
+    ensures { result ≡ Answer.Gives (value.Flag flag) }
 {
     Answer::Gives(Val::flag(flag))
 }

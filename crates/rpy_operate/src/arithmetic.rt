@@ -17,7 +17,7 @@ use rpy_tree::{BinOp, UnOp};
 use rpy_value::{Form, Val};
 
 pub fn word(word: i64) -> Answer
-    ensures { Always (meaning.give (value.Word word)) result }
+    ensures { result ≡ Answer.Gives (value.Word word) }
 {
     Answer::Gives(Val::word(word))
 }
@@ -132,11 +132,7 @@ pub fn on_words(covers: Covers, op: BinOp, x: &Val, y: &Val) -> Answer
 fn unless(leaves: bool, wrapped: i64) -> Answer
     ensures { Always (if leaves then meaning.overflow else meaning.give (value.Word wrapped)) result }
 {
-    if leaves {
-        overflow()
-    } else {
-        word(wrapped)
-    }
+    if leaves { overflow() } else { word(wrapped) }
 }
 
 #[tactic(auto, using(crate::proofs::Words::unless_is))]

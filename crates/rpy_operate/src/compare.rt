@@ -1,11 +1,12 @@
-// Equality, identity, order and truth of values.
-ghost use Rattle.std.specs.Prelude.{◌≡◌, not};
-ghost use Rattle.std.specs.Option.{option_map};
+// Equality, identity, order and truth of values, and comparisons.
+ghost use Rattle.std.specs.Prelude.{◌≡◌, Some, option_map};
+ghost use Rattle.std.specs.Option.{option_copied};
 ghost use Rattle.rpy_meaning.specs.Compare as spec;
 ghost use Rattle.rpy_meaning.specs.Methods as methods;
 ghost use Rattle.rpy_meaning.specs.Operations as operations;
-ghost use Rattle.rpy_meaning.specs.Sequences.{parts_of, is_in_object};
-ghost use Rattle.rpy_operate.specs.Answers.{Answers, as_wanted};
+ghost use Rattle.rpy_meaning.specs.Sequences as sequences;
+ghost use Rattle.rpy_meaning.specs.World as meaning;
+ghost use Rattle.rpy_operate.specs.Answers as answers;
 
 use crate::answer::{Answer, attribute_error, flag, flag_if_any};
 use rpy_meaning::Covers;
@@ -60,12 +61,12 @@ fn both(a: Option<bool>, b: Option<bool>) -> Option<bool>
 
 #[cycle(equal)]
 fn all_equal(xs: &[Val], ys: &[Val]) -> Option<bool>
-    ensures { result ≡ spec.all_equal (parts_of xs.now) (parts_of ys.now) }
+    ensures { result ≡ spec.all_equal (sequences.parts_of xs.now) (sequences.parts_of ys.now) }
 {
     match xs {
         [] => match ys {
             [] => Some(true),
-            [_, ..] => None,
+            [_first, _others @ ..] => None,
         },
         [x, xs @ ..] => match ys {
             [] => None,
@@ -162,7 +163,7 @@ fn less(x: &Val, y: &Val) -> Option<bool>
 // ---- truth
 
 fn object_truth(object: Option<&Object>) -> Option<bool>
-    ensures { result ≡ spec.object_truth (option_copied object) }
+    ensures { result ≡ spec.object_truth (option_copied object.entry) }
 {
     match object {
         None => None,
@@ -198,14 +199,16 @@ fn opposite(flag: Option<bool>) -> Option<bool>
     }
 }
 
+#[tactic(auto, using(crate::proofs::Says::says))]
 pub fn is_true(v: &Val, world: &World) -> Answer
-    ensures { Answers (operations.is_true v.now) world.now world.now result }
+    ensures { answers.Answers (operations.is_true v.now) world.now world.now result }
 {
     flag_if_any(truth(v, world))
 }
 
+#[tactic(auto, using(crate::proofs::Says::says))]
 pub fn is_not_true(v: &Val, world: &World) -> Answer
-    ensures { Answers (operations.is_not_true v.now) world.now world.now result }
+    ensures { answers.Answers (operations.is_not_true v.now) world.now world.now result }
 {
     flag_if_any(opposite(truth(v, world)))
 }
@@ -233,7 +236,7 @@ pub fn place_of(part: &[u8], text: &[u8]) -> Option<usize>
 }
 
 fn as_wanted(wanted: bool, flag: bool) -> bool
-    ensures { result ≡ as_wanted wanted flag }
+    ensures { result ≡ answers.as_wanted wanted flag }
 {
     if wanted { flag } else { !flag }
 }
@@ -255,8 +258,9 @@ fn is_in_object(v: &Val, object: &Object) -> Option<bool>
     }
 }
 
+#[tactic(auto, using(crate::proofs::Says::says))]
 fn within_object(wanted: bool, x: &Val, r: usize, world: &World) -> Answer
-    ensures { Answers (meaning.at_object r (λ o. meaning.flag_if_any (option_map (as_wanted wanted) (sequences.is_in_object x.now o)))) world.now world.now result }
+    ensures { answers.Answers (meaning.at_object r (λ o. meaning.flag_if_any (option_map (answers.as_wanted wanted) (sequences.is_in_object x.now o)))) world.now world.now result }
 {
     match world.object(r) {
         None => Answer::Bad,
@@ -267,9 +271,10 @@ fn within_object(wanted: bool, x: &Val, r: usize, world: &World) -> Answer
     }
 }
 
+#[tactic(auto, using(crate::proofs::Says::says))]
 /// `x in y`, or `x not in y`.
 fn within(covers: Covers, wanted: bool, x: &Val, y: &Val, world: &World) -> Answer
-    ensures { Answers (operations.within covers (as_wanted wanted) x.now y.now) world.now world.now result }
+    ensures { answers.Answers (operations.within covers (answers.as_wanted wanted) x.now y.now) world.now world.now result }
 {
     match &y.form {
         Form::Text(text) => match &x.form {
@@ -286,8 +291,9 @@ fn within(covers: Covers, wanted: bool, x: &Val, y: &Val, world: &World) -> Answ
     }
 }
 
+#[tactic(auto, using(crate::proofs::Says::says))]
 pub fn compare(covers: Covers, op: CmpOp, x: &Val, y: &Val, world: &World) -> Answer
-    ensures { Answers (operations.compare covers op x.now y.now) world.now world.now result }
+    ensures { answers.Answers (operations.compare covers op x.now y.now) world.now world.now result }
 {
     match op {
         CmpOp::Lt => flag_if_any(less(x, y)),

@@ -1,11 +1,13 @@
 // The world of a run.
-ghost use Rattle.std.specs.Prelude.{◌≡◌, [], ◌∷◌, ◌++◌, length, slice_get, OnOk, IfOk};
+ghost use Rattle.std.specs.Prelude.{◌≡◌, [], ◌∷◌, ◌++◌, length, slice_get, Some, None, MatchOption, OnOk, IfOk};
 ghost use Rattle.std.specs.Option.{option_copied};
-ghost use Rattle.rpy_value.specs.Worlds.{Pays, items_in, with_object};
+ghost use Rattle.rpy_tree.specs.Value as value;
+ghost use Rattle.rpy_value.specs.Worlds.{Pays, attributes_in, items_in, pairs_in, with_object};
 
 use crate::object::{Object, Shape};
 use crate::val::Val;
-use rpy_base::{NoMem, Seq};
+use rpy_base::{NoMem, Seq, Text};
+use rpy_tree::ClassId;
 use std::alloc::Global;
 use std::marker::Model;
 use std::mem;
@@ -116,13 +118,53 @@ impl World {
         }
     }
 
-    /// Takes out the object at a place and leaves an empty list.
-    pub fn take_object(&mut self, alloc: Global, at: usize) -> Option<Object> {
+    // Takes out an object and leaves an empty list.
+    fn take_object(&mut self, alloc: Global, at: usize) -> Option<Object>
+        ensures { MatchOption result ((slice_get self.old.heap at ≡ None) × (self.new ≡ self.old)) (λ o. (slice_get self.old.heap at ≡ Some o) × (self.new ≡ with_object at (value.Listed []) self.old)) }
+    {
         if at < self.heap.len() {
             let empty = Object::list(Seq::new(alloc));
             Some(mem::replace(&mut self.heap[at], empty))
         } else {
             None
+        }
+    }
+
+    /// Takes out the items of a list, if the object is one. Something is to be put in its place.
+    pub fn take_list(&mut self, alloc: Global, at: usize) -> Option<Seq<Val>>
+        ensures { MatchOption result (items_in (slice_get self.old.heap at) ≡ None) (λ vs. (slice_get self.old.heap at ≡ Some (value.Listed vs)) × (self.new ≡ with_object at (value.Listed []) self.old)) }
+    {
+        let Object { shape } = self.take_object(alloc, at)?;
+        match shape {
+            Shape::List(items) => Some(items),
+            _ => None,
+        }
+    }
+
+    /// Takes out the pairs of a dict, if the object is one. Something is to be put in its place.
+    pub fn take_dict(&mut self, alloc: Global, at: usize) -> Option<Seq<(Val, Val)>>
+        ensures { MatchOption result (pairs_in (slice_get self.old.heap at) ≡ None) (λ pairs. (slice_get self.old.heap at ≡ Some (value.Mapped pairs)) × (self.new ≡ with_object at (value.Listed []) self.old)) }
+    {
+        let Object { shape } = self.take_object(alloc, at)?;
+        match shape {
+            Shape::Dict(pairs) => Some(pairs),
+            _ => None,
+        }
+    }
+
+    /// Takes out the class and the attributes of an instance, if the object is one. Something is to
+    /// be put in its place.
+    pub fn take_instance(
+        &mut self,
+        alloc: Global,
+        at: usize,
+    ) -> Option<(ClassId, Seq<(Text, Val)>)>
+        ensures { MatchOption result (attributes_in (slice_get self.old.heap at) ≡ None) (λ parts. (slice_get self.old.heap at ≡ Some (value.Instance parts.0 parts.1)) × (self.new ≡ with_object at (value.Listed []) self.old)) }
+    {
+        let Object { shape } = self.take_object(alloc, at)?;
+        match shape {
+            Shape::Instance(class, attributes) => Some((class, attributes)),
+            _ => None,
         }
     }
 }

@@ -1,0 +1,147 @@
+// Walks over strings, lists, dicts and ranges.
+ghost use Rattle.std.specs.Prelude.{◌≡◌, IfOk};
+ghost use Rattle.rpy_meaning.specs.Walks as spec;
+ghost use Rattle.rpy_operate.specs.Answers.{Answers, Always};
+
+use crate::answer::{Answer, attribute_error, flag};
+use crate::arithmetic::word;
+use crate::containers::{keys_of, list_for};
+use crate::places::byte;
+use crate::sequences::give;
+use rpy_base::NoMem;
+use rpy_meaning::Covers;
+use rpy_value::{Form, Shape, Val, World, copy_value};
+use std::alloc::Global;
+
+fn walk_object(alloc: Global, r: usize, world: &mut World) -> Result<Answer, NoMem> {
+    match world.object(r) {
+        None => Ok(Answer::Bad),
+        Some(object) => match &object.shape {
+            Shape::List(_) => Ok(Answer::Gives(Val::reference(r))),
+            Shape::Dict(pairs) => {
+                let cost = pairs.as_slice().len() as u64 + 1;
+                let keys = keys_of(alloc, pairs.as_slice())?;
+                list_for(cost, keys, world)
+            }
+            Shape::Instance(_, _) => Ok(Answer::Bad),
+        },
+    }
+}
+
+/// What is walked: of a dict the list of its keys.
+pub fn walk(alloc: Global, covers: Covers, x: &Val, world: &mut World) -> Result<Answer, NoMem> {
+    match &x.form {
+        Form::Text(_) => Ok(Answer::Gives(copy_value(alloc, x)?)),
+        Form::Ref(r) => walk_object(alloc, *r, world),
+        Form::Nothing => Ok(attribute_error(covers)),
+        _ => Ok(Answer::Bad),
+    }
+}
+
+// Whether a number is before the end of a range.
+fn is_before(step: i64, end: i64, i: i64) -> bool
+    ensures { result ≡ spec.is_before step end i }
+{
+    if 0 < step { i < end } else { end < i }
+}
+
+// The next number of a range, or its end where that comes first.
+fn next_number(step: i64, end: i64, i: i64) -> i64
+    ensures { result ≡ spec.next_number step end i }
+{
+    match i.checked_add(step) {
+        None => end,
+        Some(next) => {
+            if is_before(step, end, next) {
+                next
+            } else {
+                end
+            }
+        }
+    }
+}
+
+// Whether a place is within a length.
+fn is_within(i: i64, length: usize) -> bool {
+    (i as u64) < length as u64
+}
+
+fn has_item_of(x: &Val, i: i64, world: &World) -> Answer {
+    if i < 0 {
+        return Answer::Bad;
+    }
+    match &x.form {
+        Form::Text(bytes) => flag(is_within(i, bytes.bytes().len())),
+        Form::Ref(r) => match world.list_at(*r) {
+            None => Answer::Bad,
+            Some(vs) => flag(is_within(i, vs.len())),
+        },
+        _ => Answer::Bad,
+    }
+}
+
+pub fn has_item(step: Option<i64>, x: &Val, y: &Val, world: &World) -> Answer {
+    match &y.form {
+        Form::Word(i) => match step {
+            None => has_item_of(x, *i, world),
+            Some(step) => match &x.form {
+                Form::Word(end) => flag(is_before(step, *end, *i)),
+                _ => Answer::Bad,
+            },
+        },
+        _ => Answer::Bad,
+    }
+}
+
+fn item_of(alloc: Global, x: &Val, i: i64, world: &World) -> Result<Answer, NoMem> {
+    if i < 0 {
+        return Ok(Answer::Bad);
+    }
+    match &x.form {
+        Form::Text(bytes) => match bytes.bytes().get(i as usize) {
+            None => Ok(Answer::Bad),
+            Some(b) => Ok(Answer::Gives(byte(alloc, *b)?)),
+        },
+        Form::Ref(r) => match world.list_at(*r) {
+            None => Ok(Answer::Bad),
+            Some(vs) => match vs.get(i as usize) {
+                None => Ok(Answer::Bad),
+                Some(v) => give(alloc, v),
+            },
+        },
+        _ => Ok(Answer::Bad),
+    }
+}
+
+pub fn item(
+    alloc: Global,
+    step: Option<i64>,
+    x: &Val,
+    y: &Val,
+    world: &World,
+) -> Result<Answer, NoMem> {
+    match step {
+        Some(_) => give(alloc, y),
+        None => match &y.form {
+            Form::Word(i) => item_of(alloc, x, *i, world),
+            _ => Ok(Answer::Bad),
+        },
+    }
+}
+
+/// The place after this one. Where that is no word there is no memory for so long a sequence.
+pub fn advance(step: Option<i64>, x: &Val, y: &Val) -> Result<Answer, NoMem> {
+    match &y.form {
+        Form::Word(i) => match step {
+            None => match i.checked_add(1) {
+                None => Err(NoMem),
+                Some(next) => Ok(word(next)),
+            },
+            Some(step) => match &x.form {
+                Form::Word(end) => Ok(word(next_number(step, *end, *i))),
+                _ => Ok(Answer::Bad),
+            },
+        },
+        _ => Ok(Answer::Bad),
+    }
+}
