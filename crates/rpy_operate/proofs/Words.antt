@@ -14,7 +14,7 @@ use Rattle.rpy_meaning.specs.Arithmetic.{word_that_fits}
 pub wrap_fits : (z : ℤ) → Fits z → wrap z ≡ z
 wrap_fits z h = int_wrap_fits w64 z h
 
-same_is : (a b : ℤ) → a ≡ b → int_eq a b ≡ true
+pub same_is : (a b : ℤ) → a ≡ b → int_eq a b ≡ true
 same_is a b h = grind (arith, common_steps)
 
 is_same : (a b : ℤ) → int_eq a b ≡ true → a ≡ b
@@ -23,8 +23,11 @@ is_same a b h = grind (arith, common_steps)
 pub that_fits : (z : ℤ) → Fits z → give (Word z) ≡ word_that_fits z
 that_fits z h = ap (λ (t : Bool). if t then give (Word z) else overflow) (sym (same_is (wrap z) z (wrap_fits z h)))
 
+pub fits_if_same : (z : ℤ) → int_eq (wrap z) z ≡ true → Fits z
+fits_if_same z e = let P : ℤ → Type 0 = λ x. Fits x in subst P (is_same (wrap z) z e) (SFits-int_wrap w64 z)
+
 not_same : (z : ℤ) (t : Bool) → int_eq (wrap z) z ≡ t → (Fits z → ⊥) → t ≡ false
-not_same z true e h = absurd (h (let P : ℤ → Type 0 = λ x. Fits x in subst P (is_same (wrap z) z e) (SFits-int_wrap w64 z)))
+not_same z true e h = absurd (h (fits_if_same z e))
 not_same z false e h = refl
 
 pub unless_is : (b : Bool) (z : ℤ) → FalseIff b (Fits z) → (if b then overflow else give (Word (wrap z))) ≡ word_that_fits z

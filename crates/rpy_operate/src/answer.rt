@@ -73,25 +73,25 @@ pub fn attribute_error(covers: Covers) -> Answer
 
 /// A slice bound, or the place of an insertion, that wrapped below zero.
 pub fn negative_slice() -> Answer
-    ensures { Always meaning.negative_slice result }
+    ensures { result ≡ Answer.Fails FailName.NegativeSlice }
 {
     Answer::Fails(FailName::NegativeSlice)
 }
 
 pub fn overflow() -> Answer
-    ensures { Always meaning.overflow result }
+    ensures { result ≡ Answer.Throws 3 }
 {
     Answer::Throws(3)
 }
 
 pub fn no_key() -> Answer
-    ensures { Always meaning.no_key result }
+    ensures { result ≡ Answer.Throws 7 }
 {
     Answer::Throws(7)
 }
 
 pub fn no_number() -> Answer
-    ensures { Always meaning.no_number result }
+    ensures { result ≡ Answer.Throws 8 }
 {
     Answer::Throws(8)
 }

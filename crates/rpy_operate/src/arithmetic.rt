@@ -1,6 +1,6 @@
 // Operations on words. Each gives its true result, wrapped; `ovfcheck` raises where wrapping would
 // change it.
-ghost use Rattle.std.specs.Prelude.{◌≡◌, ◌≢◌, ◌≤ℤ◌, ◌<ℤ◌, ◌^◌, pos, ◌+ℤ◌, ◌-ℤ◌, ◌*ℤ◌, neg_ℤ, unsigned_abs, int_le, int_lt, ◌&&◌, if◌then◌else◌};
+ghost use Rattle.std.specs.Prelude.{◌≡◌, ◌≢◌, ◌≤ℤ◌, ◌<ℤ◌, ◌^◌, pos, ◌+ℤ◌, ◌-ℤ◌, ◌*ℤ◌, neg_ℤ, unsigned_abs, int_le, int_lt, ◌&&◌, IfOk, if◌then◌else◌};
 ghost use Rattle.rpy_base.specs.Word.{wrap, floor_quotient, times_power};
 ghost use Rattle.rpy_tree.specs.Value as value;
 ghost use Rattle.rpy_meaning.specs.Arithmetic as spec;
@@ -8,6 +8,7 @@ ghost use Rattle.rpy_meaning.specs.World as meaning;
 ghost use Rattle.rpy_operate.specs.Answers.{Always};
 
 use crate::answer::{Answer, division_error, overflow, value_error};
+use rpy_base::NoMem;
 use rpy_base::word::{
     add_ovf, div_ovf, floor_div, floor_mod, mul_ovf, neg_ovf, shl, shl_ovf, shr, sub_ovf, wrap_add,
     wrap_mul, wrap_neg, wrap_sub,
@@ -20,6 +21,17 @@ pub fn word(word: i64) -> Answer
     ensures { result ≡ Answer.Gives (value.Word word) }
 {
     Answer::Gives(Val::word(word))
+}
+
+/// A length as a word. Where it is none there is no memory for so long a sequence.
+pub fn word_of(length: usize) -> Result<i64, NoMem>
+    ensures { IfOk result (λ z. z ≡ pos length) }
+{
+    if length < 1 << 63 {
+        Ok(length as i64)
+    } else {
+        Err(NoMem)
+    }
 }
 
 // ---- results that are wrapped

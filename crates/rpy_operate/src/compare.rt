@@ -271,6 +271,13 @@ fn within_object(wanted: bool, x: &Val, r: usize, world: &World) -> Answer
     }
 }
 
+#[tactic(auto, using(crate::proofs::Tuples::within_is))]
+fn within_tuple(covers: Covers, wanted: bool, x: &Val, items: &[Val]) -> Answer
+    ensures { answers.Always (operations.within covers (answers.as_wanted wanted) x.now (sequences.tuple items.now)) result }
+{
+    flag(as_wanted(wanted, is_among(x, items)))
+}
+
 #[tactic(auto, using(crate::proofs::Says::says))]
 /// `x in y`, or `x not in y`.
 fn within(covers: Covers, wanted: bool, x: &Val, y: &Val, world: &World) -> Answer
@@ -285,7 +292,7 @@ fn within(covers: Covers, wanted: bool, x: &Val, y: &Val, world: &World) -> Answ
             _ => Answer::Bad,
         },
         Form::Ref(r) => within_object(wanted, x, *r, world),
-        Form::Tuple(items) => flag(as_wanted(wanted, is_among(x, items.as_slice()))),
+        Form::Tuple(items) => within_tuple(covers, wanted, x, items.as_slice()),
         Form::Nothing => attribute_error(covers),
         Form::Word(_) | Form::Flag(_) | Form::Fun(_) => Answer::Bad,
     }

@@ -1,9 +1,19 @@
 // The methods of lists and dicts, and lengths.
-ghost use Rattle.std.specs.Prelude.{◌≡◌, IfOk};
+ghost use Rattle.std.specs.Prelude.{◌≡◌, ◌++◌, [], ◌∷◌, ◌+◌, pos, min, length, insert, map, reverse, slice_get, Some, IfOk};
+ghost use Rattle.std.specs.Option.{option_copied};
+ghost use Rattle.rpy_tree.specs.Value as value;
+ghost use Rattle.rpy_value.specs.Worlds.{pairs_in};
+ghost use Rattle.rpy_meaning.specs.Classes.{named};
+ghost use Rattle.rpy_meaning.specs.Costs as cost;
 ghost use Rattle.rpy_meaning.specs.Methods as spec;
+ghost use Rattle.rpy_meaning.specs.Walks as walks;
+ghost use Rattle.rpy_meaning.specs.Sequences as sequences;
+ghost use Rattle.rpy_meaning.specs.World as meaning;
+ghost use Rattle.rpy_operate.specs.Answers.{Answers, Always};
+ghost use Rattle.rpy_operate.specs.Objects as own;
 
 use crate::answer::{Answer, attribute_error, index_error, negative_slice, new_object};
-use crate::arithmetic::word;
+use crate::arithmetic::{word, word_of};
 use crate::places::{append_copies, item_at, place, removed, value_at};
 use crate::sequences::{extend, give};
 use rpy_base::{NoMem, Seq};
@@ -13,27 +23,40 @@ use std::alloc::Global;
 
 // ---- lists
 
-fn append(alloc: Global, r: usize, args: &[Val], world: &mut World) -> Result<Answer, NoMem> {
-    match args {
-        [v] => add_last(alloc, r, v, 1, world),
-        _ => Ok(Answer::Bad),
+#[tactic(auto, using(crate::proofs::Items::no_items, crate::proofs::Items::some_items))]
+fn append(alloc: Global, r: usize, args: &[Val], world: &mut World) -> Result<Answer, NoMem>
+    ensures { IfOk result (λ a. Answers (meaning.with_list r (λ vs. spec.append r vs args.now)) world.old world.new a) }
+{
+    match world.list_at(r) {
+        None => Ok(Answer::Bad),
+        Some(_vs) => match args {
+            [v] => add_last(alloc, r, v, world),
+            _ => Ok(Answer::Bad),
+        },
     }
 }
 
-/// A list grows in its place by a value, for a cost.
-pub fn add_last(
-    alloc: Global,
-    r: usize,
-    v: &Val,
-    cost: u64,
-    world: &mut World,
-) -> Result<Answer, NoMem> {
-    if world.list_at(r).is_none() {
-        return Ok(Answer::Bad);
+/// A list grows in its place by a value.
+#[tactic(auto, using(crate::proofs::Items::no_items, crate::proofs::Items::some_items))]
+pub fn add_last(alloc: Global, r: usize, v: &Val, world: &mut World) -> Result<Answer, NoMem>
+    ensures { IfOk result (λ a. Answers (meaning.with_list r (λ vs. meaning.paying cost.append_cost (meaning.set_object r (value.Listed (vs ++ v.now ∷ [])) value.Nothing))) world.old world.new a) }
+{
+    match world.list_at(r) {
+        None => Ok(Answer::Bad),
+        Some(_vs) => {
+            if world.pay(1) {
+                put_last(alloc, r, v, world)
+            } else {
+                Ok(Answer::Lacks)
+            }
+        }
     }
-    if !world.pay(cost) {
-        return Ok(Answer::Lacks);
-    }
+}
+
+#[tactic(auto, using(crate::proofs::Items::no_items, crate::proofs::Heap::put_again))]
+fn put_last(alloc: Global, r: usize, v: &Val, world: &mut World) -> Result<Answer, NoMem>
+    ensures { IfOk result (λ a. Answers (meaning.with_list r (λ vs. meaning.set_object r (value.Listed (vs ++ v.now ∷ [])) value.Nothing)) world.old world.new a) }
+{
     let item = copy_value(alloc, v)?;
     match world.take_list(alloc, r) {
         None => Ok(Answer::Bad),
@@ -46,7 +69,9 @@ pub fn add_last(
 }
 
 // The items with one more, whose place is cut at the end.
-fn inserted(alloc: Global, vs: &[Val], at: usize, v: &Val) -> Result<Seq<Val>, NoMem> {
+fn inserted(alloc: Global, vs: &[Val], at: usize, v: &Val) -> Result<Seq<Val>, NoMem>
+    ensures { IfOk result (λ v. v ≡ insert vs.now (min at (length vs.now)) v.now) }
+{
     let place = if at < vs.len() { at } else { vs.len() };
     let mut items = copy_values(alloc, &vs[..place])?;
     items.push(copy_value(alloc, v)?)?;
@@ -54,56 +79,69 @@ fn inserted(alloc: Global, vs: &[Val], at: usize, v: &Val) -> Result<Seq<Val>, N
     Ok(items)
 }
 
-fn insert_item(
-    alloc: Global,
-    r: usize,
-    z: i64,
-    v: &Val,
-    world: &mut World,
-) -> Result<Answer, NoMem> {
-    if z < 0 {
-        return Ok(negative_slice());
-    }
-    let items = match world.list_at(r) {
-        None => return Ok(Answer::Bad),
-        Some(vs) => inserted(alloc, vs, z as usize, v)?,
-    };
-    if world.pay(1) {
-        world.set_object(r, Object::list(items));
-        Ok(Answer::Gives(Val::nothing()))
-    } else {
-        Ok(Answer::Lacks)
+#[tactic(auto, using(crate::proofs::Items::no_items, crate::proofs::Items::some_items, crate::proofs::Says::says))]
+fn insert_item(alloc: Global, r: usize, z: i64, v: &Val, world: &mut World) -> Result<Answer, NoMem>
+    ensures { IfOk result (λ a. Answers (meaning.with_list r (λ vs. spec.insert_at r vs (value.Word z ∷ v.now ∷ []))) world.old world.new a) }
+{
+    match world.list_at(r) {
+        None => Ok(Answer::Bad),
+        Some(vs) => {
+            if z < 0 {
+                return Ok(negative_slice());
+            }
+            let items = inserted(alloc, vs, z as usize, v)?;
+            if world.pay(1) {
+                world.set_object(r, Object::list(items));
+                Ok(Answer::Gives(Val::nothing()))
+            } else {
+                Ok(Answer::Lacks)
+            }
+        }
     }
 }
 
-fn insert_at(alloc: Global, r: usize, args: &[Val], world: &mut World) -> Result<Answer, NoMem> {
-    match args {
-        [at, v] => match &at.form {
-            Form::Word(z) => insert_item(alloc, r, *z, v, world),
+#[tactic(auto, using(crate::proofs::Items::no_items, crate::proofs::Items::some_items))]
+fn insert_at(alloc: Global, r: usize, args: &[Val], world: &mut World) -> Result<Answer, NoMem>
+    ensures { IfOk result (λ a. Answers (meaning.with_list r (λ vs. spec.insert_at r vs args.now)) world.old world.new a) }
+{
+    match world.list_at(r) {
+        None => Ok(Answer::Bad),
+        Some(_vs) => match args {
+            [at, v] => match &at.form {
+                Form::Word(z) => insert_item(alloc, r, *z, v, world),
+                _ => Ok(Answer::Bad),
+            },
             _ => Ok(Answer::Bad),
         },
-        _ => Ok(Answer::Bad),
     }
 }
 
+#[tactic(auto, using(crate::proofs::Items::no_items, crate::proofs::Items::some_items, crate::proofs::Says::says))]
 fn extend_by(
     alloc: Global,
     covers: Covers,
     r: usize,
     args: &[Val],
     world: &mut World,
-) -> Result<Answer, NoMem> {
-    match args {
-        [list] => match &list.form {
-            Form::Ref(s) => extend(alloc, r, *s, Val::nothing(), world),
-            Form::Nothing => Ok(attribute_error(covers)),
+) -> Result<Answer, NoMem>
+    ensures { IfOk result (λ a. Answers (meaning.with_list r (λ vs. spec.extend_by covers r vs args.now)) world.old world.new a) }
+{
+    match world.list_at(r) {
+        None => Ok(Answer::Bad),
+        Some(_vs) => match args {
+            [list] => match &list.form {
+                Form::Ref(s) => extend(alloc, r, *s, Val::nothing(), world),
+                Form::Nothing => Ok(attribute_error(covers)),
+                _ => Ok(Answer::Bad),
+            },
             _ => Ok(Answer::Bad),
         },
-        _ => Ok(Answer::Bad),
     }
 }
 
-fn reversed(alloc: Global, vs: &[Val]) -> Result<Seq<Val>, NoMem> {
+fn reversed(alloc: Global, vs: &[Val]) -> Result<Seq<Val>, NoMem>
+    ensures { IfOk result (λ v. v ≡ reverse vs.now) }
+{
     let mut items = Seq::new(alloc);
     let mut rest = vs;
     while let [before @ .., last] = rest {
@@ -113,27 +151,33 @@ fn reversed(alloc: Global, vs: &[Val]) -> Result<Seq<Val>, NoMem> {
     Ok(items)
 }
 
-fn reverse(alloc: Global, r: usize, args: &[Val], world: &mut World) -> Result<Answer, NoMem> {
-    match args {
-        [] => match world.list_at(r) {
-            None => Ok(Answer::Bad),
-            Some(vs) => {
+#[tactic(auto, using(crate::proofs::Items::no_items, crate::proofs::Items::some_items))]
+fn reverse(alloc: Global, r: usize, args: &[Val], world: &mut World) -> Result<Answer, NoMem>
+    ensures { IfOk result (λ a. Answers (meaning.with_list r (λ vs. spec.reverse_list r vs args.now)) world.old world.new a) }
+{
+    match world.list_at(r) {
+        None => Ok(Answer::Bad),
+        Some(vs) => match args {
+            [] => {
                 let items = reversed(alloc, vs)?;
                 world.set_object(r, Object::list(items));
                 Ok(Answer::Gives(Val::nothing()))
             }
+            _ => Ok(Answer::Bad),
         },
-        _ => Ok(Answer::Bad),
     }
 }
 
+#[tactic(auto, using(crate::proofs::Items::no_items, crate::proofs::Items::some_items, crate::proofs::Says::says))]
 fn taken_out(
     alloc: Global,
     covers: Covers,
     r: usize,
     z: i64,
     world: &mut World,
-) -> Result<Answer, NoMem> {
+) -> Result<Answer, NoMem>
+    ensures { IfOk result (λ a. Answers (meaning.with_list r (λ vs. spec.taken_out covers r vs z)) world.old world.new a) }
+{
     match world.list_at(r) {
         None => Ok(Answer::Bad),
         Some(vs) => match place(z, vs.len()) {
@@ -151,20 +195,26 @@ fn taken_out(
     }
 }
 
+#[tactic(auto, using(crate::proofs::Items::no_items, crate::proofs::Items::some_items))]
 fn pop(
     alloc: Global,
     covers: Covers,
     r: usize,
     args: &[Val],
     world: &mut World,
-) -> Result<Answer, NoMem> {
-    match args {
-        [] => taken_out(alloc, covers, r, -1, world),
-        [at] => match &at.form {
-            Form::Word(z) => taken_out(alloc, covers, r, *z, world),
+) -> Result<Answer, NoMem>
+    ensures { IfOk result (λ a. Answers (meaning.with_list r (λ vs. spec.pop covers r vs args.now)) world.old world.new a) }
+{
+    match world.list_at(r) {
+        None => Ok(Answer::Bad),
+        Some(_vs) => match args {
+            [] => taken_out(alloc, covers, r, -1, world),
+            [at] => match &at.form {
+                Form::Word(z) => taken_out(alloc, covers, r, *z, world),
+                _ => Ok(Answer::Bad),
+            },
             _ => Ok(Answer::Bad),
         },
-        _ => Ok(Answer::Bad),
     }
 }
 
@@ -176,7 +226,9 @@ pub fn list_method(
     r: usize,
     args: &[Val],
     world: &mut World,
-) -> Result<Answer, NoMem> {
+) -> Result<Answer, NoMem>
+    ensures { IfOk result (λ a. Answers (meaning.with_list r (λ vs. meaning.if_some meaning.bad (named name.now (spec.list_methods covers)) (λ f. f r vs args.now))) world.old world.new a) }
+{
     if name == b"append".as_slice() {
         append(alloc, r, args, world)
     } else if name == b"insert".as_slice() {
@@ -194,22 +246,28 @@ pub fn list_method(
 
 // ---- dicts
 
-fn get(alloc: Global, pairs: &[(Val, Val)], args: &[Val]) -> Result<Answer, NoMem> {
-    match args {
-        [key] => match value_at(key, pairs) {
-            None => Ok(Answer::Gives(Val::nothing())),
-            Some(v) => give(alloc, v),
-        },
-        [key, other] => match value_at(key, pairs) {
-            None => give(alloc, other),
-            Some(v) => give(alloc, v),
-        },
-        _ => Ok(Answer::Bad),
+fn value_or_nothing(alloc: Global, key: &Val, pairs: &[(Val, Val)]) -> Result<Answer, NoMem>
+    ensures { IfOk result (λ a. Always (spec.get pairs.now (key.now ∷ [])) a) }
+{
+    match value_at(key, pairs) {
+        None => Ok(Answer::Gives(Val::nothing())),
+        Some(v) => give(alloc, v),
     }
 }
 
-/// The keys of a dict.
-pub fn keys_of(alloc: Global, pairs: &[(Val, Val)]) -> Result<Seq<Val>, NoMem> {
+fn value_or(alloc: Global, key: &Val, other: &Val, pairs: &[(Val, Val)]) -> Result<Answer, NoMem>
+    ensures { IfOk result (λ a. Always (spec.get pairs.now (key.now ∷ other.now ∷ [])) a) }
+{
+    match value_at(key, pairs) {
+        None => give(alloc, other),
+        Some(v) => give(alloc, v),
+    }
+}
+
+// The keys of a dict.
+fn keys_of(alloc: Global, pairs: &[(Val, Val)]) -> Result<Seq<Val>, NoMem>
+    ensures { IfOk result (λ v. v ≡ walks.keys_of pairs.now) }
+{
     let mut keys = Seq::new(alloc);
     for pair in pairs {
         keys.push(copy_value(alloc, &pair.0)?)?;
@@ -217,7 +275,9 @@ pub fn keys_of(alloc: Global, pairs: &[(Val, Val)]) -> Result<Seq<Val>, NoMem> {
     Ok(keys)
 }
 
-fn values_of(alloc: Global, pairs: &[(Val, Val)]) -> Result<Seq<Val>, NoMem> {
+fn values_of(alloc: Global, pairs: &[(Val, Val)]) -> Result<Seq<Val>, NoMem>
+    ensures { IfOk result (λ v. v ≡ map (λ p. p.1) pairs.now) }
+{
     let mut values = Seq::new(alloc);
     for pair in pairs {
         values.push(copy_value(alloc, &pair.1)?)?;
@@ -225,14 +285,18 @@ fn values_of(alloc: Global, pairs: &[(Val, Val)]) -> Result<Seq<Val>, NoMem> {
     Ok(values)
 }
 
-fn pair_value(alloc: Global, pair: &(Val, Val)) -> Result<Val, NoMem> {
+fn pair_value(alloc: Global, pair: &(Val, Val)) -> Result<Val, NoMem>
+    ensures { IfOk result (λ v. v ≡ sequences.tuple (pair.now.0 ∷ pair.now.1 ∷ [])) }
+{
     let mut items = Seq::new(alloc);
     items.push(copy_value(alloc, &pair.0)?)?;
     items.push(copy_value(alloc, &pair.1)?)?;
     Ok(Val::tuple(items))
 }
 
-fn items_of(alloc: Global, pairs: &[(Val, Val)]) -> Result<Seq<Val>, NoMem> {
+fn items_of(alloc: Global, pairs: &[(Val, Val)]) -> Result<Seq<Val>, NoMem>
+    ensures { IfOk result (λ v. v ≡ map (λ p. sequences.tuple (p.0 ∷ p.1 ∷ [])) pairs.now) }
+{
     let mut items = Seq::new(alloc);
     for pair in pairs {
         items.push(pair_value(alloc, pair)?)?;
@@ -240,12 +304,103 @@ fn items_of(alloc: Global, pairs: &[(Val, Val)]) -> Result<Seq<Val>, NoMem> {
     Ok(items)
 }
 
-/// A new list for a cost.
-pub fn list_for(cost: u64, items: Seq<Val>, world: &mut World) -> Result<Answer, NoMem> {
-    if world.pay(cost) {
+// A new list for a cost.
+fn list_for(price: u64, items: Seq<Val>, world: &mut World) -> Result<Answer, NoMem>
+    ensures { IfOk result (λ a. Answers (meaning.paying price (meaning.new_object (value.Listed items))) world.old world.new a) }
+{
+    if world.pay(price) {
         new_object(Object::list(items), world)
     } else {
         Ok(Answer::Lacks)
+    }
+}
+
+// The pairs of the dict that is an object.
+fn pairs_at(world: &World, r: usize) -> Option<&[(Val, Val)]>
+    ensures { option_copied result ≡ pairs_in (slice_get world.now.heap r) }
+{
+    match world.object(r) {
+        None => None,
+        Some(object) => match &object.shape {
+            Shape::Dict(pairs) => Some(pairs.as_slice()),
+            _ => None,
+        },
+    }
+}
+
+#[tactic(auto, using(crate::proofs::Items::no_pairs, crate::proofs::Items::some_pairs, crate::proofs::Says::says))]
+fn get(alloc: Global, r: usize, args: &[Val], world: &World) -> Result<Answer, NoMem>
+    ensures { IfOk result (λ a. Answers (own.with_dict r (λ pairs. spec.get pairs args.now)) world.now world.now a) }
+{
+    match pairs_at(world, r) {
+        None => Ok(Answer::Bad),
+        Some(pairs) => match args {
+            [key] => value_or_nothing(alloc, key, pairs),
+            [key, other] => value_or(alloc, key, other, pairs),
+            _ => Ok(Answer::Bad),
+        },
+    }
+}
+
+/// A new list of the keys of a dict.
+#[tactic(auto, using(crate::proofs::Items::no_pairs, crate::proofs::Items::some_pairs))]
+pub fn new_keys(alloc: Global, r: usize, world: &mut World) -> Result<Answer, NoMem>
+    ensures { IfOk result (λ a. Answers (own.with_dict r (λ pairs. meaning.paying (cost.keys_cost (length pairs)) (meaning.new_object (value.Listed (walks.keys_of pairs))))) world.old world.new a) }
+{
+    match pairs_at(world, r) {
+        None => Ok(Answer::Bad),
+        Some(pairs) => {
+            let cost = pairs.len() as u64 + 1;
+            let keys = keys_of(alloc, pairs)?;
+            list_for(cost, keys, world)
+        }
+    }
+}
+
+#[tactic(auto, using(crate::proofs::Items::no_pairs, crate::proofs::Items::some_pairs))]
+fn keys(alloc: Global, r: usize, args: &[Val], world: &mut World) -> Result<Answer, NoMem>
+    ensures { IfOk result (λ a. Answers (own.with_dict r (λ pairs. spec.keys pairs args.now)) world.old world.new a) }
+{
+    match pairs_at(world, r) {
+        None => Ok(Answer::Bad),
+        Some(_pairs) => match args {
+            [] => new_keys(alloc, r, world),
+            _ => Ok(Answer::Bad),
+        },
+    }
+}
+
+#[tactic(auto, using(crate::proofs::Items::no_pairs, crate::proofs::Items::some_pairs))]
+fn values(alloc: Global, r: usize, args: &[Val], world: &mut World) -> Result<Answer, NoMem>
+    ensures { IfOk result (λ a. Answers (own.with_dict r (λ pairs. spec.values pairs args.now)) world.old world.new a) }
+{
+    match pairs_at(world, r) {
+        None => Ok(Answer::Bad),
+        Some(pairs) => match args {
+            [] => {
+                let cost = pairs.len() as u64 + 1;
+                let values = values_of(alloc, pairs)?;
+                list_for(cost, values, world)
+            }
+            _ => Ok(Answer::Bad),
+        },
+    }
+}
+
+#[tactic(auto, using(crate::proofs::Items::no_pairs, crate::proofs::Items::some_pairs))]
+fn items(alloc: Global, r: usize, args: &[Val], world: &mut World) -> Result<Answer, NoMem>
+    ensures { IfOk result (λ a. Answers (own.with_dict r (λ pairs. spec.items pairs args.now)) world.old world.new a) }
+{
+    match pairs_at(world, r) {
+        None => Ok(Answer::Bad),
+        Some(pairs) => match args {
+            [] => {
+                let cost = 2 * pairs.len() as u64 + 1;
+                let items = items_of(alloc, pairs)?;
+                list_for(cost, items, world)
+            }
+            _ => Ok(Answer::Bad),
+        },
     }
 }
 
@@ -256,31 +411,17 @@ pub fn dict_method(
     r: usize,
     args: &[Val],
     world: &mut World,
-) -> Result<Answer, NoMem> {
-    let Some(object) = world.object(r) else {
-        return Ok(Answer::Bad);
-    };
-    let pairs = match &object.shape {
-        Shape::Dict(pairs) => pairs.as_slice(),
-        _ => return Ok(Answer::Bad),
-    };
+) -> Result<Answer, NoMem>
+    ensures { IfOk result (λ a. Answers (own.with_dict r (λ pairs. meaning.if_some meaning.bad (named name.now spec.dict_methods) (λ f. f pairs args.now))) world.old world.new a) }
+{
     if name == b"get".as_slice() {
-        return get(alloc, pairs, args);
-    }
-    if !args.is_empty() {
-        return Ok(Answer::Bad);
-    }
-    let cost = pairs.len() as u64 + 1;
-    if name == b"keys".as_slice() || name == b"iterkeys".as_slice() {
-        let keys = keys_of(alloc, pairs)?;
-        list_for(cost, keys, world)
+        get(alloc, r, args, world)
+    } else if name == b"keys".as_slice() || name == b"iterkeys".as_slice() {
+        keys(alloc, r, args, world)
     } else if name == b"values".as_slice() || name == b"itervalues".as_slice() {
-        let values = values_of(alloc, pairs)?;
-        list_for(cost, values, world)
+        values(alloc, r, args, world)
     } else if name == b"items".as_slice() || name == b"iteritems".as_slice() {
-        let cost = cost + pairs.len() as u64;
-        let items = items_of(alloc, pairs)?;
-        list_for(cost, items, world)
+        items(alloc, r, args, world)
     } else {
         Ok(Answer::Bad)
     }
@@ -288,23 +429,41 @@ pub fn dict_method(
 
 // ---- lengths
 
-fn length(length: usize) -> Answer {
-    word(length as i64)
+fn length(count: usize) -> Result<Answer, NoMem>
+    ensures { IfOk result (λ a. Always (meaning.give (value.Word (pos count))) a) }
+{
+    Ok(word(word_of(count)?))
 }
 
-pub fn len(covers: Covers, x: &Val, world: &World) -> Answer {
+#[tactic(auto, using(crate::proofs::Tuples::len_is))]
+fn tuple_length(covers: Covers, vs: &[Val]) -> Result<Answer, NoMem>
+    ensures { IfOk result (λ a. Always (spec.len covers (sequences.tuple vs.now)) a) }
+{
+    length(vs.len())
+}
+
+fn object_length(object: &Object) -> Result<Answer, NoMem>
+    ensures { IfOk result (λ a. Always (spec.object_length (Some object.now)) a) }
+{
+    match &object.shape {
+        Shape::List(vs) => length(vs.as_slice().len()),
+        Shape::Dict(pairs) => length(pairs.as_slice().len()),
+        Shape::Instance(_, _) => Ok(Answer::Bad),
+    }
+}
+
+#[tactic(auto, using(crate::proofs::Says::says))]
+pub fn len(covers: Covers, x: &Val, world: &World) -> Result<Answer, NoMem>
+    ensures { IfOk result (λ a. Answers (spec.len covers x.now) world.now world.now a) }
+{
     match &x.form {
         Form::Text(text) => length(text.bytes().len()),
-        Form::Tuple(vs) => length(vs.as_slice().len()),
+        Form::Tuple(vs) => tuple_length(covers, vs.as_slice()),
         Form::Ref(r) => match world.object(*r) {
-            None => Answer::Bad,
-            Some(object) => match &object.shape {
-                Shape::List(vs) => length(vs.as_slice().len()),
-                Shape::Dict(pairs) => length(pairs.as_slice().len()),
-                Shape::Instance(_, _) => Answer::Bad,
-            },
+            None => Ok(Answer::Bad),
+            Some(object) => object_length(object),
         },
-        Form::Nothing => attribute_error(covers),
-        _ => Answer::Bad,
+        Form::Nothing => Ok(attribute_error(covers)),
+        _ => Ok(Answer::Bad),
     }
 }

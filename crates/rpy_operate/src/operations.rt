@@ -1,5 +1,13 @@
 // All operations.
-ghost use Rattle.std.specs.Prelude.{◌≡◌, IfOk};
+ghost use Rattle.std.specs.Prelude.{◌≡◌, [], ◌∷◌, false, IfOk};
+ghost use Rattle.rpy_tree.specs.Value as value;
+ghost use Rattle.rpy_meaning.specs.Arithmetic as arithmetic;
+ghost use Rattle.rpy_meaning.specs.Costs as cost;
+ghost use Rattle.rpy_meaning.specs.Operations as operations;
+ghost use Rattle.rpy_meaning.specs.World as meaning;
+ghost use Rattle.rpy_operate.specs.Answers.{Answers, Always};
+ghost use Rattle.rpy_operate.specs.Groups.{takes_any};
+ghost use Rattle.rpy_operate.specs.Programs as programs;
 
 use crate::answer::{Answer, flag, new_list, new_object};
 use crate::arithmetic::{checked, checked_neg, greatest, least, unary, word};
@@ -21,7 +29,9 @@ use rpy_resolved::Resolved;
 use rpy_value::{Form, Object, Val, World, copy_values};
 use std::alloc::Global;
 
-fn empty_for_one(object: Object, world: &mut World) -> Result<Answer, NoMem> {
+fn empty_for_one(object: Object, world: &mut World) -> Result<Answer, NoMem>
+    ensures { IfOk result (λ a. Answers (meaning.paying 1 (meaning.new_object object)) world.old world.new a) }
+{
     if world.pay(1) {
         new_object(object, world)
     } else {
@@ -29,7 +39,9 @@ fn empty_for_one(object: Object, world: &mut World) -> Result<Answer, NoMem> {
     }
 }
 
-fn turn(world: &mut World) -> Answer {
+fn turn(world: &mut World) -> Answer
+    ensures { Answers (meaning.paying cost.turn_cost (meaning.give value.Nothing)) world.old world.new result }
+{
     if world.pay(1) {
         Answer::Gives(Val::nothing())
     } else {
@@ -37,12 +49,17 @@ fn turn(world: &mut World) -> Answer {
     }
 }
 
+#[tactic(auto, using(crate::proofs::Says::says))]
 fn without_operands(
     alloc: Global,
     program: &Resolved,
+    covers: Covers,
     op: &RowOp,
     world: &mut World,
-) -> Result<Answer, NoMem> {
+) -> Result<Answer, NoMem>
+    requires { takes_any op.now ≡ false }
+    ensures { IfOk result (λ a. Answers (operations.op (programs.program_of program.now) covers op.now []) world.old world.new a) }
+{
     match op {
         RowOp::Word(z) => Ok(word(*z)),
         RowOp::Str(text) => Ok(Answer::Gives(Val::text(text.copy(alloc)?))),
@@ -60,7 +77,9 @@ fn without_operands(
     }
 }
 
-fn intmask(x: &Val) -> Answer {
+fn intmask(x: &Val) -> Answer
+    ensures { Always (arithmetic.on_word (λ z. meaning.give (value.Word z)) x.now) result }
+{
     match &x.form {
         Form::Word(z) => word(*z),
         _ => Answer::Bad,
@@ -68,7 +87,10 @@ fn intmask(x: &Val) -> Answer {
 }
 
 // The item at a place of a tuple of so many.
-fn unpack(alloc: Global, count: u32, place: u32, x: &Val) -> Result<Answer, NoMem> {
+#[tactic(auto, using(crate::proofs::Items::items_again))]
+fn unpack(alloc: Global, count: u32, place: u32, x: &Val) -> Result<Answer, NoMem>
+    ensures { IfOk result (λ a. Always (operations.unpack count place x.now) a) }
+{
     match &x.form {
         Form::Tuple(vs) => {
             if vs.as_slice().len() != count as usize {
@@ -83,6 +105,7 @@ fn unpack(alloc: Global, count: u32, place: u32, x: &Val) -> Result<Answer, NoMe
     }
 }
 
+#[tactic(auto, using(crate::proofs::Says::says))]
 fn on_one(
     alloc: Global,
     program: &Resolved,
@@ -90,7 +113,10 @@ fn on_one(
     op: &RowOp,
     x: &Val,
     world: &mut World,
-) -> Result<Answer, NoMem> {
+) -> Result<Answer, NoMem>
+    requires { takes_any op.now ≡ false }
+    ensures { IfOk result (λ a. Answers (operations.op (programs.program_of program.now) covers op.now (x.now ∷ [])) world.old world.new a) }
+{
     match op {
         RowOp::Copy | RowOp::DropNone | RowOp::OnlyNone | RowOp::FalseNone | RowOp::Lower(_) =>
             give(alloc, x),
@@ -99,15 +125,15 @@ fn on_one(
         RowOp::Not => Ok(is_not_true(x, world)),
         RowOp::Truth => Ok(is_true(x, world)),
         RowOp::Intmask => Ok(intmask(x)),
-        RowOp::Len => Ok(len(covers, x, world)),
+        RowOp::Len => len(covers, x, world),
         RowOp::Ord => Ok(ord(x)),
         RowOp::Chr => chr(alloc, covers, x),
         RowOp::ToStr => to_text(alloc, x, world),
         RowOp::ToInt => Ok(to_word(x)),
-        RowOp::IsInstance(d) => Ok(is_instance(program.classes.as_slice(), *d, x, world)),
-        RowOp::Attr(name) => attribute(alloc, covers, name.bytes(), x, world),
+        RowOp::IsInstance(d) => Ok(is_instance(program, covers, *d, x, world)),
+        RowOp::Attr(name) => attribute(alloc, program, covers, name.bytes(), x, world),
         RowOp::AllButLast(_) => all_but_last(alloc, covers, x, world),
-        RowOp::Raise => Ok(raise(program.classes.as_slice(), covers, x, world)),
+        RowOp::Raise => Ok(raise(program, covers, x, world)),
         RowOp::Walk(_) => walk(alloc, covers, x, world),
         RowOp::Unpack(count, place) => unpack(alloc, *count, *place, x),
         _ => Ok(Answer::Bad),
@@ -115,21 +141,28 @@ fn on_one(
 }
 
 // What a comprehension adds to its list.
-fn add_item(alloc: Global, x: &Val, v: &Val, world: &mut World) -> Result<Answer, NoMem> {
+fn add_item(alloc: Global, x: &Val, v: &Val, world: &mut World) -> Result<Answer, NoMem>
+    ensures { IfOk result (λ a. Answers (operations.add_item x.now v.now) world.old world.new a) }
+{
     match &x.form {
-        Form::Ref(r) => add_last(alloc, *r, v, 1, world),
+        Form::Ref(r) => add_last(alloc, *r, v, world),
         _ => Ok(Answer::Bad),
     }
 }
 
+#[tactic(auto, using(crate::proofs::Says::says))]
 fn on_two(
     alloc: Global,
+    program: &Resolved,
     covers: Covers,
     op: &RowOp,
     x: &Val,
     y: &Val,
     world: &mut World,
-) -> Result<Answer, NoMem> {
+) -> Result<Answer, NoMem>
+    requires { takes_any op.now ≡ false }
+    ensures { IfOk result (λ a. Answers (operations.op (programs.program_of program.now) covers op.now (x.now ∷ y.now ∷ [])) world.old world.new a) }
+{
     match op {
         RowOp::Binary(f, _) => binary(alloc, covers, *f, x, y, world),
         RowOp::AddTo => add_to(alloc, covers, x, y, world),
@@ -140,7 +173,7 @@ fn on_two(
         RowOp::Write => os_write(x, y, world),
         RowOp::Index(_) => index(alloc, covers, x, y, world),
         RowOp::DeleteIndex => delete_index(alloc, covers, x, y, world),
-        RowOp::StoreAttr(name) => store_attribute(alloc, covers, name, x, y, world),
+        RowOp::StoreAttr(name) => store_attribute(alloc, program, covers, name, x, y, world),
         RowOp::AddItem => add_item(alloc, x, y, world),
         RowOp::HasItem(step) => Ok(has_item(*step, x, y, world)),
         RowOp::Item(step) => item(alloc, *step, x, y, world),
@@ -150,22 +183,28 @@ fn on_two(
     }
 }
 
+#[tactic(auto, using(crate::proofs::Says::says))]
 fn on_three(
     alloc: Global,
+    program: &Resolved,
     covers: Covers,
     op: &RowOp,
-    operands: (&Val, &Val, &Val),
+    x: &Val,
+    y: &Val,
+    z: &Val,
     world: &mut World,
-) -> Result<Answer, NoMem> {
+) -> Result<Answer, NoMem>
+    requires { takes_any op.now ≡ false }
+    ensures { IfOk result (λ a. Answers (operations.op (programs.program_of program.now) covers op.now (x.now ∷ y.now ∷ z.now ∷ [])) world.old world.new a) }
+{
     match op {
-        RowOp::StoreIndex => {
-            store_index(alloc, covers, operands.0, operands.1, operands.2, world)
-        }
+        RowOp::StoreIndex => store_index(alloc, covers, x, y, z, world),
         _ => Ok(Answer::Bad),
     }
 }
 
 // Operations on a number of operands that each fixes.
+#[tactic(auto, using(crate::proofs::Says::says))]
 fn on_some(
     alloc: Global,
     program: &Resolved,
@@ -173,17 +212,21 @@ fn on_some(
     op: &RowOp,
     operands: &[Val],
     world: &mut World,
-) -> Result<Answer, NoMem> {
+) -> Result<Answer, NoMem>
+    requires { takes_any op.now ≡ false }
+    ensures { IfOk result (λ a. Answers (operations.op (programs.program_of program.now) covers op.now operands.now) world.old world.new a) }
+{
     match operands {
-        [] => without_operands(alloc, program, op, world),
+        [] => without_operands(alloc, program, covers, op, world),
         [x] => on_one(alloc, program, covers, op, x, world),
-        [x, y] => on_two(alloc, covers, op, x, y, world),
-        [x, y, z] => on_three(alloc, covers, op, (x, y, z), world),
+        [x, y] => on_two(alloc, program, covers, op, x, y, world),
+        [x, y, z] => on_three(alloc, program, covers, op, x, y, z, world),
         _ => Ok(Answer::Bad),
     }
 }
 
 /// What an operation does with its operands, in a program and where these classes are covered.
+#[tactic(auto, using(crate::proofs::Says::says))]
 pub fn operate(
     alloc: Global,
     program: &Resolved,
@@ -191,19 +234,18 @@ pub fn operate(
     op: &RowOp,
     operands: &[Val],
     world: &mut World,
-) -> Result<Answer, NoMem> {
+) -> Result<Answer, NoMem>
+    ensures { IfOk result (λ a. Answers (operations.op (programs.program_of program.now) covers op.now operands.now) world.old world.new a) }
+{
     match op {
         RowOp::Slice(_, low, high) => slice(alloc, covers, *low, *high, operands, world),
         RowOp::Tuple => new_tuple(alloc, operands, world),
         RowOp::List(_) => new_list(copy_values(alloc, operands)?, world),
-        RowOp::Call(f) => enter(alloc, *f, operands),
-        RowOp::CallOf(_, f) => enter(alloc, *f, operands),
-        RowOp::CallValue => call_value(alloc, covers, operands),
-        RowOp::New(d) => new(alloc, program, *d, operands, world),
-        RowOp::Method(name, _) => {
-            let classes = program.classes.as_slice();
-            method(alloc, classes, covers, name.bytes(), operands, world)
-        }
+        RowOp::Call(f) => enter(alloc, program, covers, *f, operands),
+        RowOp::CallOf(_, f) => enter(alloc, program, covers, *f, operands),
+        RowOp::CallValue => call_value(alloc, program, covers, operands),
+        RowOp::New(d) => new(alloc, program, covers, *d, operands, world),
+        RowOp::Method(name, _) => method(alloc, program, covers, name.bytes(), operands, world),
         RowOp::Print => print_values(alloc, operands, world),
         _ => on_some(alloc, program, covers, op, operands, world),
     }

@@ -1,16 +1,36 @@
 // Places in sequences, and keys of dicts.
-ghost use Rattle.std.specs.Prelude.{◌≡◌, ◌++◌, ◌<◌, length, remove, IfOk, OnOk};
+ghost use Rattle.std.specs.Prelude.{◌≡◌, ◌++◌, ◌<◌, length, take, drop, remove, IfSome, IfOk, OnOk};
 ghost use Rattle.std.specs.Option.{option_copied};
 ghost use Rattle.rpy_meaning.specs.Sequences as spec;
+ghost use Rattle.rpy_operate.specs.Places as own;
 
 use crate::compare::is_equal;
 use rpy_base::{NoMem, Seq, Text};
 use rpy_value::{Val, copy_value, copy_values};
 use std::alloc::Global;
 
+/// The first items of a sequence, or all of them.
+pub fn taken<T>(xs: &[T], n: usize) -> &[T]
+    ensures { result.now ≡ take n xs.now }
+{
+    if n < xs.len() { &xs[..n] } else { xs }
+}
+
+/// The items but for the first, or none.
+pub fn dropped<T>(xs: &[T], n: usize) -> &[T]
+    ensures { result.now ≡ drop n xs.now }
+{
+    if n < xs.len() {
+        &xs[n..]
+    } else {
+        &xs[xs.len()..]
+    }
+}
+
 /// The place that a number names in a sequence of so many items, if it names one.
 pub fn place(z: i64, length: usize) -> Option<usize>
-    ensures { result ≡ spec.place z length }
+    ensures is { result ≡ spec.place z length }
+    ensures within { IfSome result (λ at. at < length) }
 {
     if 0 <= z {
         let from_start = z as usize;
@@ -98,13 +118,17 @@ pub fn value_at<'a>(key: &Val, pairs: &'a [(Val, Val)]) -> Option<&'a Val>
 }
 
 // The place of a key, or where it would be put.
-fn key_place(key: &Val, pairs: &[(Val, Val)]) -> usize {
+fn key_place(key: &Val, pairs: &[(Val, Val)]) -> usize
+    ensures { result ≡ own.key_place key.now pairs.now }
+{
     let mut at = 0;
-    for pair in pairs {
+    let mut rest = pairs;
+    while let [pair, after @ ..] = rest {
         if is_equal(&pair.0, key) {
             return at;
         }
         at += 1;
+        rest = after;
     }
     at
 }
@@ -118,25 +142,27 @@ pub fn copy_pair(alloc: Global, pair: &(Val, Val)) -> Result<(Val, Val), NoMem>
 }
 
 /// A key has this value from then on: it keeps its place, and a new one goes last.
+#[tactic(auto, using(crate::proofs::Placed::put_there, crate::proofs::Placed::put_last))]
 pub fn put_key(
     alloc: Global,
     pairs: &mut Seq<(Val, Val)>,
     key: Val,
     value: Val,
-) -> Result<(), NoMem> {
+) -> Result<(), NoMem>
+    ensures { OnOk result (pairs.new ≡ spec.with_key key value pairs.old) }
+{
     let at = key_place(&key, pairs.as_slice());
     match pairs.get(at) {
         None => {
             pairs.push((key, value))?;
+            Ok(())
         }
         Some(pair) => {
             let kept = copy_value(alloc, &pair.0)?;
-            if at < pairs.as_slice().len() {
-                pairs.set(at, (kept, value));
-            }
+            pairs.set(at, (kept, value));
+            Ok(())
         }
     }
-    Ok(())
 }
 
 fn append_pairs(

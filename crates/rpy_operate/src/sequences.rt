@@ -1,17 +1,23 @@
 // Operations on strings, lists, dicts and tuples.
-ghost use Rattle.std.specs.Prelude.{◌≡◌, IfOk};
+ghost use Rattle.std.specs.Prelude.{◌≡◌, ◌++◌, ◌+◌, ◌*◌, ℕ, length, slice_set, if◌then◌else◌, IfOk, Some};
+ghost use Rattle.std.specs.List.{repeat};
+ghost use Rattle.rpy_tree.specs.Value as value;
 ghost use Rattle.rpy_meaning.specs.Sequences as spec;
+ghost use Rattle.rpy_meaning.specs.Costs as cost;
 ghost use Rattle.rpy_meaning.specs.World as meaning;
 ghost use Rattle.rpy_operate.specs.Answers.{Answers, Always};
+ghost use Rattle.rpy_operate.specs.Objects as own;
 
 use crate::answer::{
     Answer, attribute_error, index_error, negative_slice, new_list, new_text, no_key,
 };
-use crate::arithmetic::{arithmetic, on_words};
+use crate::arithmetic::{on_words, word};
 use crate::compare::has_key;
 use crate::places::{
-    append_copies, byte, byte_at, item_at, joined, place, put_key, removed, value_at, without_key,
+    append_copies, byte, byte_at, dropped, item_at, joined, place, put_key, removed, taken,
+    value_at, without_key,
 };
+use rpy_base::word::{wrap_add, wrap_mul};
 use rpy_base::{NoMem, Seq, Text};
 use rpy_meaning::Covers;
 use rpy_tree::BinOp;
@@ -56,8 +62,9 @@ fn list_index(alloc: Global, covers: Covers, z: i64, vs: &[Val]) -> Result<Answe
     }
 }
 
-fn tuple_index(alloc: Global, z: i64, vs: &[Val]) -> Result<Answer, NoMem>
-    ensures { IfOk result (λ a. Always (meaning.if_some meaning.bad (spec.item_at z vs.now) meaning.give) a) }
+#[tactic(auto, using(crate::proofs::Tuples::index_is))]
+fn tuple_index(alloc: Global, covers: Covers, z: i64, vs: &[Val]) -> Result<Answer, NoMem>
+    ensures { IfOk result (λ a. Always (spec.index covers (spec.tuple vs.now) (value.Word z)) a) }
 {
     match item_at(z, vs) {
         None => Ok(Answer::Bad),
@@ -81,6 +88,7 @@ fn index_object(alloc: Global, covers: Covers, i: &Val, object: &Object) -> Resu
     }
 }
 
+#[tactic(auto, using(crate::proofs::Says::says))]
 pub fn index(
     alloc: Global,
     covers: Covers,
@@ -100,7 +108,7 @@ pub fn index(
             Some(object) => index_object(alloc, covers, i, object),
         },
         Form::Tuple(vs) => match &i.form {
-            Form::Word(z) => tuple_index(alloc, *z, vs.as_slice()),
+            Form::Word(z) => tuple_index(alloc, covers, *z, vs.as_slice()),
             _ => Ok(Answer::Bad),
         },
         Form::Nothing => Ok(attribute_error(covers)),
@@ -108,36 +116,50 @@ pub fn index(
     }
 }
 
+#[tactic(auto, using(std::proofs::lemmas::List::set_past))]
+fn with_item(items: Seq<Val>, at: usize, item: Val) -> Seq<Val>
+    ensures { result ≡ slice_set items at item }
+{
+    let mut items = items;
+    if at < items.as_slice().len() {
+        items.set(at, item);
+    }
+    items
+}
+
 // Stores an item of a list.
+#[tactic(auto, using(crate::proofs::Items::no_items, crate::proofs::Heap::put_again))]
 fn store_item(
     alloc: Global,
     r: usize,
     at: usize,
     v: &Val,
     world: &mut World,
-) -> Result<Answer, NoMem> {
+) -> Result<Answer, NoMem>
+    ensures { IfOk result (λ a. Answers (meaning.with_list r (λ vs. meaning.set_object r (value.Listed (slice_set vs at v.now)) v.now)) world.old world.new a) }
+{
     let item = copy_value(alloc, v)?;
     let given = copy_value(alloc, v)?;
     match world.take_list(alloc, r) {
         None => Ok(Answer::Bad),
-        Some(mut items) => {
-            if at < items.as_slice().len() {
-                items.set(at, item);
-            }
-            world.set_object(r, Object::list(items));
+        Some(items) => {
+            world.set_object(r, Object::list(with_item(items, at, item)));
             Ok(Answer::Gives(given))
         }
     }
 }
 
 // Stores the value of a key.
+#[tactic(auto, using(crate::proofs::Items::no_pairs, crate::proofs::Heap::put_again))]
 fn store_key(
     alloc: Global,
     r: usize,
     key: &Val,
     v: &Val,
     world: &mut World,
-) -> Result<Answer, NoMem> {
+) -> Result<Answer, NoMem>
+    ensures { IfOk result (λ a. Answers (own.with_dict r (λ pairs. meaning.set_object r (value.Mapped (spec.with_key key.now v.now pairs)) v.now)) world.old world.new a) }
+{
     let given = copy_value(alloc, v)?;
     match world.take_dict(alloc, r) {
         None => Ok(Answer::Bad),
@@ -154,10 +176,13 @@ fn store_key(
     }
 }
 
-fn key_cost(key: &Val, pairs: &[(Val, Val)]) -> u64 {
+fn key_cost(key: &Val, pairs: &[(Val, Val)]) -> u64
+    ensures { result ≡ (if spec.has_key key.now pairs.now then 0 else cost.key_cost) }
+{
     if has_key(key, pairs) { 0 } else { 1 }
 }
 
+#[tactic(auto, using(crate::proofs::Says::says))]
 fn store_object(
     alloc: Global,
     covers: Covers,
@@ -165,7 +190,9 @@ fn store_object(
     i: &Val,
     v: &Val,
     world: &mut World,
-) -> Result<Answer, NoMem> {
+) -> Result<Answer, NoMem>
+    ensures { IfOk result (λ a. Answers (meaning.at_object r (spec.store_object covers r i.now v.now)) world.old world.new a) }
+{
     match world.object(r) {
         None => Ok(Answer::Bad),
         Some(object) => match &object.shape {
@@ -189,6 +216,7 @@ fn store_object(
     }
 }
 
+#[tactic(auto, using(crate::proofs::Says::says))]
 pub fn store_index(
     alloc: Global,
     covers: Covers,
@@ -196,7 +224,9 @@ pub fn store_index(
     i: &Val,
     v: &Val,
     world: &mut World,
-) -> Result<Answer, NoMem> {
+) -> Result<Answer, NoMem>
+    ensures { IfOk result (λ a. Answers (spec.store_index covers x.now i.now v.now) world.old world.new a) }
+{
     match &x.form {
         Form::Ref(r) => store_object(alloc, covers, *r, i, v, world),
         Form::Nothing => Ok(attribute_error(covers)),
@@ -204,35 +234,27 @@ pub fn store_index(
     }
 }
 
-fn delete_item(alloc: Global, r: usize, at: usize, world: &mut World) -> Result<Answer, NoMem> {
-    match world.list_at(r) {
-        None => Ok(Answer::Bad),
-        Some(vs) => {
-            if at < vs.len() {
-                let items = removed(alloc, vs, at)?;
-                world.set_object(r, Object::list(items));
-                Ok(Answer::Gives(Val::nothing()))
-            } else {
-                Ok(Answer::Bad)
-            }
-        }
-    }
-}
-
+#[tactic(auto, using(crate::proofs::Says::says))]
 fn delete_object(
     alloc: Global,
     covers: Covers,
     r: usize,
     i: &Val,
     world: &mut World,
-) -> Result<Answer, NoMem> {
+) -> Result<Answer, NoMem>
+    ensures { IfOk result (λ a. Answers (meaning.at_object r (spec.delete_object covers r i.now)) world.old world.new a) }
+{
     match world.object(r) {
         None => Ok(Answer::Bad),
         Some(object) => match &object.shape {
             Shape::List(vs) => match &i.form {
                 Form::Word(z) => match place(*z, vs.as_slice().len()) {
                     None => Ok(index_error(covers)),
-                    Some(at) => delete_item(alloc, r, at, world),
+                    Some(at) => {
+                        let items = removed(alloc, vs.as_slice(), at)?;
+                        world.set_object(r, Object::list(items));
+                        Ok(Answer::Gives(Val::nothing()))
+                    }
                 },
                 _ => Ok(Answer::Bad),
             },
@@ -250,13 +272,16 @@ fn delete_object(
     }
 }
 
+#[tactic(auto, using(crate::proofs::Says::says))]
 pub fn delete_index(
     alloc: Global,
     covers: Covers,
     x: &Val,
     i: &Val,
     world: &mut World,
-) -> Result<Answer, NoMem> {
+) -> Result<Answer, NoMem>
+    ensures { IfOk result (λ a. Answers (spec.delete_index covers x.now i.now) world.old world.new a) }
+{
     match &x.form {
         Form::Ref(r) => delete_object(alloc, covers, *r, i, world),
         Form::Nothing => Ok(attribute_error(covers)),
@@ -275,63 +300,56 @@ fn is_bound(bound: Option<i64>) -> bool
     }
 }
 
-// A bound that is there, cut at the end.
-fn bound_or(bound: Option<i64>, none: usize, length: usize) -> usize {
-    match bound {
-        None => none,
-        Some(z) => {
-            let size = z.unsigned_abs();
-            if size < length as u64 {
-                size as usize
-            } else {
-                length
-            }
-        }
+fn before<T>(high: Option<i64>, xs: &[T]) -> &[T]
+    ensures { result.now ≡ spec.before high T xs.now }
+{
+    match high {
+        None => xs,
+        Some(z) => taken(xs, z.unsigned_abs() as usize),
     }
 }
 
-fn bytes_between(low: Option<i64>, high: Option<i64>, bytes: &[u8]) -> &[u8] {
-    let to = bound_or(high, bytes.len(), bytes.len());
-    let before = if to <= bytes.len() {
-        &bytes[..to]
-    } else {
-        bytes
-    };
-    let from = bound_or(low, 0, before.len());
-    if from <= before.len() {
-        &before[from..]
-    } else {
-        &[]
+fn after<T>(low: Option<i64>, xs: &[T]) -> &[T]
+    ensures { result.now ≡ spec.after low T xs.now }
+{
+    match low {
+        None => xs,
+        Some(z) => dropped(xs, z.unsigned_abs() as usize),
     }
 }
 
-fn items_between(low: Option<i64>, high: Option<i64>, vs: &[Val]) -> &[Val] {
-    let to = bound_or(high, vs.len(), vs.len());
-    let before = if to <= vs.len() { &vs[..to] } else { vs };
-    let from = bound_or(low, 0, before.len());
-    if from <= before.len() {
-        &before[from..]
-    } else {
-        &[]
-    }
+fn between<T>(low: Option<i64>, high: Option<i64>, xs: &[T]) -> &[T]
+    ensures { result.now ≡ spec.between low high T xs.now }
+{
+    after(low, before(high, xs))
 }
 
+fn but_last<T>(xs: &[T]) -> &[T]
+    ensures { result.now ≡ spec.but_last T xs.now }
+{
+    taken(xs, xs.len().saturating_sub(1))
+}
+
+#[tactic(auto, using(crate::proofs::Items::no_items, crate::proofs::Items::some_items))]
 fn list_between(
     alloc: Global,
     low: Option<i64>,
     high: Option<i64>,
     r: usize,
     world: &mut World,
-) -> Result<Answer, NoMem> {
+) -> Result<Answer, NoMem>
+    ensures { IfOk result (λ a. Answers (meaning.with_list r (λ vs. meaning.new_list (spec.between low high value.Value vs))) world.old world.new a) }
+{
     match world.list_at(r) {
         None => Ok(Answer::Bad),
         Some(vs) => {
-            let items = copy_values(alloc, items_between(low, high, vs))?;
+            let items = copy_values(alloc, between(low, high, vs))?;
             new_list(items, world)
         }
     }
 }
 
+#[tactic(auto, using(crate::proofs::Says::says))]
 fn part_between(
     alloc: Global,
     covers: Covers,
@@ -339,7 +357,9 @@ fn part_between(
     high: Option<i64>,
     x: &Val,
     world: &mut World,
-) -> Result<Answer, NoMem> {
+) -> Result<Answer, NoMem>
+    ensures { IfOk result (λ a. Answers (spec.part_between covers low high x.now) world.old world.new a) }
+{
     match &x.form {
         Form::Nothing => Ok(attribute_error(covers)),
         _ => {
@@ -348,7 +368,7 @@ fn part_between(
             }
             match &x.form {
                 Form::Text(bytes) => {
-                    let text = Text::from_bytes(alloc, bytes_between(low, high, bytes.bytes()))?;
+                    let text = Text::from_bytes(alloc, between(low, high, bytes.bytes()))?;
                     Ok(new_text(text, world))
                 }
                 Form::Ref(r) => list_between(alloc, low, high, *r, world),
@@ -358,7 +378,9 @@ fn part_between(
     }
 }
 
-fn word_in(v: &Val) -> Option<i64> {
+fn word_in(v: &Val) -> Option<i64>
+    ensures { result ≡ own.word_in v.now }
+{
     match &v.form {
         Form::Word(word) => Some(*word),
         _ => None,
@@ -366,6 +388,7 @@ fn word_in(v: &Val) -> Option<i64> {
 }
 
 /// A slice of a container, with the bounds that are there.
+#[tactic(auto, using(crate::proofs::Says::says))]
 pub fn slice(
     alloc: Global,
     covers: Covers,
@@ -373,7 +396,9 @@ pub fn slice(
     high: bool,
     operands: &[Val],
     world: &mut World,
-) -> Result<Answer, NoMem> {
+) -> Result<Answer, NoMem>
+    ensures { IfOk result (λ a. Answers (spec.slice covers low high operands.now) world.old world.new a) }
+{
     match operands {
         [x] => {
             if low || high {
@@ -410,30 +435,20 @@ pub fn slice(
     }
 }
 
-fn bytes_but_last(bytes: &[u8]) -> &[u8] {
-    match bytes {
-        [] => bytes,
-        [before @ .., _] => before,
-    }
-}
-
-fn items_but_last(vs: &[Val]) -> &[Val] {
-    match vs {
-        [] => vs,
-        [before @ .., _] => before,
-    }
-}
-
-fn list_but_last(alloc: Global, r: usize, world: &mut World) -> Result<Answer, NoMem> {
+#[tactic(auto, using(crate::proofs::Items::no_items, crate::proofs::Items::some_items))]
+fn list_but_last(alloc: Global, r: usize, world: &mut World) -> Result<Answer, NoMem>
+    ensures { IfOk result (λ a. Answers (meaning.with_list r (λ vs. meaning.new_list (spec.but_last value.Value vs))) world.old world.new a) }
+{
     match world.list_at(r) {
         None => Ok(Answer::Bad),
         Some(vs) => {
-            let items = copy_values(alloc, items_but_last(vs))?;
+            let items = copy_values(alloc, but_last(vs))?;
             new_list(items, world)
         }
     }
 }
 
+#[tactic(auto, using(crate::proofs::Says::says))]
 pub fn all_but_last(
     alloc: Global,
     covers: Covers,
@@ -444,7 +459,7 @@ pub fn all_but_last(
 {
     match &x.form {
         Form::Text(bytes) => {
-            let text = Text::from_bytes(alloc, bytes_but_last(bytes.bytes()))?;
+            let text = Text::from_bytes(alloc, but_last(bytes.bytes()))?;
             Ok(new_text(text, world))
         }
         Form::Ref(r) => list_but_last(alloc, *r, world),
@@ -455,13 +470,18 @@ pub fn all_but_last(
 
 // ---- sums and products
 
-fn joined_texts(alloc: Global, a: &Text, b: &Text) -> Result<Text, NoMem> {
+fn joined_texts(alloc: Global, a: &Text, b: &Text) -> Result<Text, NoMem>
+    ensures { IfOk result (λ v. v ≡ a.now ++ b.now) }
+{
     let mut text = a.copy(alloc)?;
     text.append(b.bytes())?;
     Ok(text)
 }
 
-fn joined_lists(alloc: Global, r: usize, s: usize, world: &mut World) -> Result<Answer, NoMem> {
+#[tactic(auto, using(crate::proofs::Items::no_items, crate::proofs::Items::some_items))]
+fn joined_lists(alloc: Global, r: usize, s: usize, world: &mut World) -> Result<Answer, NoMem>
+    ensures { IfOk result (λ a. Answers (meaning.with_list r (λ vs. meaning.with_list s (λ us. meaning.new_list (vs ++ us)))) world.old world.new a) }
+{
     match world.list_at(r) {
         None => Ok(Answer::Bad),
         Some(vs) => match world.list_at(s) {
@@ -474,13 +494,16 @@ fn joined_lists(alloc: Global, r: usize, s: usize, world: &mut World) -> Result<
     }
 }
 
+#[tactic(auto, using(crate::proofs::Says::says))]
 pub fn plus(
     alloc: Global,
     covers: Covers,
     x: &Val,
     y: &Val,
     world: &mut World,
-) -> Result<Answer, NoMem> {
+) -> Result<Answer, NoMem>
+    ensures { IfOk result (λ a. Answers (spec.plus covers x.now y.now) world.old world.new a) }
+{
     match &x.form {
         Form::Nothing => Ok(attribute_error(covers)),
         Form::Text(a) => match &y.form {
@@ -494,7 +517,7 @@ pub fn plus(
             _ => Ok(Answer::Bad),
         },
         Form::Word(a) => match &y.form {
-            Form::Word(b) => Ok(arithmetic(covers, BinOp::Add, *a, *b)),
+            Form::Word(b) => Ok(word(wrap_add(*a, *b))),
             Form::Nothing => Ok(attribute_error(covers)),
             _ => Ok(Answer::Bad),
         },
@@ -511,18 +534,9 @@ fn count(n: i64) -> u64
     if n < 0 { 0 } else { n as u64 }
 }
 
-// Pays for so many items, as often as a count says.
-fn pay_product(length: u64, count: u64, world: &mut World) -> bool {
-    match length.checked_mul(count) {
-        None => false,
-        Some(product) => match product.checked_add(1) {
-            None => false,
-            Some(cost) => world.pay(cost),
-        },
-    }
-}
-
-fn repeated_bytes(alloc: Global, bytes: &[u8], count: u64) -> Result<Text, NoMem> {
+fn repeated_bytes(alloc: Global, bytes: &[u8], count: u64) -> Result<Text, NoMem>
+    ensures { IfOk result (λ v. v ≡ repeat count bytes.now) }
+{
     let mut text = Text::new(alloc);
     if bytes.is_empty() {
         return Ok(text);
@@ -533,7 +547,9 @@ fn repeated_bytes(alloc: Global, bytes: &[u8], count: u64) -> Result<Text, NoMem
     Ok(text)
 }
 
-fn repeated_items(alloc: Global, vs: &[Val], count: u64) -> Result<Seq<Val>, NoMem> {
+fn repeated_items(alloc: Global, vs: &[Val], count: u64) -> Result<Seq<Val>, NoMem>
+    ensures { IfOk result (λ v. v ≡ repeat count vs.now) }
+{
     let mut items = Seq::new(alloc);
     if vs.is_empty() {
         return Ok(items);
@@ -549,20 +565,25 @@ fn repeated_text(
     bytes: &[u8],
     count: u64,
     world: &mut World,
-) -> Result<Answer, NoMem> {
-    if pay_product(bytes.len() as u64, count, world) {
+) -> Result<Answer, NoMem>
+    ensures { IfOk result (λ a. Answers (meaning.paying (cost.text_cost (length bytes.now * count)) (meaning.give (value.Text (repeat count bytes.now)))) world.old world.new a) }
+{
+    if world.pay_product(bytes.len() as u64, count) {
         Ok(Answer::Gives(Val::text(repeated_bytes(alloc, bytes, count)?)))
     } else {
         Ok(Answer::Lacks)
     }
 }
 
-fn repeated_list(alloc: Global, r: usize, count: u64, world: &mut World) -> Result<Answer, NoMem> {
+#[tactic(auto, using(crate::proofs::Items::no_items, crate::proofs::Items::some_items))]
+fn repeated_list(alloc: Global, r: usize, count: u64, world: &mut World) -> Result<Answer, NoMem>
+    ensures { IfOk result (λ a. Answers (meaning.with_list r (λ vs. meaning.paying (cost.list_cost (length vs * count)) (meaning.new_object (value.Listed (repeat count vs))))) world.old world.new a) }
+{
     let length = match world.list_at(r) {
         None => return Ok(Answer::Bad),
         Some(vs) => vs.len(),
     };
-    if !pay_product(length as u64, count, world) {
+    if !world.pay_product(length as u64, count) {
         return Ok(Answer::Lacks);
     }
     let items = match world.list_at(r) {
@@ -573,13 +594,16 @@ fn repeated_list(alloc: Global, r: usize, count: u64, world: &mut World) -> Resu
     Ok(Answer::Gives(Val::reference(at)))
 }
 
+#[tactic(auto, using(crate::proofs::Says::says))]
 fn times(
     alloc: Global,
     covers: Covers,
     x: &Val,
     y: &Val,
     world: &mut World,
-) -> Result<Answer, NoMem> {
+) -> Result<Answer, NoMem>
+    ensures { IfOk result (λ a. Answers (spec.times covers x.now y.now) world.old world.new a) }
+{
     match &x.form {
         Form::Nothing => Ok(attribute_error(covers)),
         Form::Text(bytes) => match &y.form {
@@ -593,7 +617,7 @@ fn times(
             _ => Ok(Answer::Bad),
         },
         Form::Word(a) => match &y.form {
-            Form::Word(b) => Ok(arithmetic(covers, BinOp::Mul, *a, *b)),
+            Form::Word(b) => Ok(word(wrap_mul(*a, *b))),
             Form::Nothing => Ok(attribute_error(covers)),
             _ => Ok(Answer::Bad),
         },
@@ -604,6 +628,7 @@ fn times(
     }
 }
 
+#[tactic(auto, using(crate::proofs::Says::says))]
 pub fn binary(
     alloc: Global,
     covers: Covers,
@@ -611,7 +636,9 @@ pub fn binary(
     x: &Val,
     y: &Val,
     world: &mut World,
-) -> Result<Answer, NoMem> {
+) -> Result<Answer, NoMem>
+    ensures { IfOk result (λ a. Answers (spec.binary covers op x.now y.now) world.old world.new a) }
+{
     match op {
         BinOp::Add => plus(alloc, covers, x, y, world),
         BinOp::Mul => times(alloc, covers, x, y, world),
@@ -620,13 +647,16 @@ pub fn binary(
 }
 
 /// A list grows in its place by the items of another; then a value is given.
+#[tactic(auto, using(crate::proofs::Items::no_items, crate::proofs::Items::some_items, crate::proofs::Heap::put_again))]
 pub fn extend(
     alloc: Global,
     r: usize,
     s: usize,
     given: Val,
     world: &mut World,
-) -> Result<Answer, NoMem> {
+) -> Result<Answer, NoMem>
+    ensures { IfOk result (λ a. Answers (spec.extend r s given) world.old world.new a) }
+{
     if world.list_at(r).is_none() {
         return Ok(Answer::Bad);
     }
@@ -648,13 +678,16 @@ pub fn extend(
 }
 
 /// `+=`, which extends a list in its place.
+#[tactic(auto, using(crate::proofs::Says::says))]
 pub fn add_to(
     alloc: Global,
     covers: Covers,
     x: &Val,
     y: &Val,
     world: &mut World,
-) -> Result<Answer, NoMem> {
+) -> Result<Answer, NoMem>
+    ensures { IfOk result (λ a. Answers (spec.add_to covers x.now y.now) world.old world.new a) }
+{
     match &x.form {
         Form::Ref(r) => match &y.form {
             Form::Ref(s) => extend(alloc, *r, *s, Val::reference(*r), world),

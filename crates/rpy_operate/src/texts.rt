@@ -1,9 +1,16 @@
 // The methods of strings, and conversions of values.
-ghost use Rattle.std.specs.Prelude.{◌≡◌, IfOk};
+ghost use Rattle.std.specs.Prelude.{◌≡◌, [], ◌∷◌, ◌++◌, length, map, option_map, sum_by, nat_eq, Option, IfOk};
+ghost use Rattle.std.specs.List.{slice_split, join_by};
+ghost use Rattle.rpy_base.specs.Number.{blank, trimmed, without_leading_blanks, without_trailing_blanks};
+ghost use Rattle.rpy_tree.specs.Value as value;
+ghost use Rattle.rpy_meaning.specs.Classes.{named};
 ghost use Rattle.rpy_meaning.specs.Methods as spec;
+ghost use Rattle.rpy_meaning.specs.World as meaning;
+ghost use Rattle.rpy_operate.specs.Answers.{Answers, Always};
+ghost use Rattle.rpy_operate.specs.Texts as own;
 
 use crate::answer::{Answer, flag, new_object, new_text, no_number, value_error};
-use crate::arithmetic::word;
+use crate::arithmetic::{word, word_of};
 use crate::compare::place_of;
 use crate::places::byte;
 use rpy_base::{NoMem, Seq, Text, decimal, parse_word};
@@ -29,7 +36,9 @@ fn is_blank(b: u8) -> bool
     b == b' ' || (9 <= b && b <= 13)
 }
 
-fn without_leading_blanks(bytes: &[u8]) -> &[u8] {
+fn trim_front(bytes: &[u8]) -> &[u8]
+    ensures { result.now ≡ without_leading_blanks bytes.now }
+{
     let mut rest = bytes;
     while let [first, after @ ..] = rest {
         if !is_blank(*first) {
@@ -40,7 +49,9 @@ fn without_leading_blanks(bytes: &[u8]) -> &[u8] {
     rest
 }
 
-fn without_trailing_blanks(bytes: &[u8]) -> &[u8] {
+fn trim_back(bytes: &[u8]) -> &[u8]
+    ensures { result.now ≡ without_trailing_blanks bytes.now }
+{
     let mut rest = bytes;
     while let [before @ .., last] = rest {
         if !is_blank(*last) {
@@ -53,40 +64,42 @@ fn without_trailing_blanks(bytes: &[u8]) -> &[u8] {
 
 // ---- methods
 
-// Whether all of the values are strings.
-fn are_texts(vs: &[Val]) -> bool {
-    vs.iter().all(|v| is_text(v))
-}
-
-fn is_text(v: &Val) -> bool {
-    match &v.form {
-        Form::Text(_) => true,
-        _ => false,
-    }
-}
-
-fn append_text(text: &mut Text, v: &Val) -> Result<(), NoMem> {
-    match &v.form {
-        Form::Text(bytes) => text.append(bytes.bytes()),
-        _ => Ok(()),
-    }
-}
-
-// The strings of values with a string between them.
-fn joined_by(alloc: Global, between: &[u8], vs: &[Val]) -> Result<Text, NoMem> {
-    let mut text = Text::new(alloc);
-    let mut is_first = true;
-    for v in vs {
-        if !is_first {
-            text.append(between)?;
+// What follows the first string, after a text: a string between, and the next, to the end.
+fn with_rest(text: Text, between: &[u8], vs: &[Val]) -> Result<Option<Text>, NoMem>
+    ensures { IfOk result (λ made. made ≡ option_map (λ t. text ++ t) (own.rest_of between.now vs.now)) }
+{
+    let mut text = text;
+    let mut rest = vs;
+    while let [v, after @ ..] = rest {
+        match &v.form {
+            Form::Text(bytes) => {
+                text.append(between)?;
+                text.append(bytes.bytes())?;
+                rest = after;
+            }
+            _ => return Ok(None),
         }
-        append_text(&mut text, v)?;
-        is_first = false;
     }
-    Ok(text)
+    Ok(Some(text))
 }
 
-fn join(alloc: Global, text: &[u8], args: &[Val], world: &mut World) -> Result<Answer, NoMem> {
+// The strings of values with a string between them, if they are strings.
+#[tactic(auto, using(crate::proofs::Joined::joined_is))]
+fn joined_by(alloc: Global, between: &[u8], vs: &[Val]) -> Result<Option<Text>, NoMem>
+    ensures { IfOk result (λ made. made ≡ option_map (join_by (λ t. t) between.now) (spec.texts_of vs.now)) }
+{
+    match vs {
+        [] => Ok(Some(Text::new(alloc))),
+        [first, rest @ ..] => match &first.form {
+            Form::Text(bytes) => with_rest(bytes.copy(alloc)?, between, rest),
+            _ => Ok(None),
+        },
+    }
+}
+
+fn join(alloc: Global, text: &[u8], args: &[Val], world: &mut World) -> Result<Answer, NoMem>
+    ensures { IfOk result (λ a. Answers (spec.join text.now args.now) world.old world.new a) }
+{
     match args {
         [list] => match &list.form {
             Form::Ref(r) => join_list(alloc, text, *r, world),
@@ -96,17 +109,17 @@ fn join(alloc: Global, text: &[u8], args: &[Val], world: &mut World) -> Result<A
     }
 }
 
-fn join_list(alloc: Global, text: &[u8], r: usize, world: &mut World) -> Result<Answer, NoMem> {
-    let made = match world.list_at(r) {
-        None => return Ok(Answer::Bad),
-        Some(vs) => {
-            if !are_texts(vs) {
-                return Ok(Answer::Bad);
-            }
-            joined_by(alloc, text, vs)?
-        }
-    };
-    Ok(new_text(made, world))
+#[tactic(auto, using(crate::proofs::Items::no_items, crate::proofs::Items::some_items))]
+fn join_list(alloc: Global, text: &[u8], r: usize, world: &mut World) -> Result<Answer, NoMem>
+    ensures { IfOk result (λ a. Answers (spec.join text.now (value.Ref r ∷ [])) world.old world.new a) }
+{
+    match world.list_at(r) {
+        None => Ok(Answer::Bad),
+        Some(vs) => match joined_by(alloc, text, vs)? {
+            None => Ok(Answer::Bad),
+            Some(made) => Ok(new_text(made, world)),
+        },
+    }
 }
 
 // The parts of a string between bytes of one value.
@@ -158,84 +171,99 @@ fn split(alloc: Global, text: &[u8], args: &[Val], world: &mut World) -> Result<
     }
 }
 
-fn place_or_minus_one(place: Option<usize>) -> i64 {
+fn place_or_minus_one(place: Option<usize>) -> Result<i64, NoMem>
+    ensures { IfOk result (λ v. v ≡ spec.place_or_minus_one place) }
+{
     match place {
-        None => -1,
-        Some(at) => at as i64,
+        None => Ok(-1),
+        Some(at) => word_of(at),
     }
 }
 
-// The string that is the only argument.
-fn only_text(args: &[Val]) -> Option<&[u8]> {
+fn find(text: &[u8], args: &[Val]) -> Result<Answer, NoMem>
+    ensures { IfOk result (λ a. Always (spec.find text.now args.now) a) }
+{
     match args {
         [v] => match &v.form {
-            Form::Text(text) => Some(text.bytes()),
-            _ => None,
+            Form::Text(part) => Ok(word(place_or_minus_one(place_of(part.bytes(), text))?)),
+            _ => Ok(Answer::Bad),
         },
-        _ => None,
+        _ => Ok(Answer::Bad),
     }
 }
 
-fn find(text: &[u8], args: &[Val]) -> Answer {
-    match only_text(args) {
-        Some(part) => word(place_or_minus_one(place_of(part, text))),
-        None => Answer::Bad,
+fn begins(text: &[u8], args: &[Val]) -> Answer
+    ensures { Always (spec.begins text.now args.now) result }
+{
+    match args {
+        [v] => match &v.form {
+            Form::Text(part) => flag(text.starts_with(part.bytes())),
+            _ => Answer::Bad,
+        },
+        _ => Answer::Bad,
     }
 }
 
-fn begins(text: &[u8], args: &[Val]) -> Answer {
-    match only_text(args) {
-        Some(part) => flag(text.starts_with(part)),
-        None => Answer::Bad,
+fn ends(text: &[u8], args: &[Val]) -> Answer
+    ensures { Always (spec.ends text.now args.now) result }
+{
+    match args {
+        [v] => match &v.form {
+            Form::Text(part) => {
+                let part = part.bytes();
+                flag(part.len() <= text.len() && text.ends_with(part))
+            }
+            _ => Answer::Bad,
+        },
+        _ => Answer::Bad,
     }
 }
 
-fn ends(text: &[u8], args: &[Val]) -> Answer {
-    match only_text(args) {
-        Some(part) => flag(text.ends_with(part)),
-        None => Answer::Bad,
-    }
-}
-
-fn strip(alloc: Global, text: &[u8], args: &[Val], world: &mut World) -> Result<Answer, NoMem> {
+fn strip(alloc: Global, text: &[u8], args: &[Val], world: &mut World) -> Result<Answer, NoMem>
+    ensures { IfOk result (λ a. Answers (spec.strip text.now args.now) world.old world.new a) }
+{
     match args {
         [] => {
-            let inner = without_trailing_blanks(without_leading_blanks(text));
+            let inner = trim_back(trim_front(text));
             Ok(new_text(Text::from_bytes(alloc, inner)?, world))
         }
         _ => Ok(Answer::Bad),
     }
 }
 
-// The only byte of a string, where there are no arguments.
-fn only_byte(text: &[u8], args: &[Val]) -> Option<u8> {
+fn is_all_digit(text: &[u8], args: &[Val]) -> Answer
+    ensures { Always (spec.is_byte spec.is_digit text.now args.now) result }
+{
     match text {
         [b] => match args {
-            [] => Some(*b),
-            _ => None,
+            [] => flag(is_digit(*b)),
+            _ => Answer::Bad,
         },
-        _ => None,
+        _ => Answer::Bad,
     }
 }
 
-fn is_all_digit(text: &[u8], args: &[Val]) -> Answer {
-    match only_byte(text, args) {
-        Some(b) => flag(is_digit(b)),
-        None => Answer::Bad,
+fn is_all_letter(text: &[u8], args: &[Val]) -> Answer
+    ensures { Always (spec.is_byte spec.is_letter text.now args.now) result }
+{
+    match text {
+        [b] => match args {
+            [] => flag(is_letter(*b)),
+            _ => Answer::Bad,
+        },
+        _ => Answer::Bad,
     }
 }
 
-fn is_all_letter(text: &[u8], args: &[Val]) -> Answer {
-    match only_byte(text, args) {
-        Some(b) => flag(is_letter(b)),
-        None => Answer::Bad,
-    }
-}
-
-fn is_all_blank(text: &[u8], args: &[Val]) -> Answer {
-    match only_byte(text, args) {
-        Some(b) => flag(is_blank(b)),
-        None => Answer::Bad,
+fn is_all_blank(text: &[u8], args: &[Val]) -> Answer
+    ensures { Always (spec.is_byte blank text.now args.now) result }
+{
+    match text {
+        [b] => match args {
+            [] => flag(is_blank(*b)),
+            _ => Answer::Bad,
+        },
+        _ => Answer::Bad,
     }
 }
 
@@ -252,7 +280,7 @@ pub fn text_method(
     } else if name == b"split".as_slice() {
         split(alloc, text, args, world)
     } else if name == b"find".as_slice() {
-        Ok(find(text, args))
+        find(text, args)
     } else if name == b"startswith".as_slice() {
         Ok(begins(text, args))
     } else if name == b"endswith".as_slice() {
@@ -272,7 +300,9 @@ pub fn text_method(
 
 // ---- functions of one value
 
-pub fn ord(x: &Val) -> Answer {
+pub fn ord(x: &Val) -> Answer
+    ensures { Always (spec.ord x.now) result }
+{
     match &x.form {
         Form::Text(text) => match text.bytes() {
             [b] => word(*b as i64),
@@ -282,7 +312,9 @@ pub fn ord(x: &Val) -> Answer {
     }
 }
 
-pub fn chr(alloc: Global, covers: Covers, x: &Val) -> Result<Answer, NoMem> {
+pub fn chr(alloc: Global, covers: Covers, x: &Val) -> Result<Answer, NoMem>
+    ensures { IfOk result (λ a. Always (spec.chr covers x.now) a) }
+{
     match &x.form {
         Form::Word(n) => {
             if 0 <= *n && *n < 256 {
@@ -295,12 +327,16 @@ pub fn chr(alloc: Global, covers: Covers, x: &Val) -> Result<Answer, NoMem> {
     }
 }
 
-pub fn flag_text(flag: bool) -> &'static [u8] {
+pub fn flag_text(flag: bool) -> &'static [u8]
+    ensures { result.now ≡ own.flag_text flag }
+{
     if flag { b"True" } else { b"False" }
 }
 
 /// `str` of a value.
-pub fn to_text(alloc: Global, x: &Val, world: &mut World) -> Result<Answer, NoMem> {
+pub fn to_text(alloc: Global, x: &Val, world: &mut World) -> Result<Answer, NoMem>
+    ensures { IfOk result (λ a. Answers (spec.to_text x.now) world.old world.new a) }
+{
     match &x.form {
         Form::Word(z) => Ok(new_text(decimal(alloc, *z)?, world)),
         Form::Flag(flag) => Ok(Answer::Gives(Val::text(Text::from_bytes(
@@ -312,15 +348,24 @@ pub fn to_text(alloc: Global, x: &Val, world: &mut World) -> Result<Answer, NoMe
     }
 }
 
+#[tactic(auto, using(crate::proofs::Numbers::is_number_text, crate::proofs::Numbers::is_no_number_text))]
+fn number(bytes: &[u8]) -> Answer
+    ensures { Always (spec.number (trimmed bytes.now)) result }
+{
+    match parse_word(bytes) {
+        Some(z) => word(z),
+        None => no_number(),
+    }
+}
+
 /// `int` of a value.
-pub fn to_word(x: &Val) -> Answer {
+pub fn to_word(x: &Val) -> Answer
+    ensures { Always (spec.to_word x.now) result }
+{
     match &x.form {
         Form::Word(z) => word(*z),
         Form::Flag(flag) => word(if *flag { 1 } else { 0 }),
-        Form::Text(text) => match parse_word(text.bytes()) {
-            Some(z) => word(z),
-            None => no_number(),
-        },
+        Form::Text(text) => number(text.bytes()),
         _ => Answer::Bad,
     }
 }

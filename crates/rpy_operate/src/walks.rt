@@ -1,11 +1,13 @@
 // Walks over strings, lists, dicts and ranges.
-ghost use Rattle.std.specs.Prelude.{◌≡◌, IfOk};
+ghost use Rattle.std.specs.Prelude.{◌≡◌, ◌&&◌, pos, int_le, nat_lt, unsigned_abs, None, IfOk};
+ghost use Rattle.rpy_tree.specs.Value as value;
 ghost use Rattle.rpy_meaning.specs.Walks as spec;
+ghost use Rattle.rpy_meaning.specs.World as meaning;
 ghost use Rattle.rpy_operate.specs.Answers.{Answers, Always};
 
 use crate::answer::{Answer, attribute_error, flag};
 use crate::arithmetic::word;
-use crate::containers::{keys_of, list_for};
+use crate::containers::new_keys;
 use crate::places::byte;
 use crate::sequences::give;
 use rpy_base::NoMem;
@@ -13,23 +15,24 @@ use rpy_meaning::Covers;
 use rpy_value::{Form, Shape, Val, World, copy_value};
 use std::alloc::Global;
 
-fn walk_object(alloc: Global, r: usize, world: &mut World) -> Result<Answer, NoMem> {
+fn walk_object(alloc: Global, r: usize, world: &mut World) -> Result<Answer, NoMem>
+    ensures { IfOk result (λ a. Answers (meaning.at_object r (spec.walk_object r)) world.old world.new a) }
+{
     match world.object(r) {
         None => Ok(Answer::Bad),
         Some(object) => match &object.shape {
             Shape::List(_) => Ok(Answer::Gives(Val::reference(r))),
-            Shape::Dict(pairs) => {
-                let cost = pairs.as_slice().len() as u64 + 1;
-                let keys = keys_of(alloc, pairs.as_slice())?;
-                list_for(cost, keys, world)
-            }
+            Shape::Dict(_) => new_keys(alloc, r, world),
             Shape::Instance(_, _) => Ok(Answer::Bad),
         },
     }
 }
 
 /// What is walked: of a dict the list of its keys.
-pub fn walk(alloc: Global, covers: Covers, x: &Val, world: &mut World) -> Result<Answer, NoMem> {
+#[tactic(auto, using(crate::proofs::Says::says))]
+pub fn walk(alloc: Global, covers: Covers, x: &Val, world: &mut World) -> Result<Answer, NoMem>
+    ensures { IfOk result (λ a. Answers (spec.walk covers x.now) world.old world.new a) }
+{
     match &x.form {
         Form::Text(_) => Ok(Answer::Gives(copy_value(alloc, x)?)),
         Form::Ref(r) => walk_object(alloc, *r, world),
@@ -62,11 +65,16 @@ fn next_number(step: i64, end: i64, i: i64) -> i64
 }
 
 // Whether a place is within a length.
-fn is_within(i: i64, length: usize) -> bool {
-    (i as u64) < length as u64
+fn is_within(i: i64, length: usize) -> bool
+    ensures { result ≡ (int_le (pos 0) i && nat_lt (unsigned_abs i) length) }
+{
+    0 <= i && i.unsigned_abs() < length as u64
 }
 
-fn has_item_of(x: &Val, i: i64, world: &World) -> Answer {
+#[tactic(auto, using(crate::proofs::Items::no_items, crate::proofs::Items::some_items, crate::proofs::Says::says))]
+fn has_item_of(x: &Val, i: i64, world: &World) -> Answer
+    ensures { Answers (spec.has_item None x.now (value.Word i)) world.now world.now result }
+{
     if i < 0 {
         return Answer::Bad;
     }
@@ -80,7 +88,10 @@ fn has_item_of(x: &Val, i: i64, world: &World) -> Answer {
     }
 }
 
-pub fn has_item(step: Option<i64>, x: &Val, y: &Val, world: &World) -> Answer {
+#[tactic(auto, using(crate::proofs::Says::says))]
+pub fn has_item(step: Option<i64>, x: &Val, y: &Val, world: &World) -> Answer
+    ensures { Answers (spec.has_item step x.now y.now) world.now world.now result }
+{
     match &y.form {
         Form::Word(i) => match step {
             None => has_item_of(x, *i, world),
@@ -93,7 +104,10 @@ pub fn has_item(step: Option<i64>, x: &Val, y: &Val, world: &World) -> Answer {
     }
 }
 
-fn item_of(alloc: Global, x: &Val, i: i64, world: &World) -> Result<Answer, NoMem> {
+#[tactic(auto, using(crate::proofs::Items::no_items, crate::proofs::Items::some_items, crate::proofs::Says::says))]
+fn item_of(alloc: Global, x: &Val, i: i64, world: &World) -> Result<Answer, NoMem>
+    ensures { IfOk result (λ a. Answers (spec.item None x.now (value.Word i)) world.now world.now a) }
+{
     if i < 0 {
         return Ok(Answer::Bad);
     }
@@ -113,13 +127,16 @@ fn item_of(alloc: Global, x: &Val, i: i64, world: &World) -> Result<Answer, NoMe
     }
 }
 
+#[tactic(auto, using(crate::proofs::Says::says))]
 pub fn item(
     alloc: Global,
     step: Option<i64>,
     x: &Val,
     y: &Val,
     world: &World,
-) -> Result<Answer, NoMem> {
+) -> Result<Answer, NoMem>
+    ensures { IfOk result (λ a. Answers (spec.item step x.now y.now) world.now world.now a) }
+{
     match step {
         Some(_) => give(alloc, y),
         None => match &y.form {
@@ -130,7 +147,9 @@ pub fn item(
 }
 
 /// The place after this one. Where that is no word there is no memory for so long a sequence.
-pub fn advance(step: Option<i64>, x: &Val, y: &Val) -> Result<Answer, NoMem> {
+pub fn advance(step: Option<i64>, x: &Val, y: &Val) -> Result<Answer, NoMem>
+    ensures { IfOk result (λ a. Always (spec.advance step x.now y.now) a) }
+{
     match &y.form {
         Form::Word(i) => match step {
             None => match i.checked_add(1) {

@@ -1,5 +1,5 @@
 // The world of a run.
-ghost use Rattle.std.specs.Prelude.{◌≡◌, [], ◌∷◌, ◌++◌, length, slice_get, Some, None, MatchOption, OnOk, IfOk};
+ghost use Rattle.std.specs.Prelude.{◌≡◌, ◌+◌, ◌*◌, [], ◌∷◌, ◌++◌, length, slice_get, Some, None, MatchOption, OnOk, IfOk};
 ghost use Rattle.std.specs.Option.{option_copied};
 ghost use Rattle.rpy_tree.specs.Value as value;
 ghost use Rattle.rpy_value.specs.Worlds.{Pays, attributes_in, items_in, pairs_in, with_object};
@@ -92,6 +92,24 @@ impl World {
         }
     }
 
+    /// Pays for so many items, as often as a count says, and one more.
+    pub fn pay_product(&mut self, length: u64, count: u64) -> bool
+        ensures { Pays (1 + length * count) self.old self.new result }
+    {
+        let left = self.left;
+        match length.checked_mul(count) {
+            None => false,
+            Some(product) => {
+                if left <= product {
+                    false
+                } else {
+                    self.left = left - product - 1;
+                    true
+                }
+            }
+        }
+    }
+
     pub fn write(&mut self, bytes: &[u8]) -> Result<(), NoMem>
         ensures { OnOk result (self.new ≡ record self.old { out = self.old.out ++ bytes.now }) }
     {
@@ -131,40 +149,54 @@ impl World {
     }
 
     /// Takes out the items of a list, if the object is one. Something is to be put in its place.
+    #[tactic(auto, using(crate::proofs::Heap::restored))]
     pub fn take_list(&mut self, alloc: Global, at: usize) -> Option<Seq<Val>>
-        ensures { MatchOption result (items_in (slice_get self.old.heap at) ≡ None) (λ vs. (slice_get self.old.heap at ≡ Some (value.Listed vs)) × (self.new ≡ with_object at (value.Listed []) self.old)) }
+        ensures { MatchOption result ((items_in (slice_get self.old.heap at) ≡ None) × (self.new ≡ self.old)) (λ vs. (slice_get self.old.heap at ≡ Some (value.Listed vs)) × (self.new ≡ with_object at (value.Listed []) self.old)) }
     {
-        let Object { shape } = self.take_object(alloc, at)?;
-        match shape {
-            Shape::List(items) => Some(items),
-            _ => None,
+        match self.take_object(alloc, at) {
+            None => None,
+            Some(Object { shape }) => match shape {
+                Shape::List(items) => Some(items),
+                other => {
+                    self.set_object(at, Object { shape: other });
+                    None
+                }
+            },
         }
     }
 
     /// Takes out the pairs of a dict, if the object is one. Something is to be put in its place.
+    #[tactic(auto, using(crate::proofs::Heap::restored))]
     pub fn take_dict(&mut self, alloc: Global, at: usize) -> Option<Seq<(Val, Val)>>
-        ensures { MatchOption result (pairs_in (slice_get self.old.heap at) ≡ None) (λ pairs. (slice_get self.old.heap at ≡ Some (value.Mapped pairs)) × (self.new ≡ with_object at (value.Listed []) self.old)) }
+        ensures { MatchOption result ((pairs_in (slice_get self.old.heap at) ≡ None) × (self.new ≡ self.old)) (λ pairs. (slice_get self.old.heap at ≡ Some (value.Mapped pairs)) × (self.new ≡ with_object at (value.Listed []) self.old)) }
     {
-        let Object { shape } = self.take_object(alloc, at)?;
-        match shape {
-            Shape::Dict(pairs) => Some(pairs),
-            _ => None,
+        match self.take_object(alloc, at) {
+            None => None,
+            Some(Object { shape }) => match shape {
+                Shape::Dict(pairs) => Some(pairs),
+                other => {
+                    self.set_object(at, Object { shape: other });
+                    None
+                }
+            },
         }
     }
 
     /// Takes out the class and the attributes of an instance, if the object is one. Something is to
     /// be put in its place.
-    pub fn take_instance(
-        &mut self,
-        alloc: Global,
-        at: usize,
-    ) -> Option<(ClassId, Seq<(Text, Val)>)>
-        ensures { MatchOption result (attributes_in (slice_get self.old.heap at) ≡ None) (λ parts. (slice_get self.old.heap at ≡ Some (value.Instance parts.0 parts.1)) × (self.new ≡ with_object at (value.Listed []) self.old)) }
+    #[tactic(auto, using(crate::proofs::Heap::restored))]
+    pub fn take_instance(&mut self, alloc: Global, at: usize) -> Option<(ClassId, Seq<(Text, Val)>)>
+        ensures { MatchOption result ((attributes_in (slice_get self.old.heap at) ≡ None) × (self.new ≡ self.old)) (λ parts. (slice_get self.old.heap at ≡ Some (value.Instance parts.0 parts.1)) × (self.new ≡ with_object at (value.Listed []) self.old)) }
     {
-        let Object { shape } = self.take_object(alloc, at)?;
-        match shape {
-            Shape::Instance(class, attributes) => Some((class, attributes)),
-            _ => None,
+        match self.take_object(alloc, at) {
+            None => None,
+            Some(Object { shape }) => match shape {
+                Shape::Instance(class, attributes) => Some((class, attributes)),
+                other => {
+                    self.set_object(at, Object { shape: other });
+                    None
+                }
+            },
         }
     }
 }
