@@ -742,7 +742,7 @@ fn compound(
         }
         Stmt::Try(_, body, clauses, other) => {
             let clauses = clauses.as_slice();
-            let within = covers_within(program.classes.as_slice(), clauses, covers);
+            let within = covers_within(program, clauses, covers);
             match block(program, depth, state, within, body.as_slice()) {
                 Ok(Flow::Next) => block(program, depth, state, covers, other.as_slice()),
                 Err(Stop::Raised(r)) => handle(program, depth, state, covers, clauses, r),
@@ -838,7 +838,7 @@ fn handle(
     let depth = deeper(depth)?;
     let class = class_in(&state.world, r);
     for clause in clauses {
-        if takes(program.classes.as_slice(), clause, class) {
+        if takes(program, clause, class) {
             if let Some(at) = clause.local {
                 set_local(state, at, Val::reference(r));
             }

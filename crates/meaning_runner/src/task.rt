@@ -3,7 +3,7 @@ use crate::stop::Stop;
 use rpy_base::{NoMem, Seq};
 use rpy_meaning::Covers;
 use rpy_operate::{constant_value, is_below};
-use rpy_resolved::{Class, Clause, Function};
+use rpy_resolved::{Clause, Function, Resolved};
 use rpy_tree::{ClassId, Const, Site};
 use rpy_value::{Val, copy_value};
 use std::alloc::Global;
@@ -19,21 +19,21 @@ pub fn no_covers() -> Covers {
 }
 
 /// Whether a clause takes the exceptions of a class.
-pub fn takes(classes: &[Class], clause: &Clause, class: ClassId) -> bool {
+pub fn takes(program: &Resolved, clause: &Clause, class: ClassId) -> bool {
     if clause.bare {
         return true;
     }
     for d in clause.classes.as_slice() {
-        if is_below(classes, class, *d) {
+        if is_below(program, class, *d) {
             return true;
         }
     }
     false
 }
 
-fn some_takes(classes: &[Class], clauses: &[Clause], class: ClassId) -> bool {
+fn some_takes(program: &Resolved, clauses: &[Clause], class: ClassId) -> bool {
     for clause in clauses {
-        if takes(classes, clause, class) {
+        if takes(program, clause, class) {
             return true;
         }
     }
@@ -41,12 +41,12 @@ fn some_takes(classes: &[Class], clauses: &[Clause], class: ClassId) -> bool {
 }
 
 /// What is covered in the body of a `try` with these clauses.
-pub fn covers_within(classes: &[Class], clauses: &[Clause], covers: Covers) -> Covers {
+pub fn covers_within(program: &Resolved, clauses: &[Clause], covers: Covers) -> Covers {
     Covers {
-        index: covers.index || some_takes(classes, clauses, 6),
-        zero: covers.zero || some_takes(classes, clauses, 4),
-        number: covers.number || some_takes(classes, clauses, 8),
-        attribute: covers.attribute || some_takes(classes, clauses, 9),
+        index: covers.index || some_takes(program, clauses, 6),
+        zero: covers.zero || some_takes(program, clauses, 4),
+        number: covers.number || some_takes(program, clauses, 8),
+        attribute: covers.attribute || some_takes(program, clauses, 9),
     }
 }
 
