@@ -1,0 +1,11 @@
+pub mod Bases
+pub mod Heap
+pub mod Items
+pub mod Joined
+pub mod Lines
+pub mod Numbers
+pub mod Placed
+pub mod Says
+pub mod Sites
+pub mod Tuples
+pub mod Words

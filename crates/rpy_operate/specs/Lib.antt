@@ -1,0 +1,6 @@
+pub mod Answers
+pub mod Groups
+pub mod Objects
+pub mod Places
+pub mod Programs
+pub mod Texts
