@@ -3,6 +3,10 @@ pub mod Cells
 pub mod Declarations
 pub mod Files
 pub mod Functions
+pub mod Lines
+pub mod LinesBegin
+pub mod LinesRead
+pub mod LinesWalked
 pub mod Names
 pub mod Numbers
 pub mod Statements

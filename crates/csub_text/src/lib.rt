@@ -1,6 +1,10 @@
 //! What bytes are the text of a C file, and that they are so of one file alone.
 #![tactic(auto)]
 
+mod places;
+
+pub use places::Place;
+
 ghost use Rattle.csub_text.specs.Laws.{DeadIsNoText, OneDeadLine, OneFile};
 
 /// The spelling of a file is the text of that file and of no other.
