@@ -1,4 +1,5 @@
 pub mod DeadLaws
+pub mod DeadLine
 pub mod Cells
 pub mod Declarations
 pub mod Files

@@ -11,8 +11,7 @@ use Rattle.csub_tree.specs.Spelling as spell
 use Rattle.csub_text.specs.Written.{All, IsType, IsTypeIfAny, IsPrototype, IsStatic, IsStatement}
 use Rattle.csub_text.specs.Read.{Got, begins}
 use Rattle.csub_text.specs.ReadFile as of
-use Rattle.csub_text.specs.ReadFile.{base_line, items_line}
-use Rattle.csub_text.specs.ReadLine.{at_function, at_static, at_prototype, struct_start, at_struct, items_or_end, no_base, at_field, block_start, at_head, at_local, at_statement, at_block, read_line}
+use Rattle.csub_text.specs.ReadLine.{at_function, at_static, at_prototype, struct_start, at_struct, items_line, items_or_end, no_base, base_line, at_field, block_start, at_head, at_local, at_statement, at_block, read_line}
 use Rattle.csub_text.specs.declared.places.Place.{Place}
 use Rattle.csub_text.specs.declared.places.Place.TheVariants.{Start, Include, Structs, Fields, Items, Prototypes, Statics, Functions, Named, Headed, Locals, Statements, Blocks}
 use Rattle.csub_text.specs.Lines as fits

@@ -1,6 +1,7 @@
 -- Which line may come where the lines of a text have come so far, and where they are with it. A place between two declarations is
 -- also one before the first declaration of each later kind.
-use Rattle.std.specs.Prelude.{◌≡◌, ℕ, ◌+◌, ◌++◌, ◌^◌, ◌<◌, true, false, List, [], ◌∷◌, Option, Some, codes, length}
+use Rattle.std.specs.Prelude.{◌≡◌, ℕ, suc, ◌+◌, ◌++◌, ◌==◌, ◌^◌, ◌<◌, true, false, cond, List, [], ◌∷◌, Option, Some, codes, length}
+use Rattle.std.specs.List.{concat}
 use Rattle.csub_tree.specs.declared.tree.CType.{CType}
 use Rattle.csub_tree.specs.declared.tree.CPrototype.{CPrototype}
 use Rattle.csub_tree.specs.declared.tree.CStatic.{CStatic}
@@ -48,3 +49,12 @@ pub data Fits : Place → List ℕ → Place → Type 0 where
 abbrev pub Leads : Place → List (List ℕ) → Place → Type 0
 Leads p [] r = p ≡ r
 Leads p (l ∷ ls) r = (q : Place) × Fits p l q × Leads q ls r
+
+-- k lines before these bytes of a text lead from its start to this place
+abbrev pub LeadsTo : List ℕ → List ℕ → Place → ℕ → Type 0
+LeadsTo text rest p k = (ls : List (List ℕ)) × (text ≡ concat ls ++ rest) × Leads Start ls p × (k ≡ length ls)
+
+-- how long the first line is, with its newline
+unfoldable pub line_len : List ℕ → ℕ
+line_len [] = 0
+line_len (b ∷ bs) = cond (b == 10) 1 (suc (line_len bs))

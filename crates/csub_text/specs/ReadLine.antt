@@ -3,8 +3,8 @@ use Rattle.std.specs.Prelude.{ℕ, ◌+◌, ◌++◌, ◌==◌, ◌&&◌, cond, 
 use Rattle.std.specs.Fmt.{decimal}
 use Rattle.csub_tree.specs.declared.tree.CStmt.{CStmt}
 use Rattle.csub_tree.specs.Checked.{ends_block}
-use Rattle.csub_text.specs.Read.{Got, after, stripped, begins, literal, name, ended, mapped}
-use Rattle.csub_text.specs.ReadFile.{numbered_name, sees_base_line, base_line, sees_field_line, field_line, items_line, sees_prototype, prototype, static_text, name_line, head, local_line, statement_line}
+use Rattle.csub_text.specs.Read.{Got, after, stripped, begins, literal, name, ended, mapped, before_name}
+use Rattle.csub_text.specs.ReadFile.{numbered_name, sees_base_line, sees_field_line, field_line, sees_prototype, prototype, static_text, name_line, head, local_line, statement_line}
 use Rattle.csub_text.specs.declared.places.Place.{Place}
 use Rattle.csub_text.specs.declared.places.Place.TheVariants.{Start, Include, Structs, Fields, Items, Prototypes, Statics, Functions, Named, Headed, Locals, Statements, Blocks}
 
@@ -23,14 +23,20 @@ struct_start n i = numbered_name (codes "struct s") n i (λ j. literal (codes " 
 unfoldable pub at_struct : ℕ → List ℕ → Got Place
 at_struct n i = cond (begins (codes "struct ") i) (struct_start n i) (at_prototype 0 i)
 
+unfoldable pub items_line : ℕ → List ℕ → Got Place
+items_line n i = after (stripped (codes "    ") i) (λ j. mapped (λ t. Items n) (ended (before_name j) (codes "items[];\n")))
+
 unfoldable pub items_or_end : ℕ → List ℕ → Got Place
-items_or_end n i = cond (begins (codes "    ") i) (mapped (λ t. Items n) (items_line i)) (literal (codes "};\n") (Structs (n + 1)) i)
+items_or_end n i = cond (begins (codes "    ") i) (items_line n i) (literal (codes "};\n") (Structs (n + 1)) i)
 
 unfoldable pub no_base : ℕ → ℕ → List ℕ → Got Place
 no_base n k i = cond (sees_field_line i) (mapped (λ t. Fields n (k + 1)) (field_line k i)) (items_or_end n i)
 
+unfoldable pub base_line : ℕ → List ℕ → Got Place
+base_line n i = mapped (λ m. Fields n 1) (ended (name (codes "    struct s") i) (codes " a0;\n"))
+
 unfoldable pub at_field : ℕ → ℕ → List ℕ → Got Place
-at_field n k i = cond (k == 0 && sees_base_line i) (mapped (λ m. Fields n 1) (base_line i)) (no_base n k i)
+at_field n k i = cond (k == 0 && sees_base_line i) (base_line n i) (no_base n k i)
 
 unfoldable pub block_start : ℕ → ℕ → List ℕ → Got Place
 block_start n b i = numbered_name (codes "b") b i (λ j. literal (codes ":\n") (Statements n b) j)
