@@ -1,5 +1,5 @@
 -- A line that was read is one that may come.
-use Rattle.std.proofs.Common.{◌≡◌, ℕ, ◌+◌, ◌++◌, ◌^◌, ◌<◌, ◌==◌, not, Bool, true, false, cond, List, [], ◌∷◌, Option, Some, None, Result, Ok, Err, IfOk, is_some, refl, ap, ◌∙◌, sym, subst, append_assoc, codes, length}
+use Rattle.std.proofs.Common.{◌≡◌, ℕ, ◌+◌, ◌++◌, ◌^◌, ◌<◌, not, Bool, true, false, cond, List, [], Some, None, Result, Ok, Err, IfOk, is_some, refl, ap, ◌∙◌, sym, subst, append_assoc, codes, length}
 use Rattle.std.specs.Fmt.{decimal}
 use Rattle.std.proofs.lemmas.List.{append-nil}
 use Rattle.csub_tree.specs.declared.tree.CType.{CType}
@@ -17,7 +17,7 @@ use Rattle.csub_text.specs.declared.places.Place.{Place}
 use Rattle.csub_text.specs.declared.places.Place.TheVariants.{Start, Include, Structs, Fields, Items, Prototypes, Statics, Functions, Named, Headed, Locals, Statements, Blocks}
 use Rattle.csub_text.specs.Lines as fits
 use Rattle.csub_text.specs.Lines.{Fits}
-use Rattle.csub_text.proofs.Valid.{Gives, none, some, name_valid, before_name_valid}
+use Rattle.csub_text.proofs.Valid.{Gives, none, some, before_name_valid}
 use Rattle.csub_text.proofs.ValidFile.{static_valid, prototype_valid, name_line_valid, head_valid, field_line_valid, local_line_valid, statement_line_valid}
 use Rattle.csub_text.proofs.LinesRead.{line_read}
 use Rattle.csub_reader.specs.declared.fault.Stop.{Stop}

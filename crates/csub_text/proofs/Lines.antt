@@ -1,8 +1,7 @@
 -- Each line that may come is a line: its one newline is its last byte.
-use Rattle.std.proofs.Common.{◌≡◌, ℕ, zero, suc, ℤ, pos, negsuc, ◌+◌, ◌/◌, ◌%◌, ◌^◌, ◌<◌, nat_lt, subst, ◌==◌, ◌&&◌, Bool, true, false, cond, List, [], ◌∷◌, ◌++◌, Option, Some, None, refl, ap, ◌∙◌, arith, sym, append_assoc, codes, map, length}
+use Rattle.std.proofs.Common.{◌≡◌, ℕ, zero, suc, pos, negsuc, ◌+◌, ◌/◌, ◌%◌, nat_lt, subst, ◌==◌, ◌&&◌, Bool, true, false, cond, List, [], ◌∷◌, ◌++◌, Option, Some, None, refl, ap, ◌∙◌, arith, append_assoc, codes, map}
 use Rattle.std.specs.List.{flat_map}
 use Rattle.std.specs.Fmt.{decimal, signed_decimal, digits, digits_onto, digit_glyph}
-use Rattle.std.proofs.lemmas.Fmt.{decimal_by_steps}
 use Rattle.std.proofs.lemmas.Grind.{common_steps}
 use Rattle.csub_tree.specs.declared.tree.CType.{CType}
 use Rattle.csub_tree.specs.declared.tree.CType.TheVariants as type
@@ -17,7 +16,7 @@ use Rattle.csub_tree.specs.declared.tree.CBinary.TheVariants as binary_op
 use Rattle.csub_tree.specs.declared.tree.CStmt.{CStmt}
 use Rattle.csub_tree.specs.declared.tree.CStmt.TheVariants as stmt
 use Rattle.csub_tree.specs.Spelling as spell
-use Rattle.csub_tree.specs.declared.tree.CCell.{CCell, fold-CCell, roll-CCell, map-CCell}
+use Rattle.csub_tree.specs.declared.tree.CCell.{CCell, roll-CCell, map-CCell}
 use Rattle.csub_tree.specs.declared.tree.CCell.TheOpen.{CCell-F}
 use Rattle.csub_tree.specs.declared.tree.CCell.TheFolds.{fold-roll-CCell, ind-CCell}
 use Rattle.csub_tree.specs.Checked.{is_name_byte, is_name}

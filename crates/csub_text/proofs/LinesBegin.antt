@@ -1,19 +1,17 @@
 -- From each place that lines lead to, some lines lead to the end of a text.
-use Rattle.std.proofs.Common.{◌≡◌, ℕ, zero, suc, ◌+◌, ◌++◌, ◌^◌, ◌<◌, Bool, true, false, List, [], ◌∷◌, Option, Some, None, refl, ap, ◌∙◌, arith, sym, subst, append_assoc, codes, length, length-append}
+use Rattle.std.proofs.Common.{◌≡◌, ℕ, ◌+◌, ◌++◌, ◌^◌, ◌<◌, true, false, List, [], ◌∷◌, Option, Some, None, refl, ap, ◌∙◌, arith, sym, subst, append_assoc, codes, length, length-append}
 use Rattle.std.specs.List.{flat_map, concat}
 use Rattle.std.proofs.lemmas.List.{append-nil}
 use Rattle.csub_tree.specs.declared.tree.CFile.{CFile}
 use Rattle.csub_tree.specs.declared.tree.CStruct.{CStruct}
 use Rattle.csub_tree.specs.declared.tree.CType.{CType}
-use Rattle.csub_tree.specs.declared.tree.CPrototype.{CPrototype}
-use Rattle.csub_tree.specs.declared.tree.CStatic.{CStatic}
 use Rattle.csub_tree.specs.declared.tree.CFunction.{CFunction}
 use Rattle.csub_tree.specs.declared.tree.CStmt.{CStmt}
 use Rattle.csub_tree.specs.declared.tree.CStmt.TheVariants as stmt
 use Rattle.csub_tree.specs.Checked.{ends_block, is_name}
 use Rattle.csub_tree.specs.Spelling as spell
-use Rattle.csub_text.specs.Written.{All, IsNumberIfAny, IsType, IsTypeIfAny, IsStatement, IsClosed, IsBlock, IsSomeBlocks, IsStruct, IsPrototype, IsStatic, IsFunction, IsSome, IsWritten}
-use Rattle.csub_text.specs.Text.{IsText, Begins}
+use Rattle.csub_text.specs.Written.{All, IsNumberIfAny, IsType, IsTypeIfAny, IsStatement, IsClosed, IsBlock, IsSomeBlocks, IsStruct, IsPrototype, IsStatic, IsFunction, IsSome}
+use Rattle.csub_text.specs.Text.{Begins}
 use Rattle.csub_text.specs.declared.places.Place.{Place}
 use Rattle.csub_text.specs.declared.places.Place.TheVariants.{Start, Include, Structs, Fields, Items, Prototypes, Statics, Functions, Named, Headed, Locals, Statements, Blocks}
 use Rattle.csub_text.specs.Lines as fits
@@ -50,7 +48,7 @@ listed_on text ok k n before bytes x h p =
       all = all_snoc ok h.parts x h.all p;
       next = more;
       is = ap (λ t. t ++ text n x) h.is ∙ append_assoc before (spell.numbered text k h.parts) (text n x)
-      ∙ ap (λ m. before ++ (spell.numbered text k h.parts ++ text m x)) h.next ∙ ap (λ t. before ++ t) (sym (numbered_snoc text k h.parts x));
+          ∙ ap (λ m. before ++ (spell.numbered text k h.parts ++ text m x)) h.next ∙ ap (λ t. before ++ t) (sym (numbered_snoc text k h.parts x));
     }
 
 -- ---- what was written where lines have come to a place

@@ -1,5 +1,5 @@
 -- A line that may come is read as such, to its end, so that there is one place after it.
-use Rattle.std.proofs.Common.{◌≡◌, ℕ, ◌+◌, ◌++◌, ◌^◌, ◌<◌, ◌==◌, ◌&&◌, Bool, true, false, cond, List, [], ◌∷◌, Option, Some, None, refl, ap, ◌∙◌, sym, append_assoc, codes, length}
+use Rattle.std.proofs.Common.{◌≡◌, ℕ, ◌+◌, ◌++◌, ◌^◌, ◌<◌, ◌==◌, ◌&&◌, Bool, true, false, cond, List, [], Option, Some, None, refl, ap, ◌∙◌, sym, codes, length}
 use Rattle.std.specs.Fmt.{decimal}
 use Rattle.std.proofs.lemmas.List.{append-nil}
 use Rattle.csub_tree.specs.declared.tree.CType.{CType}
@@ -13,13 +13,13 @@ use Rattle.csub_text.specs.Read.{Got, begins}
 use Rattle.csub_text.specs.ReadFile as of
 use Rattle.csub_text.specs.ReadLine.{at_function, at_static, at_prototype, struct_start, at_struct, items_line, items_or_end, no_base, base_line, at_field, block_start, at_head, at_local, at_statement, at_block, read_line}
 use Rattle.csub_text.specs.declared.places.Place.{Place}
-use Rattle.csub_text.specs.declared.places.Place.TheVariants.{Start, Include, Structs, Fields, Items, Prototypes, Statics, Functions, Named, Headed, Locals, Statements, Blocks}
+use Rattle.csub_text.specs.declared.places.Place.TheVariants.{Structs, Fields, Items, Prototypes, Statics, Functions, Named, Headed, Locals, Statements, Blocks}
 use Rattle.csub_text.specs.Lines as fits
 use Rattle.csub_text.specs.Lines.{Fits}
 use Rattle.csub_text.proofs.Numbers.{stripped_own, number_own}
 use Rattle.csub_text.proofs.Names.{before_name_own}
 use Rattle.csub_text.proofs.Statements.{two}
-use Rattle.csub_text.proofs.Declarations.{Counted, seven_of, items_of, base_pieces, field_own, sees_field, no_base_type, head_own}
+use Rattle.csub_text.proofs.Declarations.{seven_of, items_of, base_pieces, field_own, sees_field, no_base_type, head_own}
 use Rattle.csub_text.proofs.Functions.{statement_line_own, name_line_own, local_own}
 use Rattle.csub_text.proofs.Files.{prototypes_counted, static_own, is_static}
 

@@ -1,5 +1,5 @@
 -- The lines of a text lead from its start, and what leads further from the same lines is found by the next line alone.
-use Rattle.std.proofs.Common.{◌≡◌, ℕ, zero, suc, ◌+◌, ◌++◌, ◌==◌, Bool, true, false, cond, List, [], ◌∷◌, Option, Some, None, refl, ap, ◌∙◌, arith, sym, subst, append_assoc, codes, length}
+use Rattle.std.proofs.Common.{◌≡◌, ℕ, ◌+◌, ◌++◌, ◌==◌, Bool, true, false, cond, List, [], ◌∷◌, Option, Some, None, refl, ap, ◌∙◌, sym, subst, append_assoc, codes, length}
 use Rattle.std.specs.List.{flat_map, concat}
 use Rattle.std.proofs.lemmas.List.{append-nil}
 use Rattle.csub_tree.specs.declared.tree.CFile.{CFile}
@@ -218,6 +218,8 @@ file_walked c ok =
     let s = structs_walked 0 c.structs ok.0 in
     let p : WalkOpen (Structs s.0) (spell.numbered spell.prototype_text 0 c.prototypes) (Statics 0) = prototypes_walked (Structs s.0) 0 c.prototypes ok.1 (λ l q f. fits.no_struct s.0 l q f) in
     let g : WalkOpen p.0 (spell.numbered spell.static_text 0 c.statics) (Functions 0) = statics_walked p.0 0 c.statics ok.2 p.2 in
-    let f = functions_walked g.0 0 c.functions ok.3 g.2 in
-    (f.0, walked_as (walked_on head_walked (walked_on s.1 (walked_on p.1 (walked_on g.1 f.1))))
-    (file_pieces spell.file_head (spell.numbered spell.struct_text 0 c.structs) (spell.numbered spell.prototype_text 0 c.prototypes) (spell.numbered spell.static_text 0 c.statics) (spell.numbered spell.function_text 0 c.functions)))
+    let f = functions_walked g.0 0 c.functions ok.3 g.2 in (
+      f.0,
+      walked_as (walked_on head_walked (walked_on s.1 (walked_on p.1 (walked_on g.1 f.1))))
+          (file_pieces spell.file_head (spell.numbered spell.struct_text 0 c.structs) (spell.numbered spell.prototype_text 0 c.prototypes) (spell.numbered spell.static_text 0 c.statics) (spell.numbered spell.function_text 0 c.functions)),
+    )

@@ -1,6 +1,5 @@
 -- How a line is read where the lines of a text have come so far.
-use Rattle.std.specs.Prelude.{ℕ, ◌+◌, ◌++◌, ◌==◌, ◌&&◌, cond, List, [], ◌∷◌, Option, Some, None, codes, length}
-use Rattle.std.specs.Fmt.{decimal}
+use Rattle.std.specs.Prelude.{ℕ, ◌+◌, ◌==◌, ◌&&◌, cond, List, codes, length}
 use Rattle.csub_tree.specs.declared.tree.CStmt.{CStmt}
 use Rattle.csub_tree.specs.Checked.{ends_block}
 use Rattle.csub_text.specs.Read.{Got, after, stripped, begins, literal, name, ended, mapped, before_name}

@@ -3,9 +3,9 @@
 
 mod places;
 
-pub use places::Place;
-
 ghost use Rattle.csub_text.specs.Laws.{DeadIsNoText, OneDeadLine, OneFile};
+
+pub use places::Place;
 
 /// The spelling of a file is the text of that file and of no other.
 pub fn spelling_is_of_one_file()

@@ -1,4 +1,3 @@
-use Rattle.std.proofs.Common.{rules}
 use Rattle.csub_reader.proofs.Placed.{block_placed, function_ended}
 use Rattle.csub_reader.proofs.lines.at_block.Goals as goal
 

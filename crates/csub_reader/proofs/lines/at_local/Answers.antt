@@ -1,4 +1,3 @@
-use Rattle.std.proofs.Common.{rules}
 use Rattle.csub_reader.proofs.Placed.{first_block_placed}
 use Rattle.csub_reader.proofs.lines.at_local.Goals as goal
 

@@ -1,4 +1,3 @@
-use Rattle.std.proofs.Common.{rules}
 use Rattle.csub_reader.proofs.Placed.{past_prototypes}
 use Rattle.csub_reader.proofs.lines.at_prototype.Goals as goal
 

@@ -1,4 +1,4 @@
-use Rattle.std.proofs.Common.{◌≡◌, ◌<◌, ◌^◌, ◌+◌, [], refl, rules, arith, length, drop, ap, sym, length-drop}
+use Rattle.std.proofs.Common.{◌≡◌, ◌<◌, ◌^◌, [], refl, rules, arith, length, drop, ap, sym, length-drop}
 use Rattle.csub_text.proofs.DeadLine.{lines_fit, line_len_some, line_passed, dead_here, dead_behind}
 use Rattle.csub_reader.proofs.lines.dead_line.Goals as goal
 

@@ -1,4 +1,3 @@
-use Rattle.std.proofs.Common.{rules}
 use Rattle.csub_reader.proofs.Placed.{fields_ended}
 use Rattle.csub_reader.proofs.lines.fields_end.Goals as goal
 

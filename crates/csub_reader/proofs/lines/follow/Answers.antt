@@ -1,4 +1,4 @@
-use Rattle.std.proofs.Common.{rules, ap, ◌∙◌, sym}
+use Rattle.std.proofs.Common.{ap, ◌∙◌, sym}
 use Rattle.csub_reader.proofs.Placed.{more_follows, refuses}
 use Rattle.csub_text.specs.ReadLine.{read_line}
 use Rattle.csub_reader.proofs.lines.follow.Goals as goal

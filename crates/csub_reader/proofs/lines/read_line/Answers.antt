@@ -1,4 +1,3 @@
-use Rattle.std.proofs.Common.{rules}
 use Rattle.csub_reader.proofs.Placed.{start_placed, include_placed, brace_placed, items_end_placed}
 use Rattle.csub_reader.proofs.lines.read_line.Goals as goal
 
