@@ -4,4 +4,5 @@ pub mod Longer
 pub mod Loops
 pub mod Nested
 pub mod Pieces
+pub mod Placed
 pub mod Turns

@@ -1,4 +1,5 @@
 pub mod Callee
+pub mod Follows
 pub mod Functions
 pub mod OpenCells
 pub mod Refused

@@ -4,6 +4,7 @@
 mod cells;
 mod cursor;
 mod fault;
+mod lines;
 mod names;
 mod parts;
 mod read;

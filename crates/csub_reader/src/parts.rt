@@ -15,7 +15,7 @@ use rpy_base::Seq;
 use std::alloc::Global;
 
 // Whether the next line is `    struct sN a0;`.
-fn sees_base_line(bytes: &[u8]) -> bool
+pub fn sees_base_line(bytes: &[u8]) -> bool
     ensures { result ≡ pure.sees_base_line bytes.now }
 {
     let mut start = Cursor::new(bytes);
@@ -55,7 +55,7 @@ fn first_of(base: Option<u64>) -> u64
 }
 
 // Whether the next line is `    TYPE aN;`, and not `    TYPE items[];`.
-fn sees_field_line(bytes: &[u8]) -> bool
+pub fn sees_field_line(bytes: &[u8]) -> bool
     ensures { result ≡ pure.sees_field_line bytes.now }
 {
     let mut start = Cursor::new(bytes);
@@ -63,7 +63,7 @@ fn sees_field_line(bytes: &[u8]) -> bool
 }
 
 #[tactic(auto, unfolding(csub_text::specs::ReadFile::field_line))]
-fn field_line(bytes: &mut Cursor<'_>, k: u64) -> Result<CType, Stop>
+pub fn field_line(bytes: &mut Cursor<'_>, k: u64) -> Result<CType, Stop>
     ensures spelled { IfOk result (λ kind. bytes.old ≡ field_line k kind ++ bytes.new) }
     ensures reads { Reads (pure.field_line k bytes.old) result bytes.new }
 {

@@ -7,22 +7,23 @@ ghost use Rattle.csub_text.specs.ReadFile as pure;
 ghost use Rattle.csub_reader.specs.Reads.{Reads, ReadsWhole, Strips};
 ghost use Rattle.csub_reader.specs.Parts.{none_yet};
 ghost use Rattle.csub_reader.specs.Functions.{ReadsHeading, ReadsInsides};
-ghost use Rattle.csub_reader.specs.Refused.{IsRefused};
-ghost use Rattle.csub_text.specs.Text.{IsText};
+ghost use Rattle.csub_reader.specs.Refused.{IsRefused, NamesDead};
+ghost use Rattle.csub_text.specs.Text.{IsText, IsNoText};
 ghost use Rattle.csub_tree.specs.Spelling.{numbered, local_line, block_text, function_start, function_body, function_text, struct_text, prototype_text, static_text, cell_text, cells_text, file_text, head, line};
 
 use crate::cells::cells;
 use crate::cursor::{Cursor, begins};
 use crate::fault::{CFault, Stop};
+use crate::lines::dead_line;
 use crate::names::{expect_name, name};
 use crate::parts::{head, parameter, prototype, struct_text};
 use crate::statements::statements;
 use csub_tree::{CFile, CFunction, CPrototype, CStatic, CStmt, CStruct, CType, checked};
-use rpy_base::{Seq, Text};
+use rpy_base::{NoMem, Seq, Text};
 use std::alloc::Global;
 
 #[tactic(auto, unfolding(csub_text::specs::ReadFile::static_text))]
-fn static_text(alloc: Global, bytes: &mut Cursor<'_>, n: u64) -> Result<CStatic, Stop>
+pub fn static_text(alloc: Global, bytes: &mut Cursor<'_>, n: u64) -> Result<CStatic, Stop>
     ensures spelled { IfOk result (λ item. bytes.old ≡ static_text n item ++ bytes.new) }
     ensures reads { Reads (pure.static_text n bytes.old) result bytes.new }
 {
@@ -73,7 +74,7 @@ fn function_name(alloc: Global, bytes: &mut Cursor<'_>) -> Result<Text, Stop>
 }
 
 #[tactic(auto, unfolding(csub_text::specs::ReadFile::name_line))]
-fn name_line(alloc: Global, bytes: &mut Cursor<'_>) -> Result<Text, Stop>
+pub fn name_line(alloc: Global, bytes: &mut Cursor<'_>) -> Result<Text, Stop>
     ensures spelled { IfOk result (λ name. bytes.old ≡ (codes "/* " ++ name ++ codes " */\n") ++ bytes.new) }
     ensures reads { Reads (pure.name_line bytes.old) result bytes.new }
 {
@@ -109,7 +110,7 @@ fn start(alloc: Global, bytes: &mut Cursor<'_>, n: u64) -> Result<Heading, Stop>
 }
 
 #[tactic(auto, unfolding(csub_text::specs::ReadFile::local_line))]
-fn local_line(bytes: &mut Cursor<'_>, k: u64) -> Result<CType, Stop>
+pub fn local_line(bytes: &mut Cursor<'_>, k: u64) -> Result<CType, Stop>
     ensures spelled { IfOk result (λ kind. bytes.old ≡ local_line k kind ++ bytes.new) }
     ensures reads { Reads (pure.local_line k bytes.old) result bytes.new }
 {
@@ -249,7 +250,7 @@ fn sees_static(bytes: &[u8]) -> bool
 }
 
 // Whether the next line is the head of a function.
-fn sees_prototype(bytes: &[u8]) -> bool
+pub fn sees_prototype(bytes: &[u8]) -> bool
     ensures { result ≡ pure.sees_prototype bytes.now }
 {
     begins(bytes, b"static ") && !sees_static(bytes)
@@ -364,16 +365,16 @@ fn whole(alloc: Global, bytes: &mut Cursor<'_>) -> Result<CFile, Stop>
     }
 }
 
-// How many lines end in these bytes.
-fn line_ends(bytes: &[u8]) -> u64 {
-    bytes.iter().filter(|b| **b == b'\n').count() as u64
-}
-
-// The line in which what is left begins, counted from 1.
-fn line_of(text: &Text, rest: &[u8]) -> u64 {
-    line_ends(text.bytes())
-        .saturating_sub(line_ends(rest))
-        .saturating_add(1)
+// Why bytes are refused that are the text of no file.
+fn refusal(alloc: Global, text: &Text) -> CFault
+    requires { IsNoText text.now }
+    ensures refused { IsRefused text.now result }
+    ensures line { NamesDead text.now result }
+{
+    match dead_line(alloc, text) {
+        Ok(line) => CFault::NotText(line),
+        Err(NoMem) => CFault::NoMem,
+    }
 }
 
 /// The file that a text spells, whether or not it keeps the further rules of a C file. It is
@@ -383,11 +384,12 @@ pub fn read_text(alloc: Global, text: &Text) -> Result<CFile, CFault>
     ensures spelled { IfOk result (λ file. text.now ≡ file_text file) }
     ensures text { IfOk result (λ file. IsText text.now file) }
     ensures refused { IfErr result (λ fault. IsRefused text.now fault) }
+    ensures line { IfErr result (λ fault. NamesDead text.now fault) }
 {
     let mut bytes = Cursor::new(text.bytes());
     match whole(alloc, &mut bytes) {
         Ok(file) => Ok(file),
-        Err(Stop::NoText) => Err(CFault::NotText(line_of(text, bytes.rest()))),
+        Err(Stop::NoText) => Err(refusal(alloc, text)),
         Err(Stop::NoMem) => Err(CFault::NoMem),
     }
 }
@@ -398,6 +400,7 @@ pub fn read_c(alloc: Global, text: &Text) -> Result<CFile, CFault>
     ensures text { IfOk result (λ file. IsText text.now file) }
     ensures checked { IfOk result (λ file. IsChecked file) }
     ensures refused { IfErr result (λ fault. IsRefused text.now fault) }
+    ensures line { IfErr result (λ fault. NamesDead text.now fault) }
 {
     let file = read_text(alloc, text)?;
     match checked(&file) {

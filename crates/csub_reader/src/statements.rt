@@ -818,7 +818,7 @@ fn statement(alloc: Global, bytes: &mut Cursor<'_>) -> Result<CStmt, Stop>
     }
 }
 
-fn statement_line(alloc: Global, bytes: &mut Cursor<'_>) -> Result<CStmt, Stop>
+pub fn statement_line(alloc: Global, bytes: &mut Cursor<'_>) -> Result<CStmt, Stop>
     ensures spelled { IfOk result (λ s. bytes.old ≡ statement_line s ++ bytes.new) }
     ensures reads { Reads (of_file.statement_line bytes.old) result bytes.new }
 {
@@ -829,7 +829,7 @@ fn statement_line(alloc: Global, bytes: &mut Cursor<'_>) -> Result<CStmt, Stop>
 }
 
 /// Whether a block ends with it.
-fn is_end(s: &CStmt) -> bool
+pub fn is_end(s: &CStmt) -> bool
     ensures { result ≡ ends_block s.now }
 {
     match s {

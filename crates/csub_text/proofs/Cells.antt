@@ -23,11 +23,11 @@ use Rattle.csub_text.proofs.Names.{constant_own}
 fits_below : (n m : ℕ) → nat_lt n m ≡ true → n < m
 fits_below n m e = grind (arith, common_steps)
 
-first_true : (b c : Bool) → (b && c) ≡ true → b ≡ true
+pub first_true : (b c : Bool) → (b && c) ≡ true → b ≡ true
 first_true true c e = refl
 first_true false c e = e
 
-second_true : (b c : Bool) → (b && c) ≡ true → c ≡ true
+pub second_true : (b c : Bool) → (b && c) ≡ true → c ≡ true
 second_true true c e = e
 second_true false c e = cc
 

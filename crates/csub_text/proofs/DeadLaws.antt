@@ -5,7 +5,7 @@ use Rattle.csub_tree.specs.declared.tree.CFile.{CFile}
 use Rattle.csub_tree.specs.declared.tree.CFunction.{CFunction}
 use Rattle.csub_tree.specs.Spelling as spell
 use Rattle.csub_text.specs.Written.{IsWritten, IsSome}
-use Rattle.csub_text.specs.Text.{IsText, IsNoText, Begins, AreLines, line_ends, first_line, has_line, IsDead}
+use Rattle.csub_text.specs.Text.{IsText, IsNoText, AreLines, line_ends, first_line, has_line, IsDead}
 
 -- ---- lines
 

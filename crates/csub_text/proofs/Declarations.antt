@@ -13,7 +13,7 @@ use Rattle.csub_text.proofs.Names.{before_name_own, result_before_name_own}
 use Rattle.csub_text.proofs.Statements.{two, three}
 
 -- an inner line with a type and a numbered name
-seven_of : (i t a n e l r : List ℕ) → (i ++ (t ++ (a ++ n) ++ e) ++ l) ++ r ≡ i ++ (t ++ (a ++ (n ++ (e ++ (l ++ r)))))
+pub seven_of : (i t a n e l r : List ℕ) → (i ++ (t ++ (a ++ n) ++ e) ++ l) ++ r ≡ i ++ (t ++ (a ++ (n ++ (e ++ (l ++ r)))))
 seven_of i t a n e l r = simp append_assoc
 
 three_of : (a b c r : List ℕ) → (a ++ (b ++ c)) ++ r ≡ a ++ (b ++ (c ++ r))
@@ -73,13 +73,13 @@ some_own test text read ok h (suc f) k first (x ∷ xs) r few all e done is =
 
 -- ---- structs
 
-field_own : (k : ℕ) (t : CType) (r : List ℕ) → IsType t → field_line k (spell.field_line k t ++ r) ≡ Some (t, r)
+pub field_own : (k : ℕ) (t : CType) (r : List ℕ) → IsType t → field_line k (spell.field_line k t ++ r) ≡ Some (t, r)
 unfolding field_line
 field_own k t r ok =
     ap (field_line k) (seven_of (codes "    ") (spell.before_name t) (codes "a") (decimal k) (codes ";") (codes "\n") r)
     ∙ rw (before_name_own t (codes "a" ++ (decimal k ++ (codes ";\n" ++ r))) ok, stripped_own (decimal k) (codes ";\n" ++ r)) refl
 
-sees_field : (k : ℕ) (t : CType) (r : List ℕ) → IsType t → of.sees_field_line (spell.field_line k t ++ r) ≡ true
+pub sees_field : (k : ℕ) (t : CType) (r : List ℕ) → IsType t → of.sees_field_line (spell.field_line k t ++ r) ≡ true
 sees_field k t r ok =
     ap of.sees_field_line (seven_of (codes "    ") (spell.before_name t) (codes "a") (decimal k) (codes ";") (codes "\n") r)
     ∙ rw (before_name_own t (codes "a" ++ (decimal k ++ (codes ";\n" ++ r))) ok) refl
@@ -103,7 +103,7 @@ fields = record {
 abbrev tail : Option CType → List ℕ → List ℕ
 tail items r = spell.items_line items ++ (codes "};\n" ++ r)
 
-items_of : (i t n l r : List ℕ) → (i ++ (t ++ n) ++ l) ++ r ≡ i ++ (t ++ (n ++ (l ++ r)))
+pub items_of : (i t n l r : List ℕ) → (i ++ (t ++ n) ++ l) ++ r ≡ i ++ (t ++ (n ++ (l ++ r)))
 items_of i t n l r = simp append_assoc
 
 items_own : (items : Option CType) (r : List ℕ) → IsTypeIfAny items → items_line (tail items r) ≡ Some (items, codes "};\n" ++ r)
@@ -129,7 +129,7 @@ unfolding field_lines
 fields_own k ts items r all ok = all_own of.sees_field_line spell.field_line field_line IsType fields k ts (tail items r) all (ends_tail items r) (no_field items r ok)
 
 -- a type with a name behind it is no inline base
-no_base_type : (t : CType) (r : List ℕ) → IsType t → of.sees_base_line (codes "    " ++ (spell.before_name t ++ r)) ≡ false
+pub no_base_type : (t : CType) (r : List ℕ) → IsType t → of.sees_base_line (codes "    " ++ (spell.before_name t ++ r)) ≡ false
 no_base_type type.Signed r ok = refl
 no_base_type type.Char r ok = refl
 no_base_type type.Bool r ok = refl
@@ -147,7 +147,7 @@ no_base (t ∷ ts) items r all ok =
     ∙ seven_of (codes "    ") (spell.before_name t) (codes "a") (decimal 0) (codes ";") (codes "\n") (spell.numbered spell.field_line 1 ts ++ tail items r))
     ∙ no_base_type t (codes "a" ++ (decimal 0 ++ (codes ";\n" ++ (spell.numbered spell.field_line 1 ts ++ tail items r)))) all.0
 
-base_pieces : (i s n a l r : List ℕ) → (i ++ ((s ++ n) ++ a) ++ l) ++ r ≡ i ++ (s ++ (n ++ (a ++ (l ++ r))))
+pub base_pieces : (i s n a l r : List ℕ) → (i ++ ((s ++ n) ++ a) ++ l) ++ r ≡ i ++ (s ++ (n ++ (a ++ (l ++ r))))
 base_pieces i s n a l r = simp append_assoc
 
 base_some : (m : ℕ) (r : List ℕ) → m < 2 ^ 64 → base_line (spell.base_line (Some m) ++ r) ≡ Some (Some m, r)

@@ -65,7 +65,7 @@ no_static n p r ok =
     ap of.sees_static (prototype_pieces (codes "static ") (spell.result_before_name p.result) (spell.function_name n) (codes "(") (spell.parameters p.params) (codes ")") (codes ";") (codes "\n") r)
     ∙ no_static_at p.result (spell.function_name n ++ (codes "(" ++ (spell.parameters p.params ++ (codes ");\n" ++ r)))) ok.0
 
-prototypes_counted : Counted of.sees_prototype spell.prototype_text prototype IsPrototype
+pub prototypes_counted : Counted of.sees_prototype spell.prototype_text prototype IsPrototype
 prototypes_counted = record {
   one = λ n p r ok e. prototype_own n p.result p.params r ok.0 ok.1;
   sees = λ n p r ok e. rw (no_static n p r ok) refl;
@@ -76,7 +76,7 @@ prototypes_counted = record {
 static_pieces : (s k g n q c e r : List ℕ) → (s ++ (k ++ g ++ n ++ q) ++ (c ++ e)) ++ r ≡ s ++ (k ++ (g ++ (n ++ (q ++ (c ++ (e ++ r))))))
 static_pieces s k g n q c e r = simp append_assoc
 
-static_own : (n : ℕ) (g : CStatic) (r : List ℕ) → IsStatic g → static_text n (spell.static_text n g ++ r) ≡ Some (g, r)
+pub static_own : (n : ℕ) (g : CStatic) (r : List ℕ) → IsStatic g → static_text n (spell.static_text n g ++ r) ≡ Some (g, r)
 unfolding static_text
 static_own n g r ok =
     ap (static_text n) (static_pieces (codes "static struct s") (decimal g.kind) (codes " g") (decimal n) (codes " = ") (spell.cells_text (map spell.cell_text g.cells)) (codes ";\n") r)
@@ -86,7 +86,7 @@ static_own n g r ok =
       cells_own g.cells (codes ";\n" ++ r) ok.1 refl,
     ) refl
 
-is_static : (n : ℕ) (g : CStatic) (r : List ℕ) → IsStatic g → of.sees_static (spell.static_text n g ++ r) ≡ true
+pub is_static : (n : ℕ) (g : CStatic) (r : List ℕ) → IsStatic g → of.sees_static (spell.static_text n g ++ r) ≡ true
 is_static n g r ok =
     ap of.sees_static (static_pieces (codes "static struct s") (decimal g.kind) (codes " g") (decimal n) (codes " = ") (spell.cells_text (map spell.cell_text g.cells)) (codes ";\n") r)
     ∙ rw (number_own (2 ^ 64) g.kind (codes " g" ++ (decimal n ++ (codes " = " ++ (spell.cells_text (map spell.cell_text g.cells) ++ (codes ";\n" ++ r))))) ok.0 ok.0 refl) refl

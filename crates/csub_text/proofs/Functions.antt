@@ -17,7 +17,7 @@ use Rattle.csub_text.proofs.Declarations.{Counted, all_own, some_own, longer, pa
 
 -- ---- blocks
 
-statement_line_own : (s : CStmt) (r : List ℕ) → IsStatement s → of.statement_line (spell.statement_line s ++ r) ≡ Some (s, r)
+pub statement_line_own : (s : CStmt) (r : List ℕ) → IsStatement s → of.statement_line (spell.statement_line s ++ r) ≡ Some (s, r)
 statement_line_own s r ok =
     ap of.statement_line (three (codes "    ") (spell.statement_text s) (codes "\n") r) ∙ rw (statement_own s (codes "\n" ++ r) ok) refl
 
@@ -100,7 +100,7 @@ name_start_own (b ∷ bs) r e = name_start_at (is_name_byte b) (is_name bs) b (n
 name_pieces : (s b e l r : List ℕ) → ((s ++ b ++ e) ++ l) ++ r ≡ s ++ (b ++ (e ++ (l ++ r)))
 name_pieces s b e l r = simp append_assoc
 
-name_line_own : (bs r : List ℕ) → is_name bs ≡ true → name_line (spell.line (codes "/* " ++ bs ++ codes " */") ++ r) ≡ Some (bs, r)
+pub name_line_own : (bs r : List ℕ) → is_name bs ≡ true → name_line (spell.line (codes "/* " ++ bs ++ codes " */") ++ r) ≡ Some (bs, r)
 unfolding name_line function_name
 name_line_own bs r e =
     ap name_line (name_pieces (codes "/* ") bs (codes " */") (codes "\n") r)
@@ -111,7 +111,7 @@ name_line_own bs r e =
 local_pieces : (i p s l r : List ℕ) → (i ++ (p ++ s) ++ l) ++ r ≡ i ++ (p ++ (s ++ (l ++ r)))
 local_pieces i p s l r = simp append_assoc
 
-local_own : (k : ℕ) (t : CType) (r : List ℕ) → IsType t → local_line k (spell.local_line k t ++ r) ≡ Some (t, r)
+pub local_own : (k : ℕ) (t : CType) (r : List ℕ) → IsType t → local_line k (spell.local_line k t ++ r) ≡ Some (t, r)
 unfolding local_line
 local_own k t r ok =
     ap (local_line k) (local_pieces (codes "    ") (spell.parameter k t) (codes ";") (codes "\n") r) ∙ rw (parameter_own k t (codes ";\n" ++ r) ok) refl

@@ -1,8 +1,13 @@
 pub mod DeadLaws
+pub mod DeadLine
 pub mod Cells
 pub mod Declarations
 pub mod Files
 pub mod Functions
+pub mod Lines
+pub mod LinesBegin
+pub mod LinesRead
+pub mod LinesWalked
 pub mod Names
 pub mod Numbers
 pub mod Statements

@@ -46,11 +46,11 @@ gives_weaker (some x j q) more = some x j (more x q)
 
 -- ---- structs and heads
 
-base_line_valid : (i : List ℕ) → Gives IsNumberIfAny (base_line i)
+pub base_line_valid : (i : List ℕ) → Gives IsNumberIfAny (base_line i)
 unfolding base_line
 base_line_valid i = gives_cond (of.sees_base_line i) (gives_mapped Some (gives_ended (codes " a0;\n") (name_valid (codes "    struct s") i)) (λ n h. h)) (some None i tt)
 
-field_line_valid : (k : ℕ) (i : List ℕ) → Gives IsType (field_line k i)
+pub field_line_valid : (k : ℕ) (i : List ℕ) → Gives IsType (field_line k i)
 unfolding field_line
 field_line_valid k i = gives_after (stripped (codes "    ") i) (λ j. gives_then (before_name_valid j) (λ t l h. gives_after (stripped (codes "a" ++ decimal k) l) (λ m. gives_literal (codes ";\n") t m h)))
 
@@ -58,11 +58,11 @@ field_lines_valid : (k : ℕ) (i : List ℕ) → Gives (All IsType) (field_lines
 unfolding field_lines
 field_lines_valid k i = while_valid of.sees_field_line field_line field_line_valid (length i) k i
 
-items_line_valid : (i : List ℕ) → Gives IsTypeIfAny (items_line i)
+pub items_line_valid : (i : List ℕ) → Gives IsTypeIfAny (items_line i)
 unfolding items_line
 items_line_valid i = gives_cond (begins (codes "    ") i) (gives_after (stripped (codes "    ") i) (λ j. gives_mapped Some (gives_ended (codes "items[];\n") (before_name_valid j)) (λ t h. h))) (some None i tt)
 
-struct_valid : (n : ℕ) (i : List ℕ) → Gives IsStruct (struct_text n i)
+pub struct_valid : (n : ℕ) (i : List ℕ) → Gives IsStruct (struct_text n i)
 unfolding struct_text
 struct_valid n i =
     gives_after (stripped (codes "struct s" ++ decimal n) i) (λ j. gives_after (stripped (codes " {\n") j) (λ k.
@@ -83,13 +83,13 @@ parameters_valid i =
     gives_cond (begins (codes "void") i) (gives_literal (codes "void") [] i tt)
     (gives_then (parameter_valid 0 i) (λ t j h. gives_mapped (λ ts. t ∷ ts) (while_valid (begins (codes ", ")) more_parameter more_parameter_valid (length j) 1 j) (λ ts hs. (h, hs))))
 
-head_valid : (n : ℕ) (i : List ℕ) → Gives IsPrototype (head n i)
+pub head_valid : (n : ℕ) (i : List ℕ) → Gives IsPrototype (head n i)
 unfolding head
 head_valid n i =
     gives_after (stripped (codes "static ") i) (λ j. gives_then (result_before_name_valid j) (λ result k h. gives_after (stripped (codes "f" ++ decimal n) k) (λ l.
     gives_after (stripped (codes "(") l) (λ m. gives_mapped (λ params. record { result = result; params = params }) (gives_ended (codes ")") (parameters_valid m)) (λ params g. (h, g))))))
 
-prototype_valid : (n : ℕ) (i : List ℕ) → Gives IsPrototype (prototype n i)
+pub prototype_valid : (n : ℕ) (i : List ℕ) → Gives IsPrototype (prototype n i)
 unfolding prototype
 prototype_valid n i = gives_ended (codes ";\n") (head_valid n i)
 
@@ -99,7 +99,7 @@ closed_more : (s : CStmt) (ss : List CStmt) → ends_block s ≡ false → IsClo
 closed_more s [] goes closed = absurd closed
 closed_more s (t ∷ ss) goes closed = (goes, closed)
 
-statement_line_valid : (i : List ℕ) → Gives IsStatement (of.statement_line i)
+pub statement_line_valid : (i : List ℕ) → Gives IsStatement (of.statement_line i)
 statement_line_valid i = gives_after (stripped (codes "    ") i) (λ j. gives_ended (codes "\n") (statement_valid j))
 
 further : (d : Bool) (s : CStmt) (j : List ℕ) (more : Got (List CStmt)) → IsStatement s → ends_block s ≡ d → Gives IsBlock more → Gives IsBlock (cond d (Some (s ∷ [], j)) (mapped (λ ss. s ∷ ss) more))
@@ -132,7 +132,7 @@ unfolding name_len
 is_name_of [] = refl
 is_name_of (b ∷ bs) = name_at (is_name_byte b) b (name_len bs) bs refl (is_name_of bs)
 
-name_line_valid : (i : List ℕ) → Gives (λ called. is_name called ≡ true) (name_line i)
+pub name_line_valid : (i : List ℕ) → Gives (λ called. is_name called ≡ true) (name_line i)
 unfolding name_line function_name
 name_line_valid i = gives_after (stripped (codes "/* ") i) (λ j. gives_ended (codes " */\n") (gives_literal (take (name_len j) j) (take (name_len j) j) j (is_name_of j)))
 
@@ -141,7 +141,7 @@ unfolding heading
 heading_valid n i =
     gives_then (name_line_valid i) (λ called j a. gives_then (head_valid n j) (λ p k b. gives_after (stripped (codes "\n") k) (λ l. gives_literal (codes "{\n") (called, p.result, p.params) l (a, b.0, b.1))))
 
-local_line_valid : (k : ℕ) (i : List ℕ) → Gives IsType (local_line k i)
+pub local_line_valid : (k : ℕ) (i : List ℕ) → Gives IsType (local_line k i)
 unfolding local_line
 local_line_valid k i = gives_after (stripped (codes "    ") i) (λ j. gives_ended (codes ";\n") (parameter_valid k j))
 
@@ -246,7 +246,7 @@ cells_valid : (i : List ℕ) → Gives (All IsCell) (cells i)
 unfolding cells
 cells_valid i = turns_valid (length i) [] None i tt tt
 
-static_valid : (n : ℕ) (i : List ℕ) → Gives IsStatic (static_text n i)
+pub static_valid : (n : ℕ) (i : List ℕ) → Gives IsStatic (static_text n i)
 unfolding static_text
 static_valid n i =
     gives_then (name_valid (codes "static struct s") i) (λ kind j a. gives_after (stripped (codes " g" ++ decimal n) j) (λ k. gives_after (stripped (codes " = ") k) (λ l.

@@ -1,7 +1,11 @@
 //! What bytes are the text of a C file, and that they are so of one file alone.
 #![tactic(auto)]
 
+mod places;
+
 ghost use Rattle.csub_text.specs.Laws.{DeadIsNoText, OneDeadLine, OneFile};
+
+pub use places::Place;
 
 /// The spelling of a file is the text of that file and of no other.
 pub fn spelling_is_of_one_file()
