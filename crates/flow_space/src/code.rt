@@ -54,7 +54,7 @@ pub struct Act {
     pub op: RowOp,
 }
 
-pub fn act(node: NodeId, value: bool, op: RowOp) -> Act {
+pub fn op_at(node: NodeId, value: bool, op: RowOp) -> Act {
     Act { node, value, op }
 }
 

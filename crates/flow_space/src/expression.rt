@@ -2,7 +2,7 @@
 // known numbers. Where a part begins, the first variables of a block are the function's locals, and
 // those that enclosing parts hold stand behind them. A part's value is one more.
 use crate::NEVER;
-use crate::code::{Act, Code, Head, Jump, Scope, act, jump_and, jump_first, jump_stored};
+use crate::code::{Act, Code, Head, Jump, Scope, jump_and, jump_first, jump_stored, op_at};
 use crate::copy::copy_op;
 use crate::narrow::{Narrowing, Side, narrowed};
 use crate::places::{narrow, one, plus, range, three, two};
@@ -69,7 +69,7 @@ fn put_copy(
 ) -> Result<u64, NoMem> {
     let args = one(alloc, place)?;
     let jump = jump_and(alloc, norm, m, m)?;
-    code.put_op(alloc, scope, act(node, true, RowOp::Copy), args, m, jump)
+    code.put_op(alloc, scope, op_at(node, true, RowOp::Copy), args, m, jump)
 }
 
 // The meeting of the ways of `and` and `or`: the value is the last of m + 1 variables.
@@ -81,7 +81,15 @@ fn put_meeting(
     m: usize,
     norm: u64,
 ) -> Result<u64, NoMem> {
-    put_last(alloc, code, scope, act(node, true, RowOp::Copy), m, 1, norm)
+    put_last(
+        alloc,
+        code,
+        scope,
+        op_at(node, true, RowOp::Copy),
+        m,
+        1,
+        norm,
+    )
 }
 
 /// Blocks that evaluate an expression where m variables are there, and the first of them. They go on
@@ -101,7 +109,7 @@ pub fn put_expr(
         }
         Expr::Constant(node, value) => {
             let op = RowOp::Constant(copy_const(alloc, value)?);
-            put_leaf(alloc, code, scope, act(*node, true, op), m, norm)
+            put_leaf(alloc, code, scope, op_at(*node, true, op), m, norm)
         }
         Expr::Apply(node, value, op, es) => {
             put_apply(
@@ -211,7 +219,15 @@ fn put_operation(
     norm: u64,
 ) -> Result<u64, NoMem> {
     let op = copy_op(alloc, op)?;
-    let last = put_last(alloc, code, scope, act(node, value, op), m, es.len(), norm)?;
+    let last = put_last(
+        alloc,
+        code,
+        scope,
+        op_at(node, value, op),
+        m,
+        es.len(),
+        norm,
+    )?;
     put_exprs(alloc, code, scope, es, m, last)
 }
 
@@ -231,7 +247,7 @@ fn put_not(
         alloc,
         code,
         scope,
-        act(node, false, RowOp::Bool(true)),
+        op_at(node, false, RowOp::Bool(true)),
         m,
         meet,
     )?;
@@ -239,7 +255,7 @@ fn put_not(
         alloc,
         code,
         scope,
-        act(node, false, RowOp::Bool(false)),
+        op_at(node, false, RowOp::Bool(false)),
         m,
         meet,
     )?;
@@ -339,7 +355,7 @@ fn put_negated(
 fn put_unfit(alloc: Global, code: &mut Code, scope: &Scope, m: usize) -> Result<u64, NoMem> {
     let none: Seq<usize> = Seq::new(alloc);
     let jump = jump_first(alloc, NEVER, 0)?;
-    code.put_op(alloc, scope, act(0, false, RowOp::Copy), none, m, jump)
+    code.put_op(alloc, scope, op_at(0, false, RowOp::Copy), none, m, jump)
 }
 
 #[cycle(expr)]
@@ -419,7 +435,7 @@ fn put_narrowing(
     let block = code.put_op(
         alloc,
         scope,
-        act(node, false, narrowing.op),
+        op_at(node, false, narrowing.op),
         args,
         count,
         jump,
@@ -472,7 +488,7 @@ fn put_truth(
     code.put_op(
         alloc,
         scope,
-        act(node, false, RowOp::Truth),
+        op_at(node, false, RowOp::Truth),
         args,
         truth,
         jump,
@@ -539,7 +555,7 @@ fn put_sides(
     let block = code.put_op(
         alloc,
         scope,
-        act(node, value, RowOp::Compare(op)),
+        op_at(node, value, RowOp::Compare(op)),
         args,
         last,
         jump,
@@ -565,7 +581,7 @@ fn put_display(
         alloc,
         code,
         scope,
-        act(node, true, RowOp::Dict(site)),
+        op_at(node, true, RowOp::Dict(site)),
         m,
         next,
     )
@@ -606,7 +622,7 @@ fn put_pair(
     let all = plus(m, 3)?;
     let args = three(alloc, m, key, value)?;
     let jump = jump_first(alloc, norm, key)?;
-    let store = act(node, false, RowOp::StoreIndex);
+    let store = op_at(node, false, RowOp::StoreIndex);
     let stored = code.put_op(alloc, scope, store, args, all, jump)?;
     let right = put_expr(alloc, code, scope, &pair.1, value, stored)?;
     put_expr(alloc, code, scope, &pair.0, key, right)
@@ -629,7 +645,7 @@ pub fn put_subject(
     match subject {
         Subject::Over(site, e) => {
             let zero = put_zero(alloc, code, scope, node, m, norm)?;
-            let walk = act(node, false, RowOp::Walk(*site));
+            let walk = op_at(node, false, RowOp::Walk(*site));
             let walk = put_last(alloc, code, scope, walk, m, 1, zero)?;
             put_expr(alloc, code, scope, e, m, walk)
         }
@@ -673,7 +689,7 @@ fn put_zero(
         alloc,
         code,
         scope,
-        act(node, false, RowOp::Word(0)),
+        op_at(node, false, RowOp::Word(0)),
         more,
         norm,
     )
@@ -718,7 +734,7 @@ pub fn put_advance(
     let at = plus(walk.over, 1)?;
     let args = two(alloc, walk.over, at)?;
     let jump = jump_and(alloc, head.number, at, walk.all)?;
-    let of = act(walk.node, false, RowOp::Advance(walk.step));
+    let of = op_at(walk.node, false, RowOp::Advance(walk.step));
     code.put_op(alloc, scope, of, args, walk.all, jump)
 }
 
@@ -737,17 +753,17 @@ pub fn put_turn(
     let at = plus(walk.over, 1)?;
     let args = two(alloc, walk.over, at)?;
     let jump = jump_and(alloc, turn, walk.all, walk.all)?;
-    let of = act(walk.node, false, RowOp::Item(walk.step));
+    let of = op_at(walk.node, false, RowOp::Item(walk.step));
     let item = code.put_op(alloc, scope, of, args, walk.all, jump)?;
     let none: Seq<usize> = Seq::new(alloc);
     let jump = jump_first(alloc, item, walk.all)?;
-    let of = act(walk.node, false, RowOp::Turn);
+    let of = op_at(walk.node, false, RowOp::Turn);
     let paid = code.put_op(alloc, scope, of, none, walk.all, jump)?;
     let yes = jump_first(alloc, paid, walk.all)?;
     let fork = code.put_fork(alloc, more, walk.all, yes, done)?;
     let args = two(alloc, walk.over, at)?;
     let jump = jump_and(alloc, fork, walk.all, walk.all)?;
-    let of = act(walk.node, false, RowOp::HasItem(walk.step));
+    let of = op_at(walk.node, false, RowOp::HasItem(walk.step));
     let begin = code.put_op(alloc, scope, of, args, walk.all, jump)?;
     code.aim(alloc, head, begin)
 }
@@ -770,7 +786,7 @@ fn put_gather(
     let more = plus(walk.all, 1)?;
     let args = two(alloc, list, walk.all)?;
     let jump = jump_first(alloc, advance, walk.all)?;
-    let of = act(walk.node, false, RowOp::AddItem);
+    let of = op_at(walk.node, false, RowOp::AddItem);
     let add = code.put_op(alloc, scope, of, args, more, jump)?;
     let begin = put_expr(alloc, code, scope, item, walk.all, add)?;
     match condition {
@@ -819,7 +835,7 @@ fn put_comprehension(
     let done = jump_first(alloc, norm, over)?;
     put_turn(alloc, code, scope, walk, head, bind, done)?;
     let begin = put_subject(alloc, code, scope, subject, node, over, head.number)?;
-    let of = act(node, true, RowOp::Comprehension(site));
+    let of = op_at(node, true, RowOp::Comprehension(site));
     put_leaf(alloc, code, scope, of, m, begin)
 }
 
@@ -842,10 +858,10 @@ pub fn put_bind(
         Target::Name(node, local) => {
             let args = one(alloc, value)?;
             let jump = jump_stored(alloc, norm, keep, *local, m)?;
-            code.put_op(alloc, scope, act(*node, true, RowOp::Copy), args, m, jump)
+            code.put_op(alloc, scope, op_at(*node, true, RowOp::Copy), args, m, jump)
         }
         Target::Attr(node, e, name) => {
-            let of = act(*node, true, RowOp::StoreAttr(name.copy(alloc)?));
+            let of = op_at(*node, true, RowOp::StoreAttr(name.copy(alloc)?));
             let args = two(alloc, m, value)?;
             let jump = jump_first(alloc, norm, keep)?;
             let store = code.put_op(alloc, scope, of, args, plus(m, 1)?, jump)?;
@@ -886,7 +902,7 @@ fn put_item(
     let index = plus(m, 1)?;
     let args = three(alloc, m, index, value)?;
     let jump = jump_first(alloc, norm, keep)?;
-    let of = act(node, true, RowOp::StoreIndex);
+    let of = op_at(node, true, RowOp::StoreIndex);
     let store = code.put_op(alloc, scope, of, args, plus(m, 2)?, jump)?;
     let right = put_expr(alloc, code, scope, i, index, store)?;
     put_expr(alloc, code, scope, a, m, right)
@@ -910,7 +926,7 @@ fn put_parts(
     let begin = put_items(alloc, code, scope, node, parts, parts.len(), value, m, end)?;
     let args = one(alloc, value)?;
     let jump = jump_first(alloc, begin, m)?;
-    code.put_op(alloc, scope, act(node, true, RowOp::Copy), args, m, jump)
+    code.put_op(alloc, scope, op_at(node, true, RowOp::Copy), args, m, jump)
 }
 
 // The last parts of a tuple's target, of which there are `count`.
@@ -935,7 +951,7 @@ fn put_items(
             let bind = put_bind(alloc, code, scope, part, m, more, m, next)?;
             let args = one(alloc, value)?;
             let jump = jump_and(alloc, bind, m, m)?;
-            let of = act(node, false, RowOp::Unpack(narrow(count)?, narrow(place)?));
+            let of = op_at(node, false, RowOp::Unpack(narrow(count)?, narrow(place)?));
             code.put_op(alloc, scope, of, args, m, jump)
         }
     }

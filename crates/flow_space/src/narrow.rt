@@ -18,7 +18,7 @@ pub enum Side {
     Right,
 }
 
-fn narrowing(op: RowOp, local: u32) -> Narrowing {
+fn says(op: RowOp, local: u32) -> Narrowing {
     Narrowing {
         op,
         local,
@@ -164,9 +164,9 @@ fn none_test(a: &Expr, b: &Expr, truth: bool) -> Option<Narrowing> {
             if !is_none(b) {
                 None
             } else if truth {
-                Some(narrowing(RowOp::OnlyNone, local))
+                Some(says(RowOp::OnlyNone, local))
             } else {
-                Some(narrowing(RowOp::DropNone, local))
+                Some(says(RowOp::DropNone, local))
             }
         }
     }
@@ -187,9 +187,9 @@ fn compared(op: CmpOp, a: &Expr, b: &Expr, truth: bool) -> Option<Narrowing> {
 // The truth of a local.
 fn truth_test(local: u32, truth: bool) -> Option<Narrowing> {
     if truth {
-        Some(narrowing(RowOp::DropNone, local))
+        Some(says(RowOp::DropNone, local))
     } else {
-        Some(narrowing(RowOp::FalseNone, local))
+        Some(says(RowOp::FalseNone, local))
     }
 }
 
@@ -199,7 +199,7 @@ fn instance_test(class: u32, a: &Expr, truth: bool) -> Option<Narrowing> {
         None => None,
         Some(local) => {
             if truth {
-                Some(narrowing(RowOp::Lower(class), local))
+                Some(says(RowOp::Lower(class), local))
             } else {
                 None
             }

@@ -1,6 +1,6 @@
 // Statements to blocks.
 use crate::NEVER;
-use crate::code::{Aim, Code, Hand, Jump, Scope, act, jump_and, jump_first, jump_stored};
+use crate::code::{Aim, Code, Hand, Jump, Scope, jump_and, jump_first, jump_stored, op_at};
 use crate::copy::copy_op;
 use crate::covers::{copy_hands, covers_of};
 use crate::expression::{
@@ -69,7 +69,7 @@ fn put_mark(
     if scope.tried {
         let none: Seq<usize> = Seq::new(alloc);
         let jump = jump_first(alloc, norm, m)?;
-        code.put_op(alloc, scope, act(node, false, RowOp::None), none, m, jump)
+        code.put_op(alloc, scope, op_at(node, false, RowOp::None), none, m, jump)
     } else {
         Ok(norm)
     }
@@ -168,7 +168,7 @@ fn put_new(
 ) -> Result<u64, NoMem> {
     let right = plus(m, 1)?;
     let all = plus(m, 2)?;
-    let of = act(node, false, copy_op(alloc, op)?);
+    let of = op_at(node, false, copy_op(alloc, op)?);
     let args = two(alloc, m, right)?;
     let jump = jump_and(alloc, norm, m, all)?;
     code.put_op(alloc, scope, of, args, all, jump)
@@ -188,12 +188,12 @@ fn put_augment_name(
 ) -> Result<u64, NoMem> {
     let more = plus(m, 1)?;
     let jump = jump_stored(alloc, norm, m, local, more)?;
-    let of = act(at, true, RowOp::Copy);
+    let of = op_at(at, true, RowOp::Copy);
     let store = code.put_op(alloc, scope, of, one(alloc, m)?, more, jump)?;
     let new = put_new(alloc, code, scope, node, op, m, store)?;
     let right = put_expr(alloc, code, scope, e, more, new)?;
     let jump = jump_and(alloc, right, m, m)?;
-    let of = act(at, false, RowOp::Copy);
+    let of = op_at(at, false, RowOp::Copy);
     code.put_op(alloc, scope, of, one(alloc, local as usize)?, m, jump)
 }
 
@@ -213,12 +213,12 @@ fn put_augment_attr(
     let old = plus(m, 1)?;
     let right = plus(m, 2)?;
     let jump = jump_first(alloc, norm, m)?;
-    let of = act(at, true, RowOp::StoreAttr(name.copy(alloc)?));
+    let of = op_at(at, true, RowOp::StoreAttr(name.copy(alloc)?));
     let store = code.put_op(alloc, scope, of, two(alloc, m, old)?, right, jump)?;
     let new = put_new(alloc, code, scope, node, op, old, store)?;
     let value = put_expr(alloc, code, scope, e, right, new)?;
     let jump = jump_and(alloc, value, old, old)?;
-    let of = act(at, false, RowOp::Attr(name.copy(alloc)?));
+    let of = op_at(at, false, RowOp::Attr(name.copy(alloc)?));
     let read = code.put_op(alloc, scope, of, one(alloc, m)?, old, jump)?;
     put_expr(alloc, code, scope, a, m, read)
 }
@@ -240,12 +240,12 @@ fn put_augment_item(
     let old = plus(m, 2)?;
     let right = plus(m, 3)?;
     let jump = jump_first(alloc, norm, m)?;
-    let of = act(at, true, RowOp::StoreIndex);
+    let of = op_at(at, true, RowOp::StoreIndex);
     let store = code.put_op(alloc, scope, of, three(alloc, m, index, old)?, right, jump)?;
     let new = put_new(alloc, code, scope, node, op, old, store)?;
     let value = put_expr(alloc, code, scope, e, right, new)?;
     let jump = jump_and(alloc, value, old, old)?;
-    let of = act(at, false, RowOp::Index(None));
+    let of = op_at(at, false, RowOp::Index(None));
     let read = code.put_op(alloc, scope, of, two(alloc, m, index)?, old, jump)?;
     let place = put_expr(alloc, code, scope, i, index, read)?;
     put_expr(alloc, code, scope, a, m, place)
@@ -275,7 +275,7 @@ fn put_augment(
         Target::Parts(at, _) => {
             let none: Seq<usize> = Seq::new(alloc);
             let jump = jump_first(alloc, norm, m)?;
-            code.put_op(alloc, scope, act(*at, true, RowOp::Copy), none, m, jump)
+            code.put_op(alloc, scope, op_at(*at, true, RowOp::Copy), none, m, jump)
         }
     }
 }
@@ -293,7 +293,7 @@ fn put_pay(
 ) -> Result<u64, NoMem> {
     let none: Seq<usize> = Seq::new(alloc);
     let jump = jump_first(alloc, norm, m)?;
-    code.put_op(alloc, scope, act(node, false, RowOp::Turn), none, m, jump)
+    code.put_op(alloc, scope, op_at(node, false, RowOp::Turn), none, m, jump)
 }
 
 #[cycle(stmt)]
@@ -541,7 +541,7 @@ fn put_raised(
 ) -> Result<Aim, NoMem> {
     let more = plus(m, 1)?;
     let jump = jump_first(alloc, NEVER, 0)?;
-    let of = act(node, false, RowOp::Raise);
+    let of = op_at(node, false, RowOp::Raise);
     let out = code.put_op(alloc, scope, of, one(alloc, m)?, more, jump)?;
     let begin = put_block(alloc, code, classes, scope, last, more, t.on(out))?;
     Ok(Aim { to: begin, keep: m })

@@ -2,7 +2,7 @@
 ghost use Rattle.std.specs.Prelude.{◌≡◌, length, IfOk};
 ghost use Rattle.flow_graph.specs.Whole.{CountFrom, Covers as CoversAll};
 
-use crate::code::{Aim, Code, Scope, act, jump_and, jump_first};
+use crate::code::{Aim, Code, Scope, jump_and, jump_first, op_at};
 use crate::places::narrow;
 use crate::statement::{Ways, put_block};
 use crate::{NEVER, RETURN};
@@ -24,7 +24,7 @@ fn no_covers() -> Covers {
 
 // The end of the body gives None.
 fn put_end(alloc: Global, code: &mut Code, function: &Function, m: usize) -> Result<u64, NoMem> {
-    let of = act(function.node, false, RowOp::None);
+    let of = op_at(function.node, false, RowOp::None);
     let jump = jump_and(alloc, RETURN, 0, m)?;
     code.put_plain(alloc, no_covers(), of, m, jump)
 }
