@@ -422,3 +422,36 @@ fn files_make_one_program(rt: HostRuntime) -> Result<(), Fail> {
     }
     Ok(())
 }
+
+const GRAPH: &str =
+    "graph a.entry_point\nblock 0(v0)\n  goto 6(v0)\nblock 1(v1)\n  return v1\nblock 2(v2)\n  raise v2\nblock 3()\n  goto 3()\nblock 4(v3)\n  v4 = none\n  goto 1(v4)\nblock 5(v5 v6)\n  goto 1(v6)\nblock 6(v7)\n  v8 = word\n  caught v8\n  on any 2(v8)\n  else 5(v7 v8)\n";
+
+#[test]
+fn graphs_are_written(rt: HostRuntime) -> Result<(), Fail> {
+    let alloc = rt.alloc();
+    for (source, status, written, said) in [
+        (RETURNS, 0, GRAPH, ""),
+        (
+            "def entry_point(argv):\n    return x\n",
+            3,
+            "",
+            "a.py:2: unknown name\n",
+        ),
+        ("x = 1.5\n", 2, "", "a.py:1: bad number\n"),
+    ] {
+        let words = words_of(alloc, "flow a.py")?;
+        let mut files = files_of(alloc, "a.py", source.as_bytes())?;
+        let mut out = MemSink::new(alloc);
+        let mut err = MemSink::new(alloc);
+        let mut watch: Vec<Box<dyn HeapWatch>> = Vec::new(alloc);
+        let answered = rpyc(alloc, &words, &mut files, &mut out, &mut err, &mut watch);
+        assert_eq!(rt; answered, status, "the status of {source:?}");
+        assert_eq!(rt;
+            out.taken(),
+            written.as_bytes(),
+            "what was written of {source:?}"
+        );
+        assert_eq!(rt; err.taken(), said.as_bytes(), "what was said of {source:?}");
+    }
+    Ok(())
+}
