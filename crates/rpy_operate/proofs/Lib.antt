@@ -7,5 +7,6 @@ pub mod Numbers
 pub mod Placed
 pub mod Says
 pub mod Sites
+pub mod Splits
 pub mod Tuples
 pub mod Words

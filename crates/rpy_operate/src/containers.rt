@@ -1,5 +1,5 @@
 // The methods of lists and dicts, and lengths.
-ghost use Rattle.std.specs.Prelude.{◌≡◌, ◌++◌, [], ◌∷◌, ◌+◌, pos, min, length, insert, map, reverse, slice_get, Some, IfOk};
+ghost use Rattle.std.specs.Prelude.{◌≡◌, ◌++◌, [], ◌∷◌, ◌+◌, pos, min, length, insert, map, reverse, slice_get, unwrap_or, Some, IfOk};
 ghost use Rattle.std.specs.Option.{option_copied};
 ghost use Rattle.rpy_tree.specs.Value as value;
 ghost use Rattle.rpy_value.specs.Worlds.{pairs_in};
@@ -70,7 +70,7 @@ fn put_last(alloc: Global, r: usize, v: &Val, world: &mut World) -> Result<Answe
 
 // The items with one more, whose place is cut at the end.
 fn inserted(alloc: Global, vs: &[Val], at: usize, v: &Val) -> Result<Seq<Val>, NoMem>
-    ensures { IfOk result (λ v. v ≡ insert vs.now (min at (length vs.now)) v.now) }
+    ensures { IfOk result (λ items. items ≡ insert vs.now (min at (length vs.now)) v.now) }
 {
     let place = if at < vs.len() { at } else { vs.len() };
     let mut items = copy_values(alloc, &vs[..place])?;
@@ -247,7 +247,7 @@ pub fn list_method(
 // ---- dicts
 
 fn value_or_nothing(alloc: Global, key: &Val, pairs: &[(Val, Val)]) -> Result<Answer, NoMem>
-    ensures { IfOk result (λ a. Always (spec.get pairs.now (key.now ∷ [])) a) }
+    ensures { IfOk result (λ a. a ≡ Answer.Gives (unwrap_or (sequences.value_at key.now pairs.now) value.Nothing)) }
 {
     match value_at(key, pairs) {
         None => Ok(Answer::Gives(Val::nothing())),
@@ -256,7 +256,7 @@ fn value_or_nothing(alloc: Global, key: &Val, pairs: &[(Val, Val)]) -> Result<An
 }
 
 fn value_or(alloc: Global, key: &Val, other: &Val, pairs: &[(Val, Val)]) -> Result<Answer, NoMem>
-    ensures { IfOk result (λ a. Always (spec.get pairs.now (key.now ∷ other.now ∷ [])) a) }
+    ensures { IfOk result (λ a. a ≡ Answer.Gives (unwrap_or (sequences.value_at key.now pairs.now) other.now)) }
 {
     match value_at(key, pairs) {
         None => give(alloc, other),
@@ -430,12 +430,12 @@ pub fn dict_method(
 // ---- lengths
 
 fn length(count: usize) -> Result<Answer, NoMem>
-    ensures { IfOk result (λ a. Always (meaning.give (value.Word (pos count))) a) }
+    ensures { IfOk result (λ a. a ≡ Answer.Gives (value.Word (pos count))) }
 {
     Ok(word(word_of(count)?))
 }
 
-#[tactic(auto, using(crate::proofs::Tuples::len_is))]
+#[tactic(auto, using(crate::proofs::Items::items_again))]
 fn tuple_length(covers: Covers, vs: &[Val]) -> Result<Answer, NoMem>
     ensures { IfOk result (λ a. Always (spec.len covers (sequences.tuple vs.now)) a) }
 {

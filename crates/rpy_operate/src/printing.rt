@@ -14,7 +14,7 @@ use std::alloc::Global;
 
 // How a value prints, if it does.
 fn printed(alloc: Global, v: &Val) -> Result<Option<Text>, NoMem>
-    ensures { IfOk result (λ v. v ≡ printing.printed v.now) }
+    ensures { IfOk result (λ text. text ≡ printing.printed v.now) }
 {
     match &v.form {
         Form::Word(z) => Ok(Some(decimal(alloc, *z)?)),
