@@ -52,7 +52,10 @@ fn print_line(alloc: Global, vs: &[Val]) -> Result<Option<Text>, NoMem>
         [] => Ok(Some(Text::from_bytes(alloc, b"\n")?)),
         [v, rest @ ..] => match printed(alloc, v)? {
             None => Ok(None),
-            Some(text) => line_from(alloc, text, rest),
+            Some(text) => {
+                let line = line_from(alloc, text, rest)?;
+                Ok(line)
+            }
         },
     }
 }

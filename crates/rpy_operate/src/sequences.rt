@@ -534,6 +534,7 @@ fn count(n: i64) -> u64
     if n < 0 { 0 } else { n as u64 }
 }
 
+#[tactic(auto, using(crate::proofs::Repeats::repeat_empty, crate::proofs::Repeats::repeat_more))]
 fn repeated_bytes(alloc: Global, bytes: &[u8], count: u64) -> Result<Text, NoMem>
     ensures { IfOk result (λ v. v ≡ repeat count bytes.now) }
 {
@@ -547,6 +548,7 @@ fn repeated_bytes(alloc: Global, bytes: &[u8], count: u64) -> Result<Text, NoMem
     Ok(text)
 }
 
+#[tactic(auto, using(crate::proofs::Repeats::repeat_empty, crate::proofs::Repeats::repeat_more))]
 fn repeated_items(alloc: Global, vs: &[Val], count: u64) -> Result<Seq<Val>, NoMem>
     ensures { IfOk result (λ v. v ≡ repeat count vs.now) }
 {

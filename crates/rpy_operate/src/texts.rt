@@ -88,7 +88,8 @@ fn with_rest(text: Text, between: &[u8], vs: &[Val]) -> Result<Option<Text>, NoM
 fn joined_after(text: Text, between: &[u8], vs: &[Val]) -> Result<Option<Text>, NoMem>
     ensures { IfOk result (λ made. made ≡ option_map (join_by (λ t. t) between.now) (spec.with_first text (spec.texts_of vs.now))) }
 {
-    with_rest(text, between, vs)
+    let made = with_rest(text, between, vs)?;
+    Ok(made)
 }
 
 // The strings of values with a string between them, if they are strings.
@@ -203,7 +204,8 @@ fn split(alloc: Global, text: &[u8], args: &[Val], world: &mut World) -> Result<
             Form::Text(separator) => match separator.bytes() {
                 [b] => {
                     let parts = split_at(alloc, *b, text)?;
-                    new_parts(alloc, parts.as_slice(), world)
+                    let answer = new_parts(alloc, parts.as_slice(), world)?;
+                    Ok(answer)
                 }
                 _ => Ok(Answer::Bad),
             },
