@@ -2,11 +2,12 @@
 use Rattle.std.proofs.Common.{◌≡◌, ◌≢◌, ℕ, zero, suc, ◌-◌, Bool, true, false, List, [], ◌∷◌, ◌++◌, length, map, Option, Some, None, refl, sym, ap, ◌∙◌, arith}
 use Rattle.std.specs.Prelude.{slice_get, if◌then◌else◌}
 use Rattle.std.specs.Str.{bytes_eq}
-use Rattle.std.proofs.lemmas.List.{length-map}
+use Rattle.std.proofs.lemmas.List.{length-map, append-nil}
 use Rattle.rpy_tree.specs.declared.program.Site.{Site}
 use Rattle.rpy_resolved.specs.declared.tree.Class as code
+use Rattle.rpy_tree.specs.Value.{Value}
 use Rattle.rpy_meaning.specs.Tree.{Class}
-use Rattle.rpy_meaning.specs.Classes.{line_of, base_of, class_at, named}
+use Rattle.rpy_meaning.specs.Classes.{line_of, base_of, constants_of, class_at, named}
 use Rattle.rpy_operate.specs.Programs.{class_of, classes_of}
 
 pub class_there : (sites : List Site) (classes : List code.Class) (c : ℕ) (class : code.Class) → slice_get classes c ≡ Some class
@@ -20,8 +21,13 @@ class_missing sites [] c h = refl
 class_missing sites (x ∷ xs) zero h = cc
 class_missing sites (x ∷ xs) (suc c) h = class_missing sites xs c h
 
+pub no_constants : (sites : List Site) (classes : List code.Class) (c : ℕ) (entries : List (List ℕ × Value)) → slice_get classes c ≡ None
+    → entries ++ constants_of (class_at (classes_of sites classes) c) ≡ entries
+no_constants sites classes c entries h =
+    ap (λ (o : Option Class). entries ++ constants_of o) (class_missing sites classes c h) ∙ append-nil entries
+
 pub class_count : (sites : List Site) (classes : List code.Class) → length (classes_of sites classes) ≡ length classes
-class_count sites classes = length-map (class_of sites) classes
+class_count sites classes = length-map classes (class_of sites)
 
 pub line_step : (classes : List Class) (k c : ℕ) → k ≢ 0 → line_of classes k (Some c) ≡ c ∷ line_of classes (k - 1) (base_of (class_at classes c))
 line_step classes zero c h = absurd (h refl)

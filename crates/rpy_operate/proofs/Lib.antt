@@ -5,7 +5,10 @@ pub mod Joined
 pub mod Lines
 pub mod Numbers
 pub mod Placed
+pub mod Repeats
 pub mod Says
 pub mod Sites
+pub mod Splits
 pub mod Tuples
+pub mod Unnamed
 pub mod Words

@@ -25,7 +25,7 @@ both_true false b h = cc
 
 all_digits : (bs : List ℕ) → AllDigits 10 bs → list_all is_digit bs ≡ true
 all_digits [] h = refl
-all_digits (b ∷ bs) h = rw digit_is b h.0 (all_digits bs h.1)
+all_digits (b ∷ bs) h = rw (digit_is b h.0) (all_digits bs h.1)
 
 digits_all : (bs : List ℕ) → list_all is_digit bs ≡ true → AllDigits 10 bs
 digits_all [] h = tt
@@ -41,7 +41,8 @@ digits_numeral (b ∷ bs) h = (omega arith, digits_all (b ∷ bs) h)
 
 pub is_number_text : (t : List ℕ) → IsWordText t → is_number t ≡ true
 is_number_text t h =
-    rw numeral_digits (without_leading_sign t) h.0 (same_is (wrap (signed_digits_value 10 t)) (signed_digits_value 10 t) (wrap_fits (signed_digits_value 10 t) h.1))
+    rw (numeral_digits (without_leading_sign t) h.0)
+    (same_is (wrap (signed_digits_value 10 t)) (signed_digits_value 10 t) (wrap_fits (signed_digits_value 10 t) h.1))
 
 word_text : (t : List ℕ) → is_number t ≡ true → IsWordText t
 word_text t h =

@@ -18,9 +18,3 @@ within_is c f Nothing vs = ap (λ (us : List Value). flag (f (is_among Nothing u
 within_is c f (Tuple ws) vs = ap (λ (us : List Value). flag (f (is_among (Tuple ws) us))) (items_back vs)
 within_is c f (Fun g) vs = ap (λ (us : List Value). flag (f (is_among (Fun g) us))) (items_back vs)
 within_is c f (Ref r) vs = ap (λ (us : List Value). flag (f (is_among (Ref r) us))) (items_back vs)
-
-pub index_is : (c : Covers) (z : ℤ) (vs : List Value) → if_some bad (item_at z vs) give ≡ index c (tuple vs) (Word z)
-index_is c z vs = ap (λ (us : List Value). if_some bad (item_at z us) give) (items_back vs)
-
-pub len_is : (c : Covers) (vs : List Value) → give (Word (pos (length vs))) ≡ len c (tuple vs)
-len_is c vs = ap (λ (us : List Value). give (Word (pos (length us)))) (items_back vs)

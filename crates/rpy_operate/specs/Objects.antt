@@ -1,4 +1,4 @@
--- What is done with an object that is a dict or an instance.
+-- What is done with an object that is a dict, and what a value or an object is.
 use Rattle.std.specs.Prelude.{ℕ, ℤ, List, Option, Some, None}
 use Rattle.rpy_tree.specs.Value.{Value, Word, Object, Mapped, Instance}
 use Rattle.rpy_meaning.specs.World.{Op, bad, at_object}
@@ -9,13 +9,6 @@ on_dict f other = bad
 
 abbrev pub with_dict : ℕ → (List (Value × Value) → Op) → Op
 with_dict r f = at_object r (on_dict f)
-
-abbrev pub on_instance : (ℕ → List (List ℕ × Value) → Op) → Option Object → Op
-on_instance f (Some (Instance class attributes)) = f class attributes
-on_instance f other = bad
-
-abbrev pub with_instance : ℕ → (ℕ → List (List ℕ × Value) → Op) → Op
-with_instance r f = at_object r (on_instance f)
 
 abbrev pub word_in : Value → Option ℤ
 word_in (Word z) = Some z

@@ -215,7 +215,7 @@ fn add_constants(
     Ok(())
 }
 
-#[tactic(auto, using(crate::proofs::Bases::class_there, crate::proofs::Bases::class_missing))]
+#[tactic(auto, using(crate::proofs::Bases::class_there, crate::proofs::Bases::no_constants))]
 fn add_own_constants(
     alloc: Global,
     program: &Resolved,

@@ -1,6 +1,7 @@
 // The methods of lists and dicts, and lengths.
-ghost use Rattle.std.specs.Prelude.{◌≡◌, ◌++◌, [], ◌∷◌, ◌+◌, pos, min, length, insert, map, reverse, slice_get, Some, IfOk};
+ghost use Rattle.std.specs.Prelude.{◌≡◌, ◌++◌, [], ◌∷◌, ◌+◌, pos, min, length, insert, map, reverse, slice_get, unwrap_or, Some, IfOk};
 ghost use Rattle.std.specs.Option.{option_copied};
+ghost use Rattle.std.specs.Str.{bytes_eq};
 ghost use Rattle.rpy_tree.specs.Value as value;
 ghost use Rattle.rpy_value.specs.Worlds.{pairs_in};
 ghost use Rattle.rpy_meaning.specs.Classes.{named};
@@ -20,6 +21,13 @@ use rpy_base::{NoMem, Seq};
 use rpy_meaning::Covers;
 use rpy_value::{Form, Object, Shape, Val, World, copy_value, copy_values};
 use std::alloc::Global;
+
+// Whether this is the other name.
+fn is(name: &[u8], other: &[u8]) -> bool
+    ensures { result ≡ bytes_eq other.now name.now }
+{
+    other == name
+}
 
 // ---- lists
 
@@ -70,7 +78,7 @@ fn put_last(alloc: Global, r: usize, v: &Val, world: &mut World) -> Result<Answe
 
 // The items with one more, whose place is cut at the end.
 fn inserted(alloc: Global, vs: &[Val], at: usize, v: &Val) -> Result<Seq<Val>, NoMem>
-    ensures { IfOk result (λ v. v ≡ insert vs.now (min at (length vs.now)) v.now) }
+    ensures { IfOk result (λ items. items ≡ insert vs.now (min at (length vs.now)) v.now) }
 {
     let place = if at < vs.len() { at } else { vs.len() };
     let mut items = copy_values(alloc, &vs[..place])?;
@@ -229,15 +237,15 @@ pub fn list_method(
 ) -> Result<Answer, NoMem>
     ensures { IfOk result (λ a. Answers (meaning.with_list r (λ vs. meaning.if_some meaning.bad (named name.now (spec.list_methods covers)) (λ f. f r vs args.now))) world.old world.new a) }
 {
-    if name == b"append".as_slice() {
+    if is(name, b"append") {
         append(alloc, r, args, world)
-    } else if name == b"insert".as_slice() {
+    } else if is(name, b"insert") {
         insert_at(alloc, r, args, world)
-    } else if name == b"extend".as_slice() {
+    } else if is(name, b"extend") {
         extend_by(alloc, covers, r, args, world)
-    } else if name == b"reverse".as_slice() {
+    } else if is(name, b"reverse") {
         reverse(alloc, r, args, world)
-    } else if name == b"pop".as_slice() {
+    } else if is(name, b"pop") {
         pop(alloc, covers, r, args, world)
     } else {
         Ok(Answer::Bad)
@@ -247,7 +255,7 @@ pub fn list_method(
 // ---- dicts
 
 fn value_or_nothing(alloc: Global, key: &Val, pairs: &[(Val, Val)]) -> Result<Answer, NoMem>
-    ensures { IfOk result (λ a. Always (spec.get pairs.now (key.now ∷ [])) a) }
+    ensures { IfOk result (λ a. a ≡ Answer.Gives (unwrap_or (sequences.value_at key.now pairs.now) value.Nothing)) }
 {
     match value_at(key, pairs) {
         None => Ok(Answer::Gives(Val::nothing())),
@@ -256,7 +264,7 @@ fn value_or_nothing(alloc: Global, key: &Val, pairs: &[(Val, Val)]) -> Result<An
 }
 
 fn value_or(alloc: Global, key: &Val, other: &Val, pairs: &[(Val, Val)]) -> Result<Answer, NoMem>
-    ensures { IfOk result (λ a. Always (spec.get pairs.now (key.now ∷ other.now ∷ [])) a) }
+    ensures { IfOk result (λ a. a ≡ Answer.Gives (unwrap_or (sequences.value_at key.now pairs.now) other.now)) }
 {
     match value_at(key, pairs) {
         None => give(alloc, other),
@@ -414,13 +422,19 @@ pub fn dict_method(
 ) -> Result<Answer, NoMem>
     ensures { IfOk result (λ a. Answers (own.with_dict r (λ pairs. meaning.if_some meaning.bad (named name.now spec.dict_methods) (λ f. f pairs args.now))) world.old world.new a) }
 {
-    if name == b"get".as_slice() {
+    if is(name, b"get") {
         get(alloc, r, args, world)
-    } else if name == b"keys".as_slice() || name == b"iterkeys".as_slice() {
+    } else if is(name, b"keys") {
         keys(alloc, r, args, world)
-    } else if name == b"values".as_slice() || name == b"itervalues".as_slice() {
+    } else if is(name, b"iterkeys") {
+        keys(alloc, r, args, world)
+    } else if is(name, b"values") {
         values(alloc, r, args, world)
-    } else if name == b"items".as_slice() || name == b"iteritems".as_slice() {
+    } else if is(name, b"itervalues") {
+        values(alloc, r, args, world)
+    } else if is(name, b"items") {
+        items(alloc, r, args, world)
+    } else if is(name, b"iteritems") {
         items(alloc, r, args, world)
     } else {
         Ok(Answer::Bad)
@@ -430,16 +444,17 @@ pub fn dict_method(
 // ---- lengths
 
 fn length(count: usize) -> Result<Answer, NoMem>
-    ensures { IfOk result (λ a. Always (meaning.give (value.Word (pos count))) a) }
+    ensures { IfOk result (λ a. a ≡ Answer.Gives (value.Word (pos count))) }
 {
     Ok(word(word_of(count)?))
 }
 
-#[tactic(auto, using(crate::proofs::Tuples::len_is))]
-fn tuple_length(covers: Covers, vs: &[Val]) -> Result<Answer, NoMem>
-    ensures { IfOk result (λ a. Always (spec.len covers (sequences.tuple vs.now)) a) }
+#[tactic(auto, using(crate::proofs::Items::items_again))]
+fn tuple_length(vs: &[Val]) -> Result<Answer, NoMem>
+    ensures { IfOk result (λ a. a ≡ Answer.Gives (value.Word (pos (length (sequences.items_of (sequences.parts_of vs.now)))))) }
 {
-    length(vs.len())
+    let answer = length(vs.len())?;
+    Ok(answer)
 }
 
 fn object_length(object: &Object) -> Result<Answer, NoMem>
@@ -458,7 +473,7 @@ pub fn len(covers: Covers, x: &Val, world: &World) -> Result<Answer, NoMem>
 {
     match &x.form {
         Form::Text(text) => length(text.bytes().len()),
-        Form::Tuple(vs) => tuple_length(covers, vs.as_slice()),
+        Form::Tuple(vs) => tuple_length(vs.as_slice()),
         Form::Ref(r) => match world.object(*r) {
             None => Ok(Answer::Bad),
             Some(object) => object_length(object),

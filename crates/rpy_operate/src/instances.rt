@@ -13,6 +13,7 @@ use crate::classes::{
     BUILTIN_CLASSES, first_attributes, is_below, method_of, named_value, put_name,
 };
 use crate::containers::{dict_method, list_method};
+use crate::places::append_copies;
 use crate::sequences::give;
 use crate::texts::text_method;
 use rpy_base::{NoMem, Seq, Text};
@@ -67,12 +68,13 @@ pub fn attribute(
 fn set_attribute(
     alloc: Global,
     program: &Resolved,
+    covers: Covers,
     name: &Text,
     r: usize,
     v: &Val,
     world: &mut World,
 ) -> Result<Answer, NoMem>
-    ensures { IfOk result (λ a. Answers (own.with_instance r (λ class attributes. meaning.set_object r (value.Instance class (classes.with_name name.now v.now attributes)) v.now)) world.old world.new a) }
+    ensures { IfOk result (λ a. Answers (meaning.at_object r (operations.set_attribute (programs.program_of program.now) covers name.now r v.now)) world.old world.new a) }
 {
     let given = copy_value(alloc, v)?;
     match world.take_instance(alloc, r) {
@@ -85,7 +87,7 @@ fn set_attribute(
     }
 }
 
-#[tactic(auto, using(crate::proofs::Says::says, crate::proofs::Items::no_class))]
+#[tactic(auto, using(crate::proofs::Says::says, crate::proofs::Items::no_store))]
 pub fn store_attribute(
     alloc: Global,
     program: &Resolved,
@@ -100,7 +102,7 @@ pub fn store_attribute(
     match &x.form {
         Form::Ref(r) => match class_at(*r, world) {
             None => Ok(Answer::Bad),
-            Some(_class) => set_attribute(alloc, program, name, *r, v, world),
+            Some(_class) => set_attribute(alloc, program, covers, name, *r, v, world),
         },
         Form::Nothing => Ok(attribute_error(covers)),
         _ => Ok(Answer::Bad),
@@ -122,7 +124,7 @@ fn class_at(r: usize, world: &World) -> Option<ClassId>
     }
 }
 
-#[tactic(auto, using(crate::proofs::Items::no_class, crate::proofs::Items::some_class))]
+#[tactic(auto, using(crate::proofs::Items::no_instance, crate::proofs::Items::an_instance))]
 pub fn is_instance(program: &Resolved, covers: Covers, d: ClassId, x: &Val, world: &World) -> Answer
     ensures { Answers (operations.is_instance (programs.program_of program.now) covers d x.now) world.now world.now result }
 {
@@ -136,7 +138,7 @@ pub fn is_instance(program: &Resolved, covers: Covers, d: ClassId, x: &Val, worl
     }
 }
 
-#[tactic(auto, using(crate::proofs::Says::says, crate::proofs::Items::no_class, crate::proofs::Items::some_class))]
+#[tactic(auto, using(crate::proofs::Says::says, crate::proofs::Items::no_exception, crate::proofs::Items::an_exception))]
 pub fn raise(program: &Resolved, covers: Covers, x: &Val, world: &World) -> Answer
     ensures { Answers (operations.raise (programs.program_of program.now) covers x.now) world.now world.now result }
 {
@@ -162,9 +164,7 @@ fn with_self(alloc: Global, r: usize, args: &[Val]) -> Result<Seq<Val>, NoMem>
 {
     let mut all = Seq::new(alloc);
     all.push(Val::reference(r))?;
-    for arg in args {
-        all.push(copy_value(alloc, arg)?)?;
-    }
+    append_copies(alloc, &mut all, args)?;
     Ok(all)
 }
 

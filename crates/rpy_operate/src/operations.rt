@@ -26,6 +26,7 @@ use crate::walks::{advance, has_item, item, walk};
 use rpy_base::{NoMem, Seq};
 use rpy_meaning::{Covers, RowOp};
 use rpy_resolved::Resolved;
+use rpy_tree::Const;
 use rpy_value::{Form, Object, Val, World, copy_values};
 use std::alloc::Global;
 
@@ -49,6 +50,14 @@ fn turn(world: &mut World) -> Answer
     }
 }
 
+#[tactic(auto, using(crate::proofs::Sites::constant_same))]
+fn constant(alloc: Global, program: &Resolved, value: &Const) -> Result<Answer, NoMem>
+    ensures { IfOk result (λ a. a ≡ Answer.Gives (operations.constant (programs.sites_of program.now.sites) value.now)) }
+{
+    let v = constant_value(alloc, program.sites.as_slice(), value)?;
+    Ok(Answer::Gives(v))
+}
+
 #[tactic(auto, using(crate::proofs::Says::says))]
 fn without_operands(
     alloc: Global,
@@ -65,11 +74,7 @@ fn without_operands(
         RowOp::Str(text) => Ok(Answer::Gives(Val::text(text.copy(alloc)?))),
         RowOp::Bool(b) => Ok(flag(*b)),
         RowOp::None => Ok(Answer::Gives(Val::nothing())),
-        RowOp::Constant(value) => Ok(Answer::Gives(constant_value(
-            alloc,
-            program.sites.as_slice(),
-            value,
-        )?)),
+        RowOp::Constant(value) => constant(alloc, program, value),
         RowOp::Dict(_) => empty_for_one(Object::dict(Seq::new(alloc)), world),
         RowOp::Comprehension(_) => empty_for_one(Object::list(Seq::new(alloc)), world),
         RowOp::Turn => Ok(turn(world)),

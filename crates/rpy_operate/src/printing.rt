@@ -14,7 +14,7 @@ use std::alloc::Global;
 
 // How a value prints, if it does.
 fn printed(alloc: Global, v: &Val) -> Result<Option<Text>, NoMem>
-    ensures { IfOk result (λ v. v ≡ printing.printed v.now) }
+    ensures { IfOk result (λ text. text ≡ printing.printed v.now) }
 {
     match &v.form {
         Form::Word(z) => Ok(Some(decimal(alloc, *z)?)),
@@ -52,7 +52,10 @@ fn print_line(alloc: Global, vs: &[Val]) -> Result<Option<Text>, NoMem>
         [] => Ok(Some(Text::from_bytes(alloc, b"\n")?)),
         [v, rest @ ..] => match printed(alloc, v)? {
             None => Ok(None),
-            Some(text) => line_from(alloc, text, rest),
+            Some(text) => {
+                let line = line_from(alloc, text, rest)?;
+                Ok(line)
+            }
         },
     }
 }

@@ -26,7 +26,7 @@ use std::alloc::Global;
 
 /// A value once more.
 pub fn give(alloc: Global, v: &Val) -> Result<Answer, NoMem>
-    ensures { IfOk result (λ a. Always (meaning.give v.now) a) }
+    ensures { IfOk result (λ a. a ≡ Answer.Gives v.now) }
 {
     Ok(Answer::Gives(copy_value(alloc, v)?))
 }
@@ -62,7 +62,7 @@ fn list_index(alloc: Global, covers: Covers, z: i64, vs: &[Val]) -> Result<Answe
     }
 }
 
-#[tactic(auto, using(crate::proofs::Tuples::index_is))]
+#[tactic(auto, using(crate::proofs::Items::items_again))]
 fn tuple_index(alloc: Global, covers: Covers, z: i64, vs: &[Val]) -> Result<Answer, NoMem>
     ensures { IfOk result (λ a. Always (spec.index covers (spec.tuple vs.now) (value.Word z)) a) }
 {
@@ -361,7 +361,7 @@ fn part_between(
     ensures { IfOk result (λ a. Answers (spec.part_between covers low high x.now) world.old world.new a) }
 {
     match &x.form {
-        Form::Nothing => Ok(attribute_error(covers)),
+        Form::Nothing => Ok(attribute_error(covers)), // whatever the bounds are
         _ => {
             if !(is_bound(low) && is_bound(high)) {
                 return Ok(negative_slice());
@@ -534,6 +534,7 @@ fn count(n: i64) -> u64
     if n < 0 { 0 } else { n as u64 }
 }
 
+#[tactic(auto, using(crate::proofs::Repeats::repeat_empty, crate::proofs::Repeats::repeat_more))]
 fn repeated_bytes(alloc: Global, bytes: &[u8], count: u64) -> Result<Text, NoMem>
     ensures { IfOk result (λ v. v ≡ repeat count bytes.now) }
 {
@@ -547,6 +548,7 @@ fn repeated_bytes(alloc: Global, bytes: &[u8], count: u64) -> Result<Text, NoMem
     Ok(text)
 }
 
+#[tactic(auto, using(crate::proofs::Repeats::repeat_empty, crate::proofs::Repeats::repeat_more))]
 fn repeated_items(alloc: Global, vs: &[Val], count: u64) -> Result<Seq<Val>, NoMem>
     ensures { IfOk result (λ v. v ≡ repeat count vs.now) }
 {

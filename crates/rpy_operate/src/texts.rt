@@ -4,6 +4,7 @@ ghost use Rattle.std.specs.List.{slice_split, join_by};
 ghost use Rattle.rpy_base.specs.Number.{blank, trimmed, without_leading_blanks, without_trailing_blanks};
 ghost use Rattle.rpy_tree.specs.Value as value;
 ghost use Rattle.rpy_meaning.specs.Classes.{named};
+ghost use Rattle.rpy_meaning.specs.Costs as cost;
 ghost use Rattle.rpy_meaning.specs.Methods as spec;
 ghost use Rattle.rpy_meaning.specs.World as meaning;
 ghost use Rattle.rpy_operate.specs.Answers.{Answers, Always};
@@ -83,15 +84,22 @@ fn with_rest(text: Text, between: &[u8], vs: &[Val]) -> Result<Option<Text>, NoM
     Ok(Some(text))
 }
 
-// The strings of values with a string between them, if they are strings.
 #[tactic(auto, using(crate::proofs::Joined::joined_is))]
+fn joined_after(text: Text, between: &[u8], vs: &[Val]) -> Result<Option<Text>, NoMem>
+    ensures { IfOk result (λ made. made ≡ option_map (join_by (λ t. t) between.now) (spec.with_first text (spec.texts_of vs.now))) }
+{
+    let made = with_rest(text, between, vs)?;
+    Ok(made)
+}
+
+// The strings of values with a string between them, if they are strings.
 fn joined_by(alloc: Global, between: &[u8], vs: &[Val]) -> Result<Option<Text>, NoMem>
     ensures { IfOk result (λ made. made ≡ option_map (join_by (λ t. t) between.now) (spec.texts_of vs.now)) }
 {
     match vs {
         [] => Ok(Some(Text::new(alloc))),
         [first, rest @ ..] => match &first.form {
-            Form::Text(bytes) => with_rest(bytes.copy(alloc)?, between, rest),
+            Form::Text(bytes) => joined_after(bytes.copy(alloc)?, between, rest),
             _ => Ok(None),
         },
     }
@@ -123,45 +131,81 @@ fn join_list(alloc: Global, text: &[u8], r: usize, world: &mut World) -> Result<
 }
 
 // The parts of a string between bytes of one value.
-fn split_at(alloc: Global, separator: u8, text: &[u8]) -> Result<Seq<Val>, NoMem> {
+#[tactic(auto, using(crate::proofs::Splits::split_begins, crate::proofs::Splits::split_cut, crate::proofs::Splits::split_more, crate::proofs::Splits::split_ends))]
+fn split_at(alloc: Global, separator: u8, text: &[u8]) -> Result<Seq<Text>, NoMem>
+    ensures { IfOk result (λ parts. parts ≡ slice_split (nat_eq separator) text.now) }
+{
     let mut parts = Seq::new(alloc);
     let mut part = Text::new(alloc);
-    for b in text {
-        if *b == separator {
-            parts.push(Val::text(part))?;
+    let mut rest = text;
+    while let [b, after @ ..] = rest {
+        rest = after;
+        if separator == *b {
+            parts.push(part)?;
             part = Text::new(alloc);
         } else {
             part.push(*b)?;
         }
     }
-    parts.push(Val::text(part))?;
+    parts.push(part)?;
     Ok(parts)
 }
 
-fn count_of(separator: u8, text: &[u8]) -> usize {
-    text.iter().filter(|b| **b == separator).count()
+fn total_bytes(parts: &[Text]) -> Result<u64, NoMem>
+    ensures { IfOk result (λ total. total ≡ sum_by length parts.now) }
+{
+    let mut total = 0u64;
+    for part in parts {
+        match total.checked_add(part.bytes().len() as u64) {
+            None => return Err(NoMem),
+            Some(sum) => total = sum,
+        }
+    }
+    Ok(total)
 }
 
-// What the parts cost: so many, and their bytes.
-fn split_cost(separator: u8, text: &[u8]) -> u64 {
-    let between = count_of(separator, text) as u64;
-    let bytes = (text.len() as u64).saturating_sub(between);
-    between
-        .saturating_add(1)
-        .saturating_mul(2)
-        .saturating_add(1)
-        .saturating_add(bytes)
+// What parts cost: so many, and their bytes.
+fn split_price(parts: &[Text]) -> Result<u64, NoMem>
+    ensures { IfOk result (λ price. price ≡ cost.split_cost (length parts.now) (sum_by length parts.now)) }
+{
+    let bytes = total_bytes(parts)?;
+    match (2 * parts.len() as u64 + 1).checked_add(bytes) {
+        None => Err(NoMem),
+        Some(price) => Ok(price),
+    }
 }
 
-fn split(alloc: Global, text: &[u8], args: &[Val], world: &mut World) -> Result<Answer, NoMem> {
+fn text_values(alloc: Global, parts: &[Text]) -> Result<Seq<Val>, NoMem>
+    ensures { IfOk result (λ vs. vs ≡ map value.Text parts.now) }
+{
+    let mut values = Seq::new(alloc);
+    for part in parts {
+        values.push(Val::text(part.copy(alloc)?))?;
+    }
+    Ok(values)
+}
+
+fn new_parts(alloc: Global, parts: &[Text], world: &mut World) -> Result<Answer, NoMem>
+    ensures { IfOk result (λ a. Answers (spec.new_parts parts.now) world.old world.new a) }
+{
+    let price = split_price(parts)?;
+    if world.pay(price) {
+        new_object(Object::list(text_values(alloc, parts)?), world)
+    } else {
+        Ok(Answer::Lacks)
+    }
+}
+
+fn split(alloc: Global, text: &[u8], args: &[Val], world: &mut World) -> Result<Answer, NoMem>
+    ensures { IfOk result (λ a. Answers (spec.split text.now args.now) world.old world.new a) }
+{
     match args {
         [separator] => match &separator.form {
             Form::Text(separator) => match separator.bytes() {
                 [b] => {
-                    if !world.pay(split_cost(*b, text)) {
-                        return Ok(Answer::Lacks);
-                    }
-                    new_object(Object::list(split_at(alloc, *b, text)?), world)
+                    let parts = split_at(alloc, *b, text)?;
+                    let answer = new_parts(alloc, parts.as_slice(), world)?;
+                    Ok(answer)
                 }
                 _ => Ok(Answer::Bad),
             },
@@ -268,13 +312,16 @@ fn is_all_blank(text: &[u8], args: &[Val]) -> Answer
 }
 
 /// The method of a string by its name.
+#[tactic(auto, using(crate::proofs::Says::says))]
 pub fn text_method(
     alloc: Global,
     name: &[u8],
     text: &[u8],
     args: &[Val],
     world: &mut World,
-) -> Result<Answer, NoMem> {
+) -> Result<Answer, NoMem>
+    ensures { IfOk result (λ a. Answers (meaning.if_some meaning.bad (named name.now spec.text_methods) (λ f. f text.now args.now)) world.old world.new a) }
+{
     if name == b"join".as_slice() {
         join(alloc, text, args, world)
     } else if name == b"split".as_slice() {

@@ -3,4 +3,4 @@ use Rattle.std.specs.List.{repeat}
 use Rattle.rpy_operate.proofs.sequences.repeated_bytes.Given as goal
 
 abbrev pub invariant-loop-turn : goal.invariant-loop-turn
-invariant-loop-turn l = l.text ≡ repeat l.turn l.bytes
+invariant-loop-turn l = l.text ≡ repeat l._turn l.bytes

@@ -3,4 +3,4 @@ use Rattle.std.specs.List.{repeat}
 use Rattle.rpy_operate.proofs.sequences.repeated_items.Given as goal
 
 abbrev pub invariant-loop-turn : goal.invariant-loop-turn
-invariant-loop-turn l = l.items ≡ repeat l.turn l.vs
+invariant-loop-turn l = l.items ≡ repeat l._turn l.vs

@@ -1,0 +1,15 @@
+-- A list as often as a count says.
+use Rattle.std.proofs.Common.{◌≡◌, ℕ, zero, suc, ◌+◌, List, [], ◌∷◌, ◌++◌, length, refl, sym, ap, ◌∙◌, append_assoc, add-one, arith}
+use Rattle.std.specs.List.{repeat}
+use Rattle.std.proofs.lemmas.List.{append-nil}
+
+pub repeat_empty : {A : Type 0} (n : ℕ) (xs : List A) → xs ≡ [] → repeat n xs ≡ []
+repeat_empty zero xs h = refl
+repeat_empty (suc n) xs h = ap (λ l. l ++ repeat n xs) h ∙ repeat_empty n xs h
+
+repeat_suc : {A : Type 0} (n : ℕ) (xs : List A) → xs ++ repeat n xs ≡ repeat n xs ++ xs
+repeat_suc zero xs = append-nil xs
+repeat_suc (suc n) xs = ap (λ l. xs ++ l) (repeat_suc n xs) ∙ sym (append_assoc xs (repeat n xs) xs)
+
+pub repeat_more : {A : Type 0} (n : ℕ) (xs : List A) → repeat (n + 1) xs ≡ repeat n xs ++ xs
+repeat_more n xs = ap (λ k. repeat k xs) (add-one n) ∙ repeat_suc n xs

@@ -1,0 +1,15 @@
+-- No method has another name.
+use Rattle.std.proofs.Common.{◌≡◌, None, ap, sym, ◌∙◌}
+use Rattle.rpy_meaning.specs.Classes.{named}
+use Rattle.rpy_meaning.specs.Methods.{list_methods}
+use Rattle.rpy_meaning.specs.World.{Answer}
+use Rattle.rpy_operate.specs.Answers.{told}
+use Rattle.rpy_operate.proofs.Unnamed.{unnamed_list, no_list_name}
+use Rattle.rpy_operate.proofs.containers.list_method.Goals as goal
+
+pub returns-else-is-5 : goal.returns-else-is-5
+returns-else-is-5 c =
+    let h : named c.args.name.now (list_methods c.args.covers) ≡ None =
+    no_list_name c.args.covers c.args.name.now (sym c.is.ensures ∙ c.if-is.false) (sym c.is-else-is.ensures ∙ c.if-is-2.false) (sym c.is-else-is-2.ensures ∙ c.if-is-3.false) (sym c.is-else-is-3.ensures ∙ c.if-is-4.false) (sym c.is-else-is-4.ensures ∙ c.if-is-5.false) in
+    let e = unnamed_list (named c.args.name.now (list_methods c.args.covers)) c.args.r c.args.args.now c.args.world.now h in
+    (ap (λ (a : Answer). (told c.args.world.now a).0) (sym e), ap (λ (a : Answer). (told c.args.world.now a).1) (sym e))
