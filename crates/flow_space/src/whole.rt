@@ -103,7 +103,6 @@ fn next_graph(
     graph_of(alloc, classes, number, function)
 }
 
-#[tactic(auto, using(crate::proofs::Counted::counted_next))]
 fn graphs_of(alloc: Global, resolved: &Resolved) -> Result<Seq<Graph>, NoMem>
     ensures graphs { IfOk result (λ graphs. CountFrom 0 graphs) }
     ensures all { IfOk result (λ graphs. length graphs ≡ length resolved.now.functions) }
