@@ -1,6 +1,6 @@
 // The meaning of expressions, statements and calls, by recursion on the tree.
 use crate::stop::{Flow, State, Stop, class_in, deeper, holding, holding_all};
-use crate::task::{Walking, add_locals, covers_within, frame, no_covers, takes, walking};
+use crate::task::{Walking, add_locals, covers_within, frame, no_covers, takes, walk_at};
 use rpy_base::{NoMem, Seq, Text};
 use rpy_meaning::{Covers, RowOp};
 use rpy_operate::{Answer, constant_value, operate, truth};
@@ -8,8 +8,7 @@ use rpy_resolved::{Clause, Expr, Function, Resolved, Stmt, Subject, Target};
 use rpy_tree::{FunId, SiteId};
 use rpy_value::{Val, copy_value, copy_values};
 use std::alloc::Global;
-use std::mem;
-use std::slice;
+use std::{mem, slice};
 
 // Values in a row.
 fn two(alloc: Global, x: &Val, y: &Val) -> Result<Seq<Val>, NoMem> {
@@ -277,7 +276,14 @@ fn store_pair(
 ) -> Result<(), Stop> {
     let depth = deeper(depth)?;
     let key = value(program, depth, state, covers, &pair.0)?;
-    let v = value_holding(program, depth, state, covers, slice::from_ref(&key), &pair.1)?;
+    let v = value_holding(
+        program,
+        depth,
+        state,
+        covers,
+        slice::from_ref(&key),
+        &pair.1,
+    )?;
     let held = two(state.alloc, &key, &v)?;
     let operands = three(state.alloc, dict, &key, &v)?;
     let op = RowOp::StoreIndex;
@@ -311,17 +317,17 @@ fn begin(
             let x = value(program, depth, state, covers, e)?;
             let op = RowOp::Walk(*site);
             let over = perform(program, depth, state, covers, &op, slice::from_ref(&x))?;
-            Ok(walking(alloc, None, over, Val::word(0))?)
+            Ok(walk_at(alloc, None, over, Val::word(0))?)
         }
         Subject::UpTo(e) => {
             let end = value(program, depth, state, covers, e)?;
-            Ok(walking(alloc, Some(1), end, Val::word(0))?)
+            Ok(walk_at(alloc, Some(1), end, Val::word(0))?)
         }
         Subject::FromTo(a, b, step) => {
             let start = value(program, depth, state, covers, a)?;
             let held = slice::from_ref(&start);
             let end = value_holding(program, depth, state, covers, held, b)?;
-            Ok(walking(alloc, Some(*step), end, start)?)
+            Ok(walk_at(alloc, Some(*step), end, start)?)
         }
     }
 }
@@ -358,7 +364,14 @@ fn advanced(
 ) -> Result<Walking, Stop> {
     let depth = deeper(depth)?;
     let op = RowOp::Advance(walk.step);
-    let next = perform(program, depth, state, no_covers(), &op, walk.pair.as_slice())?;
+    let next = perform(
+        program,
+        depth,
+        state,
+        no_covers(),
+        &op,
+        walk.pair.as_slice(),
+    )?;
     let mut pair = walk.pair;
     if 1 < pair.as_slice().len() {
         pair.set(1, next);
@@ -445,7 +458,15 @@ fn gather(
             let operands = two(state.alloc, list, &x)?;
             let held = slice::from_ref(&x);
             let op = RowOp::AddItem;
-            operated(program, depth, state, covers, held, &op, operands.as_slice())?;
+            operated(
+                program,
+                depth,
+                state,
+                covers,
+                held,
+                &op,
+                operands.as_slice(),
+            )?;
             Ok(())
         }
         _ => Err(Stop::Wrong),
@@ -487,9 +508,7 @@ fn bind(
             set_local(state, *at, copy);
             Ok(())
         }
-        Target::Attr(_, e, name) => {
-            bind_attribute(program, depth, state, covers, e, name, v)
-        }
+        Target::Attr(_, e, name) => { bind_attribute(program, depth, state, covers, e, name, v) }
         Target::Item(_, a, i) => bind_item(program, depth, state, covers, a, i, v),
         Target::Parts(_, parts) => {
             bind_parts(program, depth, state, covers, parts.as_slice(), v)
@@ -512,7 +531,15 @@ fn bind_attribute(
     let op = RowOp::StoreAttr(name.copy(state.alloc)?);
     let operands = two(state.alloc, &x, v)?;
     let held = slice::from_ref(&x);
-    operated(program, depth, state, covers, held, &op, operands.as_slice())?;
+    operated(
+        program,
+        depth,
+        state,
+        covers,
+        held,
+        &op,
+        operands.as_slice(),
+    )?;
     Ok(())
 }
 

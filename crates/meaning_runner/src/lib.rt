@@ -3,7 +3,9 @@
 
 mod evaluate;
 mod runs;
+mod start;
 mod stop;
 mod task;
 
-pub use runs::{Run, run};
+pub use runs::{Run, run_program};
+pub use start::start_world;

@@ -88,11 +88,7 @@ pub fn frame(
 }
 
 /// The values of the locals that are bound, after these.
-pub fn add_locals(
-    alloc: Global,
-    held: &mut Seq<Val>,
-    locals: &[Option<Val>],
-) -> Result<(), NoMem> {
+pub fn add_locals(alloc: Global, held: &mut Seq<Val>, locals: &[Option<Val>]) -> Result<(), NoMem> {
     for local in locals {
         match local {
             None => {}
@@ -110,12 +106,7 @@ pub struct Walking {
 }
 
 /// A walk over a value, at a place.
-pub fn walking(
-    alloc: Global,
-    step: Option<i64>,
-    over: Val,
-    at: Val,
-) -> Result<Walking, NoMem> {
+pub fn walk_at(alloc: Global, step: Option<i64>, over: Val, at: Val) -> Result<Walking, NoMem> {
     let mut pair = Seq::new(alloc);
     pair.push(over)?;
     pair.push(at)?;

@@ -1,9 +1,11 @@
 pub mod Bases
+pub mod Dispatch
 pub mod Heap
 pub mod Items
 pub mod Joined
 pub mod Lines
 pub mod Numbers
+pub mod Others
 pub mod Placed
 pub mod Repeats
 pub mod Says

@@ -31,3 +31,6 @@ line_from v (w ∷ vs) = ap (spaced (printed v)) (line_from w vs) ∙ further (p
 pub line_is : (v : Value) (text : List ℕ) (vs : List Value) → printed v ≡ Some text
     → option_map (λ t. text ++ t) (rest_of_line vs) ≡ print_line (v ∷ vs)
 line_is v text vs h = with_some text (rest_of_line vs) ∙ ap (λ (o : Option (List ℕ)). with_line o (rest_of_line vs)) (sym h) ∙ sym (line_from v vs)
+
+pub line_none : (v : Value) (vs : List Value) → printed v ≡ None → print_line (v ∷ vs) ≡ None
+line_none v vs h = line_from v vs ∙ ap (λ (o : Option (List ℕ)). with_line o (rest_of_line vs)) h

@@ -3,9 +3,10 @@ use Rattle.std.proofs.Common.{◌≡◌, ℕ, zero, suc, ◌+◌, List, [], ◌�
 use Rattle.std.specs.List.{repeat}
 use Rattle.std.proofs.lemmas.List.{append-nil}
 
-pub repeat_empty : {A : Type 0} (n : ℕ) (xs : List A) → xs ≡ [] → repeat n xs ≡ []
+pub repeat_empty : {A : Type 0} (n : ℕ) (xs : List A) → length xs ≡ 0 → repeat n xs ≡ []
 repeat_empty zero xs h = refl
-repeat_empty (suc n) xs h = ap (λ l. l ++ repeat n xs) h ∙ repeat_empty n xs h
+repeat_empty (suc n) [] h = repeat_empty n [] h
+repeat_empty (suc n) (x ∷ xs) h = absurd (omega arith)
 
 repeat_suc : {A : Type 0} (n : ℕ) (xs : List A) → xs ++ repeat n xs ≡ repeat n xs ++ xs
 repeat_suc zero xs = append-nil xs

@@ -3,7 +3,7 @@ use Rattle.std.proofs.Common.{◌≡◌, ℕ, false, List, Option, Some, None, r
 use Rattle.std.specs.Prelude.{slice_get, codes}
 use Rattle.std.specs.Str.{bytes_eq}
 use Rattle.rpy_tree.specs.Value.{Value, Object, Listed, Mapped, Instance}
-use Rattle.rpy_meaning.specs.Methods.{ListMethod, DictMethod, list_methods, dict_methods}
+use Rattle.rpy_meaning.specs.Methods.{TextMethod, ListMethod, DictMethod, text_methods, list_methods, dict_methods}
 use Rattle.rpy_meaning.specs.Classes.{named}
 use Rattle.rpy_meaning.specs.declared.row.Covers.{Covers}
 use Rattle.rpy_meaning.specs.World.{World, Answer, Bad, Op, bad, on_list, with_list, if_some}
@@ -36,3 +36,11 @@ no_list_name c name h0 h1 h2 h3 h4 = rw h0 (rw h1 (rw h2 (rw h3 (rw h4))))
 pub no_dict_name : (name : List ℕ) → bytes_eq (codes "get") name ≡ false → bytes_eq (codes "keys") name ≡ false → bytes_eq (codes "iterkeys") name ≡ false → bytes_eq (codes "values") name ≡ false → bytes_eq (codes "itervalues") name ≡ false → bytes_eq (codes "items") name ≡ false → bytes_eq (codes "iteritems") name ≡ false
     → named name dict_methods ≡ None
 no_dict_name name h0 h1 h2 h3 h4 h5 h6 = rw h0 (rw h1 (rw h2 (rw h3 (rw h4 (rw h5 (rw h6))))))
+
+pub no_text_name : (name : List ℕ) → bytes_eq (codes "join") name ≡ false → bytes_eq (codes "split") name ≡ false → bytes_eq (codes "find") name ≡ false → bytes_eq (codes "startswith") name ≡ false → bytes_eq (codes "endswith") name ≡ false → bytes_eq (codes "strip") name ≡ false → bytes_eq (codes "isdigit") name ≡ false → bytes_eq (codes "isalpha") name ≡ false → bytes_eq (codes "isspace") name ≡ false
+    → named name text_methods ≡ None
+no_text_name name h0 h1 h2 h3 h4 h5 h6 h7 h8 = rw h0 (rw h1 (rw h2 (rw h3 (rw h4 (rw h5 (rw h6 (rw h7 (rw h8))))))))
+
+pub unnamed_text : (o : Option TextMethod) (text : List ℕ) (args : List Value) (w : World) → o ≡ None → if_some bad o (λ f. f text args) w ≡ Bad
+unnamed_text None text args w h = refl
+unnamed_text (Some f) text args w h = cc

@@ -1,7 +1,6 @@
 // The methods of lists and dicts, and lengths.
 ghost use Rattle.std.specs.Prelude.{◌≡◌, ◌++◌, [], ◌∷◌, ◌+◌, pos, min, length, insert, map, reverse, slice_get, unwrap_or, Some, IfOk};
 ghost use Rattle.std.specs.Option.{option_copied};
-ghost use Rattle.std.specs.Str.{bytes_eq};
 ghost use Rattle.rpy_tree.specs.Value as value;
 ghost use Rattle.rpy_value.specs.Worlds.{pairs_in};
 ghost use Rattle.rpy_meaning.specs.Classes.{named};
@@ -15,19 +14,12 @@ ghost use Rattle.rpy_operate.specs.Objects as own;
 
 use crate::answer::{Answer, attribute_error, index_error, negative_slice, new_object};
 use crate::arithmetic::{word, word_of};
-use crate::places::{append_copies, item_at, place, removed, value_at};
+use crate::places::{append_copies, is, item_at, place, removed, value_at};
 use crate::sequences::{extend, give};
 use rpy_base::{NoMem, Seq};
 use rpy_meaning::Covers;
 use rpy_value::{Form, Object, Shape, Val, World, copy_value, copy_values};
 use std::alloc::Global;
-
-// Whether this is the other name.
-fn is(name: &[u8], other: &[u8]) -> bool
-    ensures { result ≡ bytes_eq other.now name.now }
-{
-    other == name
-}
 
 // ---- lists
 

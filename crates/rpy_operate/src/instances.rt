@@ -208,14 +208,8 @@ pub fn new(
 
 // ---- calls
 
-pub fn enter(
-    alloc: Global,
-    program: &Resolved,
-    covers: Covers,
-    f: FunId,
-    args: &[Val],
-) -> Result<Answer, NoMem>
-    ensures { IfOk result (λ a. Always (operations.enter (programs.program_of program.now) covers f args.now) a) }
+pub fn enter(alloc: Global, f: FunId, args: &[Val]) -> Result<Answer, NoMem>
+    ensures { IfOk result (λ a. a ≡ Answer.Enters f args.now None) }
 {
     Ok(Answer::Enters(f, rpy_value::copy_values(alloc, args)?, None))
 }
@@ -231,7 +225,7 @@ pub fn call_value(
     match operands {
         [] => Ok(Answer::Bad),
         [callee, args @ ..] => match &callee.form {
-            Form::Fun(f) => enter(alloc, program, covers, *f, args),
+            Form::Fun(f) => enter(alloc, *f, args),
             Form::Nothing => Ok(attribute_error(covers)),
             _ => Ok(Answer::Bad),
         },
@@ -279,6 +273,21 @@ fn object_method(
     }
 }
 
+fn method_of_text(
+    alloc: Global,
+    program: &Resolved,
+    covers: Covers,
+    name: &[u8],
+    text: &Text,
+    args: &[Val],
+    world: &mut World,
+) -> Result<Answer, NoMem>
+    ensures { IfOk result (λ a. Answers (operations.method (programs.program_of program.now) covers name.now (value.Text text.now ∷ args.now)) world.old world.new a) }
+{
+    let answer = text_method(alloc, name, text.bytes(), args, world)?;
+    Ok(answer)
+}
+
 #[tactic(auto, using(crate::proofs::Says::says))]
 pub fn method(
     alloc: Global,
@@ -293,8 +302,14 @@ pub fn method(
     match operands {
         [] => Ok(Answer::Bad),
         [receiver, args @ ..] => match &receiver.form {
-            Form::Text(text) => text_method(alloc, name, text.bytes(), args, world),
-            Form::Ref(r) => object_method(alloc, program, covers, name, *r, args, world),
+            Form::Text(text) => {
+                let answer = method_of_text(alloc, program, covers, name, text, args, world)?;
+                Ok(answer)
+            }
+            Form::Ref(r) => {
+                let answer = object_method(alloc, program, covers, name, *r, args, world)?;
+                Ok(answer)
+            }
             Form::Nothing => Ok(attribute_error(covers)),
             _ => Ok(Answer::Bad),
         },

@@ -50,7 +50,6 @@ fn turn(world: &mut World) -> Answer
     }
 }
 
-#[tactic(auto, using(crate::proofs::Sites::constant_same))]
 fn constant(alloc: Global, program: &Resolved, value: &Const) -> Result<Answer, NoMem>
     ensures { IfOk result (λ a. a ≡ Answer.Gives (operations.constant (programs.sites_of program.now.sites) value.now)) }
 {
@@ -246,8 +245,8 @@ pub fn operate(
         RowOp::Slice(_, low, high) => slice(alloc, covers, *low, *high, operands, world),
         RowOp::Tuple => new_tuple(alloc, operands, world),
         RowOp::List(_) => new_list(copy_values(alloc, operands)?, world),
-        RowOp::Call(f) => enter(alloc, program, covers, *f, operands),
-        RowOp::CallOf(_, f) => enter(alloc, program, covers, *f, operands),
+        RowOp::Call(f) => enter(alloc, *f, operands),
+        RowOp::CallOf(_, f) => enter(alloc, *f, operands),
         RowOp::CallValue => call_value(alloc, program, covers, operands),
         RowOp::New(d) => new(alloc, program, covers, *d, operands, world),
         RowOp::Method(name, _) => method(alloc, program, covers, name.bytes(), operands, world),

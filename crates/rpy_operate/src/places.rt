@@ -1,6 +1,7 @@
 // Places in sequences, and keys of dicts.
 ghost use Rattle.std.specs.Prelude.{◌≡◌, ◌++◌, ◌<◌, length, take, drop, remove, IfSome, IfOk, OnOk};
 ghost use Rattle.std.specs.Option.{option_copied};
+ghost use Rattle.std.specs.Str.{bytes_eq};
 ghost use Rattle.rpy_meaning.specs.Sequences as spec;
 ghost use Rattle.rpy_operate.specs.Places as own;
 
@@ -8,6 +9,13 @@ use crate::compare::is_equal;
 use rpy_base::{NoMem, Seq, Text};
 use rpy_value::{Val, copy_value, copy_values};
 use std::alloc::Global;
+
+/// Whether this is the other name.
+pub fn is(name: &[u8], other: &[u8]) -> bool
+    ensures { result ≡ bytes_eq other.now name.now }
+{
+    other == name
+}
 
 /// The first items of a sequence, or all of them.
 pub fn taken<T>(xs: &[T], n: usize) -> &[T]

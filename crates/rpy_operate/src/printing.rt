@@ -1,5 +1,5 @@
 // What is printed.
-ghost use Rattle.std.specs.Prelude.{◌≡◌, ◌++◌, codes, option_map, IfOk};
+ghost use Rattle.std.specs.Prelude.{◌≡◌, ◌∷◌, ◌++◌, codes, option_map, IfOk};
 ghost use Rattle.rpy_tree.specs.Meaning as printing;
 ghost use Rattle.rpy_meaning.specs.Operations as operations;
 ghost use Rattle.rpy_operate.specs.Answers.{Answers};
@@ -44,19 +44,28 @@ fn line_from(alloc: Global, text: Text, vs: &[Val]) -> Result<Option<Text>, NoMe
     Ok(Some(text))
 }
 
-#[tactic(auto, using(crate::proofs::Lines::line_is))]
+// A value and the others in one line.
+fn line_of(alloc: Global, v: &Val, vs: &[Val]) -> Result<Option<Text>, NoMem>
+    ensures { IfOk result (λ line. line ≡ printing.print_line (v.now ∷ vs.now)) }
+{
+    match printed(alloc, v)? {
+        None => Ok(None),
+        Some(text) => {
+            let line = line_from(alloc, text, vs)?;
+            Ok(line)
+        }
+    }
+}
+
 fn print_line(alloc: Global, vs: &[Val]) -> Result<Option<Text>, NoMem>
     ensures { IfOk result (λ line. line ≡ printing.print_line vs.now) }
 {
     match vs {
         [] => Ok(Some(Text::from_bytes(alloc, b"\n")?)),
-        [v, rest @ ..] => match printed(alloc, v)? {
-            None => Ok(None),
-            Some(text) => {
-                let line = line_from(alloc, text, rest)?;
-                Ok(line)
-            }
-        },
+        [v, rest @ ..] => {
+            let line = line_of(alloc, v, rest)?;
+            Ok(line)
+        }
     }
 }
 

@@ -1,5 +1,5 @@
 // Operations on strings, lists, dicts and tuples.
-ghost use Rattle.std.specs.Prelude.{◌≡◌, ◌++◌, ◌+◌, ◌*◌, ℕ, length, slice_set, if◌then◌else◌, IfOk, Some};
+ghost use Rattle.std.specs.Prelude.{◌≡◌, ◌≢◌, ◌++◌, ◌+◌, ◌*◌, ℕ, length, slice_set, if◌then◌else◌, IfOk, Some};
 ghost use Rattle.std.specs.List.{repeat};
 ghost use Rattle.rpy_tree.specs.Value as value;
 ghost use Rattle.rpy_meaning.specs.Sequences as spec;
@@ -609,25 +609,35 @@ fn times(
     match &x.form {
         Form::Nothing => Ok(attribute_error(covers)),
         Form::Text(bytes) => match &y.form {
-            Form::Word(n) => repeated_text(alloc, bytes.bytes(), count(*n), world),
-            Form::Nothing => Ok(attribute_error(covers)),
+            Form::Word(n) => {
+                let answer = repeated_text(alloc, bytes.bytes(), count(*n), world)?;
+                Ok(answer)
+            }
             _ => Ok(Answer::Bad),
         },
         Form::Ref(r) => match &y.form {
-            Form::Word(n) => repeated_list(alloc, *r, count(*n), world),
-            Form::Nothing => Ok(attribute_error(covers)),
+            Form::Word(n) => {
+                let answer = repeated_list(alloc, *r, count(*n), world)?;
+                Ok(answer)
+            }
             _ => Ok(Answer::Bad),
         },
         Form::Word(a) => match &y.form {
             Form::Word(b) => Ok(word(wrap_mul(*a, *b))),
-            Form::Nothing => Ok(attribute_error(covers)),
             _ => Ok(Answer::Bad),
         },
-        _ => match &y.form {
-            Form::Nothing => Ok(attribute_error(covers)),
-            _ => Ok(Answer::Bad),
-        },
+        _ => Ok(Answer::Bad),
     }
+}
+
+// Operations that only words have.
+#[tactic(auto, using(crate::proofs::Others::others_are))]
+fn on_others(covers: Covers, op: BinOp, x: &Val, y: &Val) -> Answer
+    requires sum { op ≢ BinOp.Add }
+    requires product { op ≢ BinOp.Mul }
+    ensures { Always (spec.binary covers op x.now y.now) result }
+{
+    on_words(covers, op, x, y)
 }
 
 #[tactic(auto, using(crate::proofs::Says::says))]
@@ -644,7 +654,7 @@ pub fn binary(
     match op {
         BinOp::Add => plus(alloc, covers, x, y, world),
         BinOp::Mul => times(alloc, covers, x, y, world),
-        _ => Ok(on_words(covers, op, x, y)),
+        _ => Ok(on_others(covers, op, x, y)),
     }
 }
 

@@ -13,7 +13,7 @@ ghost use Rattle.rpy_operate.specs.Texts as own;
 use crate::answer::{Answer, flag, new_object, new_text, no_number, value_error};
 use crate::arithmetic::{word, word_of};
 use crate::compare::place_of;
-use crate::places::byte;
+use crate::places::{byte, is};
 use rpy_base::{NoMem, Seq, Text, decimal, parse_word};
 use rpy_meaning::Covers;
 use rpy_value::{Form, Object, Val, World, copy_value};
@@ -84,7 +84,6 @@ fn with_rest(text: Text, between: &[u8], vs: &[Val]) -> Result<Option<Text>, NoM
     Ok(Some(text))
 }
 
-#[tactic(auto, using(crate::proofs::Joined::joined_is))]
 fn joined_after(text: Text, between: &[u8], vs: &[Val]) -> Result<Option<Text>, NoMem>
     ensures { IfOk result (λ made. made ≡ option_map (join_by (λ t. t) between.now) (spec.with_first text (spec.texts_of vs.now))) }
 {
@@ -196,6 +195,14 @@ fn new_parts(alloc: Global, parts: &[Text], world: &mut World) -> Result<Answer,
     }
 }
 
+fn split_by(alloc: Global, separator: u8, text: &[u8], world: &mut World) -> Result<Answer, NoMem>
+    ensures { IfOk result (λ a. Answers (spec.split text.now (value.Text (separator ∷ []) ∷ [])) world.old world.new a) }
+{
+    let parts = split_at(alloc, separator, text)?;
+    let answer = new_parts(alloc, parts.as_slice(), world)?;
+    Ok(answer)
+}
+
 fn split(alloc: Global, text: &[u8], args: &[Val], world: &mut World) -> Result<Answer, NoMem>
     ensures { IfOk result (λ a. Answers (spec.split text.now args.now) world.old world.new a) }
 {
@@ -203,8 +210,7 @@ fn split(alloc: Global, text: &[u8], args: &[Val], world: &mut World) -> Result<
         [separator] => match &separator.form {
             Form::Text(separator) => match separator.bytes() {
                 [b] => {
-                    let parts = split_at(alloc, *b, text)?;
-                    let answer = new_parts(alloc, parts.as_slice(), world)?;
+                    let answer = split_by(alloc, *b, text, world)?;
                     Ok(answer)
                 }
                 _ => Ok(Answer::Bad),
@@ -322,23 +328,23 @@ pub fn text_method(
 ) -> Result<Answer, NoMem>
     ensures { IfOk result (λ a. Answers (meaning.if_some meaning.bad (named name.now spec.text_methods) (λ f. f text.now args.now)) world.old world.new a) }
 {
-    if name == b"join".as_slice() {
+    if is(name, b"join") {
         join(alloc, text, args, world)
-    } else if name == b"split".as_slice() {
+    } else if is(name, b"split") {
         split(alloc, text, args, world)
-    } else if name == b"find".as_slice() {
+    } else if is(name, b"find") {
         find(text, args)
-    } else if name == b"startswith".as_slice() {
+    } else if is(name, b"startswith") {
         Ok(begins(text, args))
-    } else if name == b"endswith".as_slice() {
+    } else if is(name, b"endswith") {
         Ok(ends(text, args))
-    } else if name == b"strip".as_slice() {
+    } else if is(name, b"strip") {
         strip(alloc, text, args, world)
-    } else if name == b"isdigit".as_slice() {
+    } else if is(name, b"isdigit") {
         Ok(is_all_digit(text, args))
-    } else if name == b"isalpha".as_slice() {
+    } else if is(name, b"isalpha") {
         Ok(is_all_letter(text, args))
-    } else if name == b"isspace".as_slice() {
+    } else if is(name, b"isspace") {
         Ok(is_all_blank(text, args))
     } else {
         Ok(Answer::Bad)

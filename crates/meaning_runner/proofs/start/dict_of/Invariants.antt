@@ -1,0 +1,6 @@
+use Rattle.std.proofs.Common.{◌≡◌, map, take}
+use Rattle.rpy_operate.specs.Programs.{value_in}
+use Rattle.meaning_runner.proofs.start.dict_of.Given as goal
+
+abbrev pub invariant-loop-pair : goal.invariant-loop-pair
+invariant-loop-pair l = l.made ≡ map (λ q. (value_in l.sites q.0, value_in l.sites q.1)) (take l.pair-index l.pairs)
