@@ -2,6 +2,5 @@
 #![tactic(auto)]
 
 mod machine;
-mod start;
 
 pub use machine::{Ending, Ran, run_graphs};

@@ -1,6 +1,6 @@
 // A machine that runs flow graphs.
-use crate::start::start;
 use flow_graph::{Block, Exit, Graphs, Link, Op, VarId};
+use meaning_runner::start_world;
 use rpy_base::{FailName, NoMem, Seq, Text};
 use rpy_operate::{Answer, constant_value, is_below, operate, truth};
 use rpy_resolved::{Function, Resolved};
@@ -496,7 +496,9 @@ pub fn run_graphs(
     steps: u64,
     turns: u64,
 ) -> Result<Option<Ran>, NoMem> {
-    let (world, list) = start(alloc, program, args, steps)?;
+    let world = start_world(alloc, program, args, steps)?;
+    // The list of arguments is the last of the first objects.
+    let list = Val::reference(world.objects().len().saturating_sub(1));
     let mut machine = Machine {
         frames: Seq::new(alloc),
         world,
