@@ -164,7 +164,7 @@ fn catching<'a>(
     any: &'a Option<Link>,
 ) -> Option<&'a Link> {
     for (of, link) in caught {
-        if is_below(program.classes.as_slice(), class, *of) {
+        if is_below(program, class, *of) {
             return Some(link);
         }
     }

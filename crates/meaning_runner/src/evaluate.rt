@@ -764,8 +764,16 @@ fn compound(
         }
         Stmt::While(_, e, body) => while_loop(program, depth, state, covers, e, body.as_slice()),
         Stmt::For(_, target, subject, body) => {
-            let walk = begin(program, depth, state, covers, subject)?;
-            for_loop(program, depth, state, covers, target, body.as_slice(), walk)
+            let walk = begin(program, depth, state, covers, subject.get())?;
+            for_loop(
+                program,
+                depth,
+                state,
+                covers,
+                target.get(),
+                body.as_slice(),
+                walk,
+            )
         }
         Stmt::Try(_, body, clauses, other) => {
             let clauses = clauses.as_slice();
