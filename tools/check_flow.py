@@ -9,11 +9,13 @@ import os
 import shlex
 import subprocess
 import sys
+import time
 
 TOP = os.path.dirname(os.path.dirname(os.path.abspath(__file__)))
 SHARED = os.path.join(os.path.dirname(TOP), 'shared')
 PROGRAM = os.path.join(TOP, 'crates', 'meaning_check', 'out', 'meaning_check')
 MOST = 20000
+SECONDS = 240
 BATCH = 200
 
 
@@ -27,6 +29,7 @@ class Programs:
         self.meaning = meaning
         self.waiting = []
         self.passed = self.failed = self.programs = 0
+        self.start = time.time()
 
     def wanted(self, annotated, args, bound):
         """Output, ending and the steps left, as the graphs' run writes them."""
@@ -94,6 +97,9 @@ def corpus(programs):
 
 def fuzz(programs, generate, count):
     for seed in range(count):
+        if time.time() - programs.start > SECONDS:
+            print('flow: stopped after %d seconds' % SECONDS)
+            return
         files = generate(seed, 5)
         sources = [text if isinstance(text, bytes) else text.encode('latin-1') for _, text in files]
         try:
