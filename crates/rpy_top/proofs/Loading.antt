@@ -1,10 +1,13 @@
 -- One more file after the first ones.
-use Rattle.std.proofs.Common.{◌≡◌, ℕ, zero, suc, ◌+◌, ◌≤◌, List, [], ◌∷◌, ◌++◌, length, get_or, Option, Some, None, Result, Ok, Err, refl, sym, ap, subst, ◌∙◌, arith, true, false}
-use Rattle.std.specs.Prelude.{slice_get, nat_lt, nat_le, IfSome}
+use Rattle.std.proofs.Common.{◌≡◌, ℕ, zero, suc, ◌+◌, ◌≤◌, List, [], ◌∷◌, ◌++◌, length, get_or, Option, Some, None, Result, Ok, Err, refl, sym, ap, subst, ◌∙◌, arith, true, false, inl, inr}
+use Rattle.std.specs.Prelude.{slice_get, nat_lt, nat_le, map, IfSome}
+use Rattle.rpy_first.specs.declared.fault.TranslateFault.{TranslateFault}
+use Rattle.rpy_first.specs.declared.fault.TranslateFault.TheVariants as fault
+use Rattle.rpy_top.specs.Command.{module_name}
 use Rattle.std.proofs.lemmas.Bool.Decides.{nat_tests}
 use Rattle.rpy_base.specs.Reading.{Disk}
 use Rattle.rpy_front.specs.Modules.{are_short}
-use Rattle.rpy_top.specs.Answer.{Filed, filed, Sunk, AllRead, AreBytes, AreFirst, OfSources, Writes, PutEnds, BuildsTo, StopsAt, StopsAtNext, StopsLoading, limit}
+use Rattle.rpy_top.specs.Answer.{Filed, filed, Sunk, AllRead, AreBytes, AreFirst, AreSources, OfSources, Writes, WritesTo, WritesFiles, untranslated, Took, IsQuiet, PutEnds, BuildsTo, StopsAt, StopsAtNext, StopsLoading, limit}
 use Rattle.rpy_top.proofs.Rules.{and_both}
 use Rattle.rpy_top.specs.declared.building.BuildWork.{BuildWork}
 use Rattle.rpy_top.specs.declared.building.BuildWork.TheVariants.{Ended, AtFile, Refused, Misnamed}
@@ -76,3 +79,21 @@ pub put_fails : (task : Task) (names : List (List ℕ)) (files : Filed) (text : 
 put_fails task names files text out status.WriteFault of read ends = ((of.0, of.1, (text, of.2, ends)), read)
 put_fails task names files text out status.NoMem of read ends = (read, ends)
 put_fails task names files text out s of read ends = absurd ends
+
+-- or it is whole
+pub put_ends : (task : Task) (names : List (List ℕ)) (files : Filed) (text : List ℕ) (out : Sunk) → OfSources (λ sources modules. Writes task sources modules text) names files → AllRead files → Took out text → BuildsTo task (Ended status.Done) names files out
+put_ends task names files text out of read took = ((of.0, of.1, (text, of.2, took)), read)
+
+-- ---- nothing is written
+
+by_fault : (task : Task) (names sources : List (List ℕ)) (files : Filed) (out : Sunk) (f : TranslateFault) → AreSources files names sources → WritesTo task sources (map module_name names) (Err f) → AllRead files → IsQuiet out → BuildsTo task (untranslated f) names files out
+by_fault task names sources files out (fault.Source file line kind) are t read quiet = ((sources, are, t), quiet, read)
+by_fault task names sources files out (fault.Name file line kind) are t read quiet = ((sources, are, t), quiet, read)
+by_fault task names sources files out fault.NotYet are t read quiet = (refl, (sources, are, t), quiet, read)
+by_fault task names sources files out fault.NoMem are t read quiet = (read, quiet)
+
+pub writes_fail : (task : Task) (names sources : List (List ℕ)) (files : Filed) (out : Sunk) (work : BuildWork) → AreSources files names sources → WritesFiles task sources names (Err work) → AllRead files → IsQuiet out → BuildsTo task work names files out
+writes_fail task names sources files out work are w read quiet = elim w [
+  | inl e ↦ subst (λ x. BuildsTo task x names files out) (sym e) (read, quiet)
+  | inr f ↦ subst (λ x. BuildsTo task x names files out) (sym f.1) (by_fault task names sources files out f.0 are f.2 read quiet)
+]
