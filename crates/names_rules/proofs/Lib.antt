@@ -1,0 +1,4 @@
+mod Fusion
+mod Layers
+mod StmtFusion
+pub mod Walked
