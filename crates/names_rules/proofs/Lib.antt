@@ -1,4 +1,6 @@
 mod Fusion
 mod Layers
 mod StmtFusion
+mod Names
+pub mod Numbered
 pub mod Walked

@@ -1,2 +1,4 @@
+pub mod Events
+pub mod Numbering
 pub mod Order
 pub mod Walked
