@@ -1,5 +1,6 @@
 mod Fusion
 mod Layers
+pub mod Listed
 mod StmtFusion
 mod Names
 pub mod Numbered

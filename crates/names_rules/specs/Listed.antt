@@ -1,0 +1,38 @@
+-- The members as the code lists them, where names have their numbers in a table.
+use Rattle.std.specs.Prelude.{ℕ, List, [], ◌∷◌, map, Option, Some, None}
+use Rattle.rpy_nodes.specs.Names.{number}
+use Rattle.rpy_nodes.specs.declared.event.Event.{Event}
+use Rattle.rpy_nodes.specs.declared.unit.Parameter.{Parameter}
+use Rattle.rpy_nodes.specs.declared.unit.What.{What as Said}
+use Rattle.rpy_nodes.specs.declared.unit.What.TheVariants as say
+use Rattle.rpy_nodes.specs.declared.unit.Unit.{Unit as Listed}
+use Rattle.rpy_nodes.specs.declared.walk.Walk.{Walk}
+use Rattle.names_rules.specs.Events.{Names, events}
+use Rattle.names_rules.specs.Members.{Run, Formal, What, Import, From, Constant, Def, Class, Placed}
+
+abbrev pub run_events : Names → Run → List Event
+run_events names r = events names r.first r.items
+
+abbrev pub default_events : Names → Option Run → Option (List Event)
+default_events names None = None
+default_events names (Some r) = Some (run_events names r)
+
+abbrev pub parameter : Names → Formal → Parameter
+parameter names p = record { node = p.node; name = number names p.name; default = default_events names p.default }
+
+abbrev pub numbers : Names → List (List ℕ) → List ℕ
+numbers names of = map (number names) of
+
+abbrev pub says : Names → What → Said
+says names (Import of) = say.Import (numbers names of)
+says names (From path of) = say.From (numbers names path) (numbers names of)
+says names (Constant name value) = say.Constant (number names name) (run_events names value)
+says names (Def name params star body) = say.Def (number names name) (map (parameter names) params) star (run_events names body)
+says names (Class name base) = say.Class (number names name) (numbers names base)
+
+abbrev pub listed : Names → Placed → Listed
+listed names p = record { file = p.file; place = p.place; inside = p.inside; node = p.node; what = says names p.what }
+
+-- a walk between members
+abbrev pub standing : Names → ℕ → Walk
+standing names n = record { names = names; next = n; events = [] }
