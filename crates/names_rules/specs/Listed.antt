@@ -6,9 +6,12 @@ use Rattle.rpy_nodes.specs.declared.unit.Parameter.{Parameter}
 use Rattle.rpy_nodes.specs.declared.unit.What.{What as Said}
 use Rattle.rpy_nodes.specs.declared.unit.What.TheVariants as say
 use Rattle.rpy_nodes.specs.declared.unit.Unit.{Unit as Listed}
+use Rattle.rpy_nodes.specs.Listing.{known}
+use Rattle.rpy_nodes.specs.declared.listing.Named.{Named}
+use Rattle.rpy_nodes.specs.declared.unit.Listing.{Listing}
 use Rattle.rpy_nodes.specs.declared.walk.Walk.{Walk}
-use Rattle.names_rules.specs.Events.{Names, events}
-use Rattle.names_rules.specs.Members.{Run, Formal, What, Import, From, Constant, Def, Class, Placed}
+use Rattle.names_rules.specs.Events.{Names, events, see}
+use Rattle.names_rules.specs.Members.{Run, Formal, What, Import, From, Constant, Def, Class, Placed, members, modules_nodes, modules_said}
 
 abbrev pub run_events : Names → Run → List Event
 run_events names r = events names r.first r.items
@@ -36,3 +39,18 @@ listed names p = record { file = p.file; place = p.place; inside = p.inside; nod
 -- a walk between members
 abbrev pub standing : Names → ℕ → Walk
 standing names n = record { names = names; next = n; events = [] }
+
+abbrev pub module_names : List Named → Names
+module_names ms = map (λ m. m.name) ms
+
+-- the table of a program: the names that the language knows, those of the modules, and those that the members say in order
+abbrev pub names_of : List Named → Names
+names_of ms = see (modules_said ms) (see (module_names ms) known)
+
+abbrev pub whole : List Named → Listing
+whole ms = record {
+  names = names_of ms;
+  modules = numbers (names_of ms) (module_names ms);
+  nodes = modules_nodes ms;
+  units = map (listed (names_of ms)) (members ms);
+}
