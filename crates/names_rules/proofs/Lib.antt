@@ -2,6 +2,7 @@ mod Fusion
 mod Layers
 pub mod Listed
 mod StmtFusion
+pub mod Modules
 mod Names
 pub mod Numbered
 pub mod Walked

@@ -51,7 +51,7 @@ numbers_is of later names n = numbers_onto of [] later names n
 
 -- ---- parameters
 
-no_more : (n : ℕ) → n ≡ n + 0
+pub no_more : (n : ℕ) → n ≡ n + 0
 no_more n = omega arith
 
 one_more : (n : ℕ) → n + 1 ≡ n + (1 + 0)
@@ -77,7 +77,7 @@ see_rest xs ys later names = ap (see later) (sym (see_append xs ys names))
 pub see_first : (xs ys later names : Names) → see (ys ++ later) (see xs names) ≡ see later (see (xs ++ ys) names)
 see_first xs ys later names = see_append ys later (see xs names) ∙ see_rest xs ys later names
 
-sum_three : (n a b : ℕ) → (n + a) + b ≡ n + (a + b)
+pub sum_three : (n a b : ℕ) → (n + a) + b ≡ n + (a + b)
 sum_three n a b = omega arith
 
 parameters_onto : (ps : List Param) (done : List Parameter) (later names : Names) (n : ℕ) → code.parameters_onto done ps (standing names n)
@@ -91,7 +91,7 @@ parameters_onto (p ∷ ps) done later names n =
 
 -- ---- members
 
-abbrev Says : Member-F Member ClassDef → Names → Names → ℕ → Type 0
+abbrev pub Says : Member-F Member ClassDef → Names → Names → ℕ → Type 0
 Says m later names n = code.said m (standing names n) ≡ ((node n m, says (see later (see (member_said m) names)) (what n m)), standing (see (member_said m) names) (n + member_nodes m))
 
 import_is : (k : ℕ) (of : Names) (later names : Names) (n : ℕ) → Says (Member-F.Import k of) later names n
@@ -126,7 +126,7 @@ class_is c later names n =
     ap (code.class_with n (number names (out-ClassDef c).name)) (numbers_is (out-ClassDef c).base later (with_name names (out-ClassDef c).name) (n + 1))
     ∙ (λ j. ((n, say.Class (seen_number names (out-ClassDef c).name (out-ClassDef c).base later j) (numbers (see later (see (member_said (Member-F.Class c)) names)) (out-ClassDef c).base)), standing (see (member_said (Member-F.Class c)) names) (n + 1)))
 
-said_is : (m : Member-F Member ClassDef) (later names : Names) (n : ℕ) → Says m later names n
+pub said_is : (m : Member-F Member ClassDef) (later names : Names) (n : ℕ) → Says m later names n
 said_is (Member-F.Import k of) later names n = import_is k of later names n
 said_is (Member-F.From k path of) later names n = from_is k path of later names n
 said_is (Member-F.Const k name e) later names n = constant_is k name e later names n
