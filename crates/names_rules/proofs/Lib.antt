@@ -5,4 +5,5 @@ mod StmtFusion
 pub mod Modules
 mod Names
 pub mod Numbered
+pub mod Places
 pub mod Walked

@@ -1,1 +1,24 @@
-// Laws of the rules.
+// Laws of the rules, over all modules.
+ghost use Rattle.std.specs.Prelude.{◌≡◌, ◌<◌, ℕ, List, ◌∷◌, ◌++◌};
+ghost use Rattle.std.specs.List.{AllByRecursion};
+ghost use Rattle.rpy_nodes.specs.Listing.{listing};
+ghost use Rattle.rpy_nodes.specs.declared.listing.Named.{Named};
+ghost use Rattle.rpy_tree.specs.Places.{node_count};
+ghost use Rattle.names_rules.specs.Listed.{whole};
+ghost use Rattle.names_rules.specs.Members.{module_nodes, modules_nodes};
+ghost use Rattle.names_rules.specs.Laws.{modules, IsCounted, StandsIn};
+
+/// What the code lists of modules are their members in order, each with the node, the parts and the
+/// names that the rules give it.
+#[tactic(auto, using(crate::proofs::Modules::listing_is))]
+pub fn listing_follows_the_rules()
+    ensures { (ms : List Named) → listing ms ≡ whole ms }
+{}
+
+/// Where modules say how many nodes they have, files, lines and counts of nodes are those of the
+/// numbering.
+#[tactic(auto, using(crate::proofs::Places::counts))]
+pub fn places_follow_the_numbering()
+    ensures count { (ms : List Named) → AllByRecursion IsCounted ms → node_count (modules ms) ≡ modules_nodes ms }
+    ensures place { (before rest : List Named) (m : Named) → AllByRecursion IsCounted (before ++ m ∷ rest) → (i : ℕ) → i < module_nodes m.module.members → StandsIn before m rest i }
+{}

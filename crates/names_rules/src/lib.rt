@@ -2,3 +2,5 @@
 #![tactic(auto)]
 
 mod laws;
+
+pub use laws::{listing_follows_the_rules, places_follow_the_numbering};
