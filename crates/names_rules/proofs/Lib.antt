@@ -1,6 +1,9 @@
 mod Fusion
 mod Layers
 pub mod Listed
+mod Runs
+mod Sites
+mod Stack
 mod StmtFusion
 pub mod Modules
 mod Names

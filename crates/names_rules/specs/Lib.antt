@@ -4,5 +4,7 @@ pub mod Listed
 pub mod Members
 pub mod Numbering
 pub mod Order
+pub mod Parts
+pub mod Seen
 pub mod Sites
 pub mod Walked

@@ -14,6 +14,7 @@ use Rattle.names_bound.specs.declared.stand.Stand.{Stand}
 use Rattle.names_bound.specs.declared.stand.Stand.TheVariants as stand
 use Rattle.names_found.specs.Part.{no_part}
 use Rattle.names_found.specs.declared.part.Part.{Part}
+use Rattle.names_rules.specs.Parts.{expr_parts, target_parts}
 use Rattle.names_found.specs.declared.step.SiteAt.{SiteAt}
 
 -- how many nodes a part of a tree has, its sites by the number of its first node, and what it stands for
@@ -72,44 +73,36 @@ abbrev pub all : List Found → Found
 all [] = nothing
 all (part ∷ parts) = beside part (all parts)
 
-abbrev pub optional : Option Found → Found
-optional None = nothing
-optional (Some part) = part
-
-abbrev pub all_pairs : List (Found × Found) → Found
-all_pairs [] = nothing
-all_pairs (p ∷ ps) = beside p.0 (beside p.1 (all_pairs ps))
-
 -- a node after its parts
-abbrev pub node : Found → (ℕ → List SiteAt) → Part → Found
-node parts own part = record { nodes = parts.nodes + 1; sites = λ n. parts.sites n ++ own (n + parts.nodes); part = part }
+abbrev pub node : List Found → (ℕ → List SiteAt) → Part → Found
+node parts own part = record { nodes = (all parts).nodes + 1; sites = λ n. (all parts).sites n ++ own (n + (all parts).nodes); part = part }
 
 -- ---- expressions and targets, by what a name, a bound name and a name after a dot stand for
 
 module _ (name_part bound_part : List ℕ → Part) (attr_part : Part → List ℕ → Part) where
+  abbrev pub expr_sites : Expr-F Found Found → ℕ → List SiteAt
+  expr_sites (Expr-F.Binary n op a b) = operator op
+  expr_sites (Expr-F.Call n f args) = call f.part
+  expr_sites (Expr-F.Slice n a from to) = a_list
+  expr_sites (Expr-F.List n items) = a_list
+  expr_sites (Expr-F.Dict n pairs) = a_dict
+  expr_sites (Expr-F.Comp n item target over test) = two_lists
+  expr_sites other = no_site
+
+  abbrev pub expr_part : Expr-F Found Found → Part
+  expr_part (Expr-F.Expr::Name n name) = name_part name
+  expr_part (Expr-F.Expr::Attr n a name) = attr_part a.part name
+  expr_part other = no_part
+
   abbrev pub in_expr : Expr-F Found Found → Found
-  in_expr (Expr-F.Int n v) = node nothing no_site no_part
-  in_expr (Expr-F.Str n text) = node nothing no_site no_part
-  in_expr (Expr-F.Expr::Name n name) = node nothing no_site (name_part name)
-  in_expr (Expr-F.Unary n op a) = node a no_site no_part
-  in_expr (Expr-F.Binary n op a b) = node (beside a b) (operator op) no_part
-  in_expr (Expr-F.Compare n op a b) = node (beside a b) no_site no_part
-  in_expr (Expr-F.Logic n is_and a b) = node (beside a b) no_site no_part
-  in_expr (Expr-F.Not n a) = node a no_site no_part
-  in_expr (Expr-F.Call n f args) = node (beside f (all args)) (call f.part) no_part
-  in_expr (Expr-F.Expr::Attr n a name) = node a no_site (attr_part a.part name)
-  in_expr (Expr-F.Index n a i) = node (beside a i) no_site no_part
-  in_expr (Expr-F.Slice n a from to) = node (beside a (beside (optional from) (optional to))) a_list no_part
-  in_expr (Expr-F.Expr::Tuple n items) = node (all items) no_site no_part
-  in_expr (Expr-F.List n items) = node (all items) a_list no_part
-  in_expr (Expr-F.Dict n pairs) = node (all_pairs pairs) a_dict no_part
-  in_expr (Expr-F.Comp n item target over test) = node (beside item (beside target (beside over (optional test)))) two_lists no_part
+  in_expr x = node (expr_parts x) (expr_sites x) (expr_part x)
+
+  abbrev pub target_part : Target-F Found Found → Part
+  target_part (Target-F.Target::Name n name) = bound_part name
+  target_part other = no_part
 
   abbrev pub in_target : Target-F Found Found → Found
-  in_target (Target-F.Target::Name n name) = node nothing no_site (bound_part name)
-  in_target (Target-F.Target::Attr n a name) = node a no_site no_part
-  in_target (Target-F.Item n a i) = node (beside a i) no_site no_part
-  in_target (Target-F.Target::Tuple n parts) = node (all parts) no_site no_part
+  in_target x = node (target_parts x) no_site (target_part x)
 
   abbrev pub expr : Expr → Found
   expr = fold-Expr Found Found in_expr in_target
@@ -120,40 +113,40 @@ module _ (name_part bound_part : List ℕ → Part) (attr_part : Part → List �
   -- ---- statements
 
   abbrev pub returned : Option Expr → Found
-  returned None = node nothing no_site no_part
-  returned (Some e) = node (expr e) no_site no_part
+  returned None = node [] no_site no_part
+  returned (Some e) = node (expr e ∷ []) no_site no_part
 
   abbrev pub further_arms : List (Expr × List Found) → Found
   further_arms [] = nothing
   further_arms (arm ∷ arms) = beside (expr arm.0) (beside (all arm.1) (further_arms arms))
 
   abbrev pub all_arms : List (Expr × List Found) → Found
-  all_arms [] = node nothing no_site no_part
-  all_arms (arm ∷ arms) = beside (node (expr arm.0) no_site no_part) (beside (all arm.1) (further_arms arms))
+  all_arms [] = node [] no_site no_part
+  all_arms (arm ∷ arms) = beside (node (expr arm.0 ∷ []) no_site no_part) (beside (all arm.1) (further_arms arms))
 
   abbrev pub finally : Option (List Found) → Found
   finally None = nothing
   finally (Some body) = all body
 
   abbrev pub in_stmt : Stmt-F Found Found → Found
-  in_stmt (Stmt-F.Pass n) = node nothing no_site no_part
-  in_stmt (Stmt-F.Break n) = node nothing no_site no_part
-  in_stmt (Stmt-F.Continue n) = node nothing no_site no_part
+  in_stmt (Stmt-F.Pass n) = node [] no_site no_part
+  in_stmt (Stmt-F.Break n) = node [] no_site no_part
+  in_stmt (Stmt-F.Continue n) = node [] no_site no_part
   in_stmt (Stmt-F.Return n e) = returned e
-  in_stmt (Stmt-F.Raise n e) = node (expr e) no_site no_part
-  in_stmt (Stmt-F.Assert n e) = node (expr e) no_site no_part
-  in_stmt (Stmt-F.Del n a i) = node (beside (expr a) (expr i)) no_site no_part
-  in_stmt (Stmt-F.Print n es) = node (all (map expr es)) no_site no_part
-  in_stmt (Stmt-F.Assign n ts e) = node (beside (all (map target ts)) (expr e)) no_site no_part
-  in_stmt (Stmt-F.Aug n t op e) = node (beside (target t) (expr e)) (augmented op) no_part
-  in_stmt (Stmt-F.Expr n e) = node (expr e) no_site no_part
+  in_stmt (Stmt-F.Raise n e) = node (expr e ∷ []) no_site no_part
+  in_stmt (Stmt-F.Assert n e) = node (expr e ∷ []) no_site no_part
+  in_stmt (Stmt-F.Del n a i) = node (expr a ∷ expr i ∷ []) no_site no_part
+  in_stmt (Stmt-F.Print n es) = node (map expr es) no_site no_part
+  in_stmt (Stmt-F.Assign n ts e) = node (map target ts ++ expr e ∷ []) no_site no_part
+  in_stmt (Stmt-F.Aug n t op e) = node (target t ∷ expr e ∷ []) (augmented op) no_part
+  in_stmt (Stmt-F.Expr n e) = node (expr e ∷ []) no_site no_part
   in_stmt (Stmt-F.If n arms other) = beside (all_arms arms) (all other)
-  in_stmt (Stmt-F.While n e body) = beside (node (expr e) no_site no_part) (all body)
-  in_stmt (Stmt-F.For n t e body) = beside (node (beside (target t) (expr e)) a_list no_part) (all body)
-  in_stmt (Stmt-F.Try n body clauses other final) = beside (node nothing no_site no_part) (beside (all body) (beside (all clauses) (beside (all other) (finally final))))
+  in_stmt (Stmt-F.While n e body) = beside (node (expr e ∷ []) no_site no_part) (all body)
+  in_stmt (Stmt-F.For n t e body) = beside (node (target t ∷ expr e ∷ []) a_list no_part) (all body)
+  in_stmt (Stmt-F.Try n body clauses other final) = beside (node [] no_site no_part) (beside (all body) (beside (all clauses) (beside (all other) (finally final))))
 
   abbrev pub in_clause : Clause-F Found Found → Found
-  in_clause c = beside (node nothing no_site no_part) (all c.body)
+  in_clause c = beside (node [] no_site no_part) (all c.body)
 
   abbrev pub stmt : Stmt → Found
   stmt = fold-Stmt Found Found in_stmt in_clause
