@@ -5,6 +5,7 @@ mod Runs
 mod Sites
 mod Stack
 mod StmtFusion
+mod StmtSites
 pub mod Modules
 mod Names
 pub mod Numbered

@@ -37,22 +37,22 @@ use Rattle.names_rules.proofs.Stack.{drops, under}
 
 -- ---- parts side by side
 
-abbrev parts_of : List Found → List Part
+abbrev pub parts_of : List Found → List Part
 parts_of ds = map (λ d. d.part) ds
 
 abbrev pub push : Found → Sight → Sight
 push d s = record { next = s.next + d.nodes; parts = s.parts ++ d.part ∷ []; sites = s.sites ++ d.sites s.next }
 
-abbrev pushed : List Found → Sight → Sight
+abbrev pub pushed : List Found → Sight → Sight
 pushed ds s = record { next = s.next + (rule.all ds).nodes; parts = s.parts ++ parts_of ds; sites = s.sites ++ (rule.all ds).sites s.next }
 
-no_more : (n : ℕ) → n ≡ n + 0
+pub no_more : (n : ℕ) → n ≡ n + 0
 no_more n = omega arith
 
-sum_three : (n a b : ℕ) → (n + a) + b ≡ n + (a + b)
+pub sum_three : (n a b : ℕ) → (n + a) + b ≡ n + (a + b)
 sum_three n a b = omega arith
 
-run_pushed : (one : Item → Sight → Sight) (ds : List Found) (s : Sight) → run_all Sight one (map push ds) s ≡ pushed ds s
+pub run_pushed : (one : Item → Sight → Sight) (ds : List Found) (s : Sight) → run_all Sight one (map push ds) s ≡ pushed ds s
 run_pushed one [] s = λ j. record { next = no_more s.next j; parts = sym (append-nil s.parts) j; sites = sym (append-nil s.sites) j }
 run_pushed one (d ∷ ds) s = run_pushed one ds (push d s) ∙ (λ j. record {
   next = sum_three s.next d.nodes (rule.all ds).nodes j;
