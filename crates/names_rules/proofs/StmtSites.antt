@@ -126,3 +126,89 @@ module _ (names : Names) (scopes : Scopes) (locals : List ℕ) (at : Place) wher
 
   of_elif : (e : Expr) (s : Sight) → one order.Elif (moves (order.expr e) s) ≡ settle (in_expr e) s
   of_elif e s = ap (one order.Elif) (expr_seen names scopes locals at e s) ∙ (λ j. record { next = s.next + (in_expr e).nodes; parts = drops ((in_expr e).part ∷ []) s.parts j; sites = s.sites ++ (in_expr e).sites s.next })
+
+  -- ---- what each layer does
+
+  abbrev Move : Type 0
+  Move = Sight → Sight
+
+  abbrev further_moves : List (Expr × List Move) → Move
+  further_moves [] s = s
+  further_moves (arm ∷ arms) s = further_moves arms (all_moves arm.1 (one order.Elif (moves (order.expr arm.0) s)))
+
+  abbrev arm_moves : List (Expr × List Move) → Move
+  arm_moves [] s = one (order.Done 0) s
+  arm_moves (arm ∷ arms) s = further_moves arms (all_moves arm.1 (one (order.Done 1) (moves (order.expr arm.0) s)))
+
+  abbrev finally_moves : Option (List Move) → Move
+  finally_moves None s = s
+  finally_moves (Some body) s = all_moves body s
+
+  abbrev stmt_moves : Stmt-F Move Move → Move
+  stmt_moves (Stmt-F.If n arms other) s = all_moves other (arm_moves arms s)
+  stmt_moves (Stmt-F.While n e body) s = all_moves body (one (order.Done 1) (moves (order.expr e) s))
+  stmt_moves (Stmt-F.For n t e body) s = all_moves body (one order.For (moves (order.expr e) (moves (order.target t) s)))
+  stmt_moves (Stmt-F.Try n body clauses other final) s = finally_moves final (all_moves other (all_moves clauses (all_moves body (one (order.Done 0) s))))
+  stmt_moves (Stmt-F.Pass n) s = moves (order.in_stmt (Stmt-F.Pass n)) s
+  stmt_moves (Stmt-F.Break n) s = moves (order.in_stmt (Stmt-F.Break n)) s
+  stmt_moves (Stmt-F.Continue n) s = moves (order.in_stmt (Stmt-F.Continue n)) s
+  stmt_moves (Stmt-F.Return n e) s = moves (order.returned e) s
+  stmt_moves (Stmt-F.Raise n e) s = moves (order.in_stmt (Stmt-F.Raise n e)) s
+  stmt_moves (Stmt-F.Assert n e) s = moves (order.in_stmt (Stmt-F.Assert n e)) s
+  stmt_moves (Stmt-F.Del n a i) s = moves (order.in_stmt (Stmt-F.Del n a i)) s
+  stmt_moves (Stmt-F.Print n es) s = moves (order.in_stmt (Stmt-F.Print n es)) s
+  stmt_moves (Stmt-F.Assign n ts e) s = moves (order.in_stmt (Stmt-F.Assign n ts e)) s
+  stmt_moves (Stmt-F.Aug n t op e) s = moves (order.in_stmt (Stmt-F.Aug n t op e)) s
+  stmt_moves (Stmt-F.Expr n e) s = moves (order.in_stmt (Stmt-F.Expr n e)) s
+
+  abbrev clause_moves : Clause-F Move Move → Move
+  clause_moves c s = all_moves c.body (one order.Clause_of (moves (order.catches c.classes ++ order.bound_by c.bind) s))
+
+  -- ---- items
+
+  further_ran : (arms : List (Expr × List Items)) (s : Sight) → moves (order.further_arms arms) s ≡ further_moves (map {A = Expr × List Items} {B = Expr × List Move} (λ p. (p.0, map moves p.1)) arms) s
+  further_ran [] s = refl
+  further_ran (arm ∷ arms) s = run_append Sight one (order.expr arm.0) (order.Elif ∷ (order.all arm.1 ++ order.further_arms arms)) s
+      ∙ run_append Sight one (order.all arm.1) (order.further_arms arms) (one order.Elif (moves (order.expr arm.0) s))
+      ∙ further_ran arms (moves (order.all arm.1) (one order.Elif (moves (order.expr arm.0) s)))
+      ∙ ap (further_moves (map {A = Expr × List Items} {B = Expr × List Move} (λ p. (p.0, map moves p.1)) arms)) (run_parts Sight one arm.1 (one order.Elif (moves (order.expr arm.0) s)))
+
+  arms_ran : (arms : List (Expr × List Items)) (s : Sight) → moves (order.all_arms arms) s ≡ arm_moves (map {A = Expr × List Items} {B = Expr × List Move} (λ p. (p.0, map moves p.1)) arms) s
+  arms_ran [] s = refl
+  arms_ran (arm ∷ arms) s = run_append Sight one (order.expr arm.0) (order.Done 1 ∷ (order.all arm.1 ++ order.further_arms arms)) s
+      ∙ run_append Sight one (order.all arm.1) (order.further_arms arms) (one (order.Done 1) (moves (order.expr arm.0) s))
+      ∙ further_ran arms (moves (order.all arm.1) (one (order.Done 1) (moves (order.expr arm.0) s)))
+      ∙ ap (further_moves (map {A = Expr × List Items} {B = Expr × List Move} (λ p. (p.0, map moves p.1)) arms)) (run_parts Sight one arm.1 (one (order.Done 1) (moves (order.expr arm.0) s)))
+
+  try_ran : (body clauses other : List Items) (s : Sight) → moves (order.all other) (moves (order.all clauses) (moves (order.all body) s)) ≡ all_moves (map moves other) (all_moves (map moves clauses) (all_moves (map moves body) s))
+  try_ran body clauses other s = run_parts Sight one other _ ∙ ap (all_moves (map moves other)) (run_parts Sight one clauses _ ∙ ap (all_moves (map moves clauses)) (run_parts Sight one body s))
+
+  in_stmt_ran : (x : Stmt-F Items Items) (s : Sight) → moves (order.in_stmt x) s ≡ stmt_moves (map-Stmt Items Items Move Move moves moves x) s
+  in_stmt_ran (Stmt-F.Pass n) s = refl
+  in_stmt_ran (Stmt-F.Break n) s = refl
+  in_stmt_ran (Stmt-F.Continue n) s = refl
+  in_stmt_ran (Stmt-F.Return n e) s = refl
+  in_stmt_ran (Stmt-F.Raise n e) s = refl
+  in_stmt_ran (Stmt-F.Assert n e) s = refl
+  in_stmt_ran (Stmt-F.Del n a i) s = refl
+  in_stmt_ran (Stmt-F.Print n es) s = refl
+  in_stmt_ran (Stmt-F.Assign n ts e) s = refl
+  in_stmt_ran (Stmt-F.Aug n t op e) s = refl
+  in_stmt_ran (Stmt-F.Expr n e) s = refl
+  in_stmt_ran (Stmt-F.If n arms other) s = run_append Sight one (order.all_arms arms) (order.all other) s ∙ run_parts Sight one other (moves (order.all_arms arms) s) ∙ ap (all_moves (map moves other)) (arms_ran arms s)
+  in_stmt_ran (Stmt-F.While n e body) s = run_append Sight one (order.expr e) (order.Done 1 ∷ order.all body) s ∙ run_parts Sight one body (one (order.Done 1) (moves (order.expr e) s))
+  in_stmt_ran (Stmt-F.For n t e body) s = run_append Sight one (order.target t) (order.expr e ++ (order.For ∷ order.all body)) s ∙ run_append Sight one (order.expr e) (order.For ∷ order.all body) (moves (order.target t) s) ∙ run_parts Sight one body (one order.For (moves (order.expr e) (moves (order.target t) s)))
+  in_stmt_ran (Stmt-F.Try n body clauses other None) s = run_append Sight one (order.all body) (order.all clauses ++ (order.all other ++ [])) (one (order.Done 0) s)
+      ∙ run_append Sight one (order.all clauses) (order.all other ++ []) (moves (order.all body) (one (order.Done 0) s))
+      ∙ run_append Sight one (order.all other) [] (moves (order.all clauses) (moves (order.all body) (one (order.Done 0) s)))
+      ∙ try_ran body clauses other (one (order.Done 0) s)
+  in_stmt_ran (Stmt-F.Try n body clauses other (Some last)) s = run_append Sight one (order.all body) (order.all clauses ++ (order.all other ++ order.all last)) (one (order.Done 0) s)
+      ∙ run_append Sight one (order.all clauses) (order.all other ++ order.all last) (moves (order.all body) (one (order.Done 0) s))
+      ∙ run_append Sight one (order.all other) (order.all last) (moves (order.all clauses) (moves (order.all body) (one (order.Done 0) s)))
+      ∙ run_parts Sight one last (moves (order.all other) (moves (order.all clauses) (moves (order.all body) (one (order.Done 0) s))))
+      ∙ ap (all_moves (map moves last)) (try_ran body clauses other (one (order.Done 0) s))
+
+  in_clause_ran : (c : Clause-F Items Items) (s : Sight) → moves (order.in_clause c) s ≡ clause_moves (map-Clause Items Items Move Move moves moves c) s
+  in_clause_ran c s = ap (λ is. moves is s) (sym (append_assoc (order.catches c.classes) (order.bound_by c.bind) (order.Clause_of ∷ order.all c.body)))
+      ∙ run_append Sight one (order.catches c.classes ++ order.bound_by c.bind) (order.Clause_of ∷ order.all c.body) s
+      ∙ run_parts Sight one c.body (one order.Clause_of (moves (order.catches c.classes ++ order.bound_by c.bind) s))
