@@ -1,3 +1,4 @@
+pub mod Found
 mod Fusion
 mod Layers
 pub mod Listed

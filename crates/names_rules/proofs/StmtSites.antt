@@ -1,5 +1,5 @@
 -- The sites that the code sees in statements are those of the rules.
-use Rattle.std.proofs.Common.{◌≡◌, ℕ, ◌+◌, List, [], ◌∷◌, ◌++◌, Option, Some, None, append_assoc, append-nil, length, length-append, map, sym, ap, ◌∙◌, refl, arith}
+use Rattle.std.proofs.Common.{◌≡◌, ℕ, ◌+◌, List, [], ◌∷◌, ◌++◌, Option, Some, None, append_assoc, append-nil, length, length-append, map, sym, ap, ◌∙◌, refl, arith, false}
 use Rattle.std.proofs.lemmas.List.{length-map}
 use Rattle.rpy_tree.specs.declared.syntax.BinOp.{BinOp}
 use Rattle.rpy_tree.specs.declared.syntax.BinOp.TheVariants as binary
@@ -212,3 +212,117 @@ module _ (names : Names) (scopes : Scopes) (locals : List ℕ) (at : Place) wher
   in_clause_ran c s = ap (λ is. moves is s) (sym (append_assoc (order.catches c.classes) (order.bound_by c.bind) (order.Clause_of ∷ order.all c.body)))
       ∙ run_append Sight one (order.catches c.classes ++ order.bound_by c.bind) (order.Clause_of ∷ order.all c.body) s
       ∙ run_parts Sight one c.body (one order.Clause_of (moves (order.catches c.classes ++ order.bound_by c.bind) s))
+
+  -- ---- the rules
+
+  with_expr_ran : (e : Expr) (s : Sight) → moves (order.expr e ++ order.Done 1 ∷ []) s ≡ settle (rule.node (in_expr e ∷ []) rule.no_site no_part) s
+  with_expr_ran e s = run_append Sight one (order.expr e) (order.Done 1 ∷ []) s ∙ with_expr e s
+
+  returned_ran : (e : Option Expr) (s : Sight) → moves (order.returned e) s ≡ settle (rule.returned np bp dotted e) s
+  returned_ran None s = no_parts s
+  returned_ran (Some e) s = with_expr_ran e s
+
+  del_ran : (a i : Expr) (s : Sight) → moves (order.expr a ++ (order.expr i ++ order.Done 2 ∷ [])) s ≡ settle (rule.node (in_expr a ∷ in_expr i ∷ []) rule.no_site no_part) s
+  del_ran a i s = run_append Sight one (order.expr a) (order.expr i ++ order.Done 2 ∷ []) s ∙ run_append Sight one (order.expr i) (order.Done 2 ∷ []) (moves (order.expr a) s)
+      ∙ ap (one (order.Done 2)) (ap (moves (order.expr i)) (expr_seen names scopes locals at a s) ∙ expr_seen names scopes locals at i (push (in_expr a) s) ∙ run_pushed one (in_expr a ∷ in_expr i ∷ []) s)
+      ∙ done 2 (in_expr a ∷ in_expr i ∷ []) s refl
+
+  print_ran : (es : List Expr) (s : Sight) → moves (order.all (map order.expr es) ++ order.Done (length es) ∷ []) s ≡ settle (rule.node (map in_expr es) rule.no_site no_part) s
+  print_ran es s = run_append Sight one (order.all (map order.expr es)) (order.Done (length es) ∷ []) s ∙ ap (one (order.Done (length es))) (exprs_pushed es s) ∙ done (length es) (map in_expr es) s (simp length-map)
+
+  one_longer : (ts : List Target) (d : Found) → length ts + 1 ≡ length (parts_of (map in_target ts ++ d ∷ []))
+  one_longer [] d = refl
+  one_longer (t ∷ ts) d = let e : length ts + 1 ≡ length (parts_of (map in_target ts ++ d ∷ [])) = one_longer ts d in omega arith
+
+  assign_ran : (ts : List Target) (e : Expr) (s : Sight) → moves (order.all (map order.target ts) ++ (order.expr e ++ order.Done (length ts + 1) ∷ [])) s ≡ settle (rule.node (map in_target ts ++ in_expr e ∷ []) rule.no_site no_part) s
+  assign_ran ts e s = run_append Sight one (order.all (map order.target ts)) (order.expr e ++ order.Done (length ts + 1) ∷ []) s
+      ∙ run_append Sight one (order.expr e) (order.Done (length ts + 1) ∷ []) (moves (order.all (map order.target ts)) s)
+      ∙ ap (one (order.Done (length ts + 1))) (ap (moves (order.expr e)) (targets_moved ts s) ∙ expr_seen names scopes locals at e (all_moves (map push (map in_target ts)) s)
+          ∙ sym (moves_append (map push (map in_target ts)) (push (in_expr e) ∷ []) s) ∙ ap (λ ms. all_moves ms s) (sym (map_end (map in_target ts) (in_expr e))) ∙ run_pushed one (map in_target ts ++ in_expr e ∷ []) s)
+      ∙ done (length ts + 1) (map in_target ts ++ in_expr e ∷ []) s (one_longer ts (in_expr e))
+
+  aug_ran : (op : BinOp) (t : Target) (e : Expr) (s : Sight) → moves (order.target t ++ (order.expr e ++ order.augmented op ∷ [])) s ≡ settle (rule.node (in_target t ∷ in_expr e ∷ []) (rule.augmented op) no_part) s
+  aug_ran op t e s = run_append Sight one (order.target t) (order.expr e ++ order.augmented op ∷ []) s ∙ run_append Sight one (order.expr e) (order.augmented op ∷ []) (moves (order.target t) s)
+      ∙ two_parts (order.augmented op) t e s ∙ of_aug op t e s
+
+  further_settled : (arms : List (Expr × List Found)) (s : Sight) → settle (rule.further_arms np bp dotted arms) s ≡ further_moves (map {A = Expr × List Found} {B = Expr × List Move} (λ p. (p.0, map settle p.1)) arms) s
+  further_settled [] s = settle_nothing s
+  further_settled (arm ∷ arms) s = settle_beside (in_expr arm.0) (rule.beside (rule.all arm.1) (rule.further_arms np bp dotted arms)) s
+      ∙ settle_beside (rule.all arm.1) (rule.further_arms np bp dotted arms) (settle (in_expr arm.0) s)
+      ∙ further_settled arms (settle (rule.all arm.1) (settle (in_expr arm.0) s))
+      ∙ ap (further_moves (map {A = Expr × List Found} {B = Expr × List Move} (λ p. (p.0, map settle p.1)) arms)) (settle_all arm.1 (settle (in_expr arm.0) s) ∙ ap (all_moves (map settle arm.1)) (sym (of_elif arm.0 s)))
+
+  arms_settled : (arms : List (Expr × List Found)) (s : Sight) → settle (rule.all_arms np bp dotted arms) s ≡ arm_moves (map {A = Expr × List Found} {B = Expr × List Move} (λ p. (p.0, map settle p.1)) arms) s
+  arms_settled [] s = sym (no_parts s)
+  arms_settled (arm ∷ arms) s = settle_beside (rule.node (in_expr arm.0 ∷ []) rule.no_site no_part) (rule.beside (rule.all arm.1) (rule.further_arms np bp dotted arms)) s
+      ∙ settle_beside (rule.all arm.1) (rule.further_arms np bp dotted arms) (settle (rule.node (in_expr arm.0 ∷ []) rule.no_site no_part) s)
+      ∙ further_settled arms (settle (rule.all arm.1) (settle (rule.node (in_expr arm.0 ∷ []) rule.no_site no_part) s))
+      ∙ ap (further_moves (map {A = Expr × List Found} {B = Expr × List Move} (λ p. (p.0, map settle p.1)) arms)) (settle_all arm.1 (settle (rule.node (in_expr arm.0 ∷ []) rule.no_site no_part) s) ∙ ap (all_moves (map settle arm.1)) (sym (with_expr arm.0 s)))
+
+  try_settled : (body clauses other : List Found) (rest : Found) (s : Sight) → settle (rule.beside (rule.node [] rule.no_site no_part) (rule.beside (rule.all body) (rule.beside (rule.all clauses) (rule.beside (rule.all other) rest)))) s
+      ≡ settle rest (all_moves (map settle other) (all_moves (map settle clauses) (all_moves (map settle body) (one (order.Done 0) s))))
+  try_settled body clauses other rest s = settle_beside (rule.node [] rule.no_site no_part) (rule.beside (rule.all body) (rule.beside (rule.all clauses) (rule.beside (rule.all other) rest))) s
+      ∙ ap (settle (rule.beside (rule.all body) (rule.beside (rule.all clauses) (rule.beside (rule.all other) rest)))) (sym (no_parts s))
+      ∙ settle_beside (rule.all body) (rule.beside (rule.all clauses) (rule.beside (rule.all other) rest)) (one (order.Done 0) s)
+      ∙ ap (settle (rule.beside (rule.all clauses) (rule.beside (rule.all other) rest))) (settle_all body (one (order.Done 0) s))
+      ∙ settle_beside (rule.all clauses) (rule.beside (rule.all other) rest) _
+      ∙ ap (settle (rule.beside (rule.all other) rest)) (settle_all clauses _)
+      ∙ settle_beside (rule.all other) rest _
+      ∙ ap (settle rest) (settle_all other _)
+
+  in_stmt_settled : (x : Stmt-F Found Found) (s : Sight) → settle (rule.in_stmt np bp dotted x) s ≡ stmt_moves (map-Stmt Found Found Move Move settle settle x) s
+  in_stmt_settled (Stmt-F.Pass n) s = sym (no_parts s)
+  in_stmt_settled (Stmt-F.Break n) s = sym (no_parts s)
+  in_stmt_settled (Stmt-F.Continue n) s = sym (no_parts s)
+  in_stmt_settled (Stmt-F.Return n e) s = sym (returned_ran e s)
+  in_stmt_settled (Stmt-F.Raise n e) s = sym (with_expr_ran e s)
+  in_stmt_settled (Stmt-F.Assert n e) s = sym (with_expr_ran e s)
+  in_stmt_settled (Stmt-F.Del n a i) s = sym (del_ran a i s)
+  in_stmt_settled (Stmt-F.Print n es) s = sym (print_ran es s)
+  in_stmt_settled (Stmt-F.Assign n ts e) s = sym (assign_ran ts e s)
+  in_stmt_settled (Stmt-F.Aug n t op e) s = sym (aug_ran op t e s)
+  in_stmt_settled (Stmt-F.Expr n e) s = sym (with_expr_ran e s)
+  in_stmt_settled (Stmt-F.If n arms other) s = settle_beside (rule.all_arms np bp dotted arms) (rule.all other) s ∙ settle_all other (settle (rule.all_arms np bp dotted arms) s) ∙ ap (all_moves (map settle other)) (arms_settled arms s)
+  in_stmt_settled (Stmt-F.While n e body) s = settle_beside (rule.node (in_expr e ∷ []) rule.no_site no_part) (rule.all body) s ∙ settle_all body _ ∙ ap (all_moves (map settle body)) (sym (with_expr e s))
+  in_stmt_settled (Stmt-F.For n t e body) s = settle_beside (rule.node (in_target t ∷ in_expr e ∷ []) rule.a_list no_part) (rule.all body) s ∙ settle_all body _ ∙ ap (all_moves (map settle body)) (sym (of_for t e s))
+  in_stmt_settled (Stmt-F.Try n body clauses other None) s = try_settled body clauses other rule.nothing s ∙ settle_nothing _
+  in_stmt_settled (Stmt-F.Try n body clauses other (Some last)) s = try_settled body clauses other (rule.all last) s ∙ settle_all last _
+
+  -- the head of a clause has no sites
+  further_heads : (of : List (List ℕ)) (s : Sight) → moves (order.further_names of) s ≡ s
+  further_heads [] s = refl
+  further_heads (name ∷ of) s = further_heads of s
+
+  class_heads : (path : List (List ℕ)) (s : Sight) → moves (order.class_names path) s ≡ s
+  class_heads [] s = refl
+  class_heads (name ∷ of) s = run_append Sight one (order.further_names of) (order.CaughtEnd ∷ []) s ∙ ap (one order.CaughtEnd) (further_heads of s)
+
+  heads : (paths : List (List (List ℕ))) (s : Sight) → moves (order.catches paths) s ≡ s
+  heads [] s = refl
+  heads (path ∷ paths) s = run_append Sight one (order.class_names path) (order.catches paths) s ∙ ap (moves (order.catches paths)) (class_heads path s) ∙ heads paths s
+
+  catch_sites : (o : Option ℕ) (name : ℕ) (site : SiteAt) (ss : List SiteAt) → add_sites (site_count (act.Catch name) (bind_seen o).called) site ss ≡ ss
+  catch_sites (Some local) name site ss = refl
+  catch_sites None name site ss = refl
+
+  bound_head : (name : Option (List ℕ)) (s : Sight) → moves (order.bound_by name) s ≡ s
+  bound_head None s = refl
+  bound_head (Some name) s = λ j. record { next = s.next; parts = s.parts; sites = catch_sites (local_in locals at (number names name)) (number names name) (record { node = s.next; dict = false }) s.sites j }
+
+  head : (c : List (List (List ℕ))) (name : Option (List ℕ)) (s : Sight) → moves (order.catches c ++ order.bound_by name) s ≡ s
+  head c name s = run_append Sight one (order.catches c) (order.bound_by name) s ∙ ap (moves (order.bound_by name)) (heads c s) ∙ bound_head name s
+
+  clause_node : (s : Sight) → one order.Clause_of s ≡ settle (rule.node [] rule.no_site no_part) s
+  clause_node s = ap (one order.Clause_of) (run_pushed one [] s) ∙ ends order.Clause_of [] rule.no_site s refl (append-nil s.parts) (sym (append-nil _))
+
+  in_clause_settled : (c : Clause-F Found Found) (s : Sight) → settle (rule.in_clause np bp dotted c) s ≡ clause_moves (map-Clause Found Found Move Move settle settle c) s
+  in_clause_settled c s = settle_beside (rule.node [] rule.no_site no_part) (rule.all c.body) s ∙ settle_all c.body _ ∙ ap (all_moves (map settle c.body)) (sym (clause_node s) ∙ ap (one order.Clause_of) (sym (head c.classes c.bind s)))
+
+  stmt_path : (st : Stmt) → moves (order.stmt st) ≡ settle (rule.stmt np bp dotted st)
+  stmt_path st = stmt_fuses Items Items Move Move moves moves order.in_stmt order.in_clause stmt_moves clause_moves (λ x i s. in_stmt_ran x s i) (λ x i s. in_clause_ran x s i) st
+      ∙ sym (stmt_fuses Found Found Move Move settle settle (rule.in_stmt np bp dotted) (rule.in_clause np bp dotted) stmt_moves clause_moves (λ x i s. in_stmt_settled x s i) (λ x i s. in_clause_settled x s i) st)
+
+  -- what the code sees over the items of a block is what the rules give for it
+  pub block_seen : (body : List Stmt) (s : Sight) → moves (order.block body) s ≡ settle (rule.block np bp dotted body) s
+  block_seen [] s = sym (settle_nothing s)
+  block_seen (st ∷ body) s = run_append Sight one (order.stmt st) (order.block body) s ∙ ap (moves (order.block body)) (ap (λ f. f s) (stmt_path st)) ∙ block_seen body (settle (rule.stmt np bp dotted st) s) ∙ sym (settle_beside (rule.stmt np bp dotted st) (rule.block np bp dotted body) s)

@@ -5,6 +5,7 @@ pub mod Members
 pub mod Numbering
 pub mod Order
 pub mod Parts
+pub mod ProgramSites
 pub mod Seen
 pub mod Sites
 pub mod Walked

@@ -10,15 +10,19 @@ use Rattle.rpy_nodes.specs.Listing.{known}
 use Rattle.rpy_nodes.specs.declared.listing.Named.{Named}
 use Rattle.rpy_nodes.specs.declared.unit.Listing.{Listing}
 use Rattle.rpy_nodes.specs.declared.walk.Walk.{Walk}
+use Rattle.names_rules.specs.Order.{expr, block}
 use Rattle.names_rules.specs.Events.{Names, events, see}
-use Rattle.names_rules.specs.Members.{Run, Formal, What, Import, From, Constant, Def, Class, Placed, members, modules_nodes, modules_said}
+use Rattle.names_rules.specs.Members.{Value, Body, Formal, What, Import, From, Constant, Def, Class, Placed, members, modules_nodes, modules_said}
 
-abbrev pub run_events : Names → Run → List Event
-run_events names r = events names r.first r.items
+abbrev pub value_events : Names → Value → List Event
+value_events names v = events names v.first (expr v.of)
 
-abbrev pub default_events : Names → Option Run → Option (List Event)
+abbrev pub body_events : Names → Body → List Event
+body_events names b = events names b.first (block b.of)
+
+abbrev pub default_events : Names → Option Value → Option (List Event)
 default_events names None = None
-default_events names (Some r) = Some (run_events names r)
+default_events names (Some v) = Some (value_events names v)
 
 abbrev pub parameter : Names → Formal → Parameter
 parameter names p = record { node = p.node; name = number names p.name; default = default_events names p.default }
@@ -29,8 +33,8 @@ numbers names of = map (number names) of
 abbrev pub says : Names → What → Said
 says names (Import of) = say.Import (numbers names of)
 says names (From path of) = say.From (numbers names path) (numbers names of)
-says names (Constant name value) = say.Constant (number names name) (run_events names value)
-says names (Def name params star body) = say.Def (number names name) (map (parameter names) params) star (run_events names body)
+says names (Constant name value) = say.Constant (number names name) (value_events names value)
+says names (Def name params star body) = say.Def (number names name) (map (parameter names) params) star (body_events names body)
 says names (Class name base) = say.Class (number names name) (numbers names base)
 
 abbrev pub listed : Names → Placed → Listed

@@ -2,6 +2,7 @@
 -- parameter before its default; an import has no parts, and a constant has its number after its value.
 use Rattle.std.specs.Prelude.{ℕ, ◌+◌, Bool, true, false, List, [], ◌∷◌, ◌++◌, Option, Some, None}
 use Rattle.rpy_tree.specs.declared.syntax.Expr.{Expr}
+use Rattle.rpy_tree.specs.declared.syntax.Stmt.{Stmt}
 use Rattle.rpy_tree.specs.declared.syntax.Param.{Param}
 use Rattle.rpy_tree.specs.declared.syntax.Function.{Function}
 use Rattle.rpy_tree.specs.declared.syntax.Member.{Member, out-Member}
@@ -11,21 +12,25 @@ use Rattle.rpy_nodes.specs.declared.listing.Named.{Named}
 use Rattle.names_rules.specs.Order.{Items, expr, block}
 use Rattle.names_rules.specs.Numbering.{nodes, said}
 
--- items, with the number of their first node
-pub record Run : Type 0 where
+-- an expression or a body, with the number of its first node
+pub record Value : Type 0 where
   pub first : ℕ
-  pub items : Items
+  pub of : Expr
+
+pub record Body : Type 0 where
+  pub first : ℕ
+  pub of : List Stmt
 
 pub record Formal : Type 0 where
   pub node : ℕ
   pub name : List ℕ
-  pub default : Option Run
+  pub default : Option Value
 
 pub data What : Type 0 where
   Import : List (List ℕ) → What
   From : List (List ℕ) → List (List ℕ) → What
-  Constant : List ℕ → Run → What
-  Def : List ℕ → List Formal → Bool → Run → What
+  Constant : List ℕ → Value → What
+  Def : List ℕ → List Formal → Bool → Body → What
   Class : List ℕ → List (List ℕ) → What
 
 -- what stands in a file at a place among the members of its module, perhaps inside a class there
@@ -36,8 +41,11 @@ pub record Placed : Type 0 where
   pub node : ℕ
   pub what : What
 
-abbrev pub run : ℕ → Items → Run
-run n items = record { first = n; items = items }
+abbrev pub value : ℕ → Expr → Value
+value n e = record { first = n; of = e }
+
+abbrev pub body_at : ℕ → List Stmt → Body
+body_at n body = record { first = n; of = body }
 
 -- ---- parameters
 
@@ -45,9 +53,9 @@ abbrev pub default_items : Option Expr → Items
 default_items None = []
 default_items (Some e) = expr e
 
-abbrev pub default_at : ℕ → Option Expr → Option Run
+abbrev pub default_at : ℕ → Option Expr → Option Value
 default_at n None = None
-default_at n (Some e) = Some (run n (expr e))
+default_at n (Some e) = Some (value n e)
 
 abbrev pub formal : ℕ → Param → Formal
 formal n p = record { node = n; name = p.name; default = default_at (n + 1) p.default }
@@ -75,8 +83,8 @@ formals_said (p ∷ ps) = formal_said p ++ formals_said ps
 abbrev pub what : ℕ → Member-F Member ClassDef → What
 what n (Member-F.Import k names) = Import names
 what n (Member-F.From k path names) = From path names
-what n (Member-F.Const k name e) = Constant name (run n (expr e))
-what n (Member-F.Def f) = Def f.name (formals (n + 1) f.params) f.star (run (n + 1 + formals_nodes f.params) (block f.body))
+what n (Member-F.Const k name e) = Constant name (value n e)
+what n (Member-F.Def f) = Def f.name (formals (n + 1) f.params) f.star (body_at (n + 1 + formals_nodes f.params) f.body)
 what n (Member-F.Class c) = Class (out-ClassDef c).name (out-ClassDef c).base
 
 abbrev pub node : ℕ → Member-F Member ClassDef → ℕ
