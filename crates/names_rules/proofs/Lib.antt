@@ -11,4 +11,5 @@ pub mod Modules
 mod Names
 pub mod Numbered
 pub mod Places
+pub mod Program
 pub mod Walked

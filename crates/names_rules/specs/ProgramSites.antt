@@ -11,6 +11,12 @@ use Rattle.names_rules.specs.Listed.{parameter, body_events}
 use Rattle.names_rules.specs.Seen.{name_part, bound_part, attr_part}
 use Rattle.names_rules.specs.Sites.{expr, block}
 
+abbrev pub outside : Placed → Place
+outside p = record { file = p.file; place = p.place; body = false }
+
+abbrev pub inside : Placed → Place
+inside p = record { file = p.file; place = p.place; body = true }
+
 module _ (names : Names) (scopes : Scopes) where
   -- a name outside bodies is none of a function's
   abbrev pub value_sites : Place → Value → List SiteAt
@@ -30,12 +36,6 @@ module _ (names : Names) (scopes : Scopes) where
 
   abbrev pub body_sites : Place → List ℕ → Body → List SiteAt
   body_sites at own body = (block (name_part names scopes own at) (bound_part names scopes own at) (attr_part names scopes own at) body.of).sites body.first
-
-  abbrev pub outside : Placed → Place
-  outside p = record { file = p.file; place = p.place; body = false }
-
-  abbrev pub inside : Placed → Place
-  inside p = record { file = p.file; place = p.place; body = true }
 
   abbrev pub what_sites : Placed → What → List SiteAt
   what_sites p (Constant name value) = value_sites (outside p) value

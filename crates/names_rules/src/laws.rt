@@ -4,8 +4,12 @@ ghost use Rattle.std.specs.List.{AllByRecursion};
 ghost use Rattle.rpy_nodes.specs.Listing.{listing};
 ghost use Rattle.rpy_nodes.specs.declared.listing.Named.{Named};
 ghost use Rattle.rpy_tree.specs.Places.{node_count};
-ghost use Rattle.names_rules.specs.Listed.{whole};
-ghost use Rattle.names_rules.specs.Members.{module_nodes, modules_nodes};
+ghost use Rattle.names_bound.specs.declared.scopes.Scopes.{Scopes};
+ghost use Rattle.names_found.specs.Units.{find_units};
+ghost use Rattle.names_found.specs.declared.finder.Finder.{Finder};
+ghost use Rattle.names_rules.specs.Listed.{whole, names_of};
+ghost use Rattle.names_rules.specs.Members.{module_nodes, modules_nodes, members};
+ghost use Rattle.names_rules.specs.ProgramSites.{sites_of};
 ghost use Rattle.names_rules.specs.Laws.{modules, IsCounted, StandsIn};
 
 /// What the code lists of modules are their members in order, each with the node, the parts and the
@@ -21,4 +25,10 @@ pub fn listing_follows_the_rules()
 pub fn places_follow_the_numbering()
     ensures count { (ms : List Named) → AllByRecursion IsCounted ms → node_count (modules ms) ≡ modules_nodes ms }
     ensures place { (before rest : List Named) (m : Named) → AllByRecursion IsCounted (before ++ m ∷ rest) → (i : ℕ) → i < module_nodes m.module.members → StandsIn before m rest i }
+{}
+
+/// The sites that the code finds, after those that it has, are those of the rules: in node order,
+/// of the walk of each loop too.
+pub fn sites_follow_the_rules()
+    ensures { (ms : List Named) (scopes : Scopes) (w : Finder) → (find_units scopes (listing ms).units w).1.sites ≡ w.sites ++ sites_of (names_of ms) scopes (members ms) }
 {}

@@ -3,4 +3,6 @@
 
 mod laws;
 
-pub use laws::{listing_follows_the_rules, places_follow_the_numbering};
+pub use laws::{
+    listing_follows_the_rules, places_follow_the_numbering, sites_follow_the_rules,
+};
