@@ -1,5 +1,6 @@
 pub mod Found
 mod Fusion
+pub mod Injective
 mod Layers
 pub mod Listed
 mod Runs

@@ -1,6 +1,7 @@
 pub mod Events
 pub mod Laws
 pub mod Listed
+pub mod Locals
 pub mod Members
 pub mod Numbering
 pub mod Order
