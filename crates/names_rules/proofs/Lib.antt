@@ -8,6 +8,7 @@ mod Sites
 mod Stack
 mod StmtFusion
 mod StmtSites
+pub mod Locals
 pub mod Modules
 mod Names
 pub mod Numbered

@@ -35,9 +35,9 @@ module _ (names : Names) (scopes : Scopes) where
   what_found p (From path of) w = sym (append-nil w.sites)
   what_found p (Constant name v) w = expr_found names scopes [] (outside p) v.of v.first w
   what_found p (Def name params star body) w =
-      block_found names scopes (locals_of names scopes params body) (inside p) body.of body.first (find_parameters scopes (outside p) (map (parameter names) params) w).1
-      ∙ ap (λ ss. ss ++ body_sites names scopes (inside p) (locals_of names scopes params body) body) (defaults_found params p.file p.place [] [] w)
-      ∙ append_assoc w.sites (defaults_sites names scopes (outside p) params) (body_sites names scopes (inside p) (locals_of names scopes params body) body)
+      block_found names scopes (locals_of names params body) (inside p) body.of body.first (find_parameters scopes (outside p) (map (parameter names) params) w).1
+      ∙ ap (λ ss. ss ++ body_sites names scopes (inside p) (locals_of names params body) body) (defaults_found params p.file p.place [] [] w)
+      ∙ append_assoc w.sites (defaults_sites names scopes (outside p) params) (body_sites names scopes (inside p) (locals_of names params body) body)
   what_found p (Class name base) w = sym (append-nil w.sites)
 
   units_found : (ps : List Placed) (done : List Found) (w : Finder) → (units_onto done scopes (map (listed names) ps) w).1.sites ≡ w.sites ++ sites_of names scopes ps

@@ -17,6 +17,10 @@ outside p = record { file = p.file; place = p.place; body = false }
 abbrev pub inside : Placed → Place
 inside p = record { file = p.file; place = p.place; body = true }
 
+-- the parameters, then what the body binds
+abbrev pub locals_of : Names → List Formal → Body → List ℕ
+locals_of names params body = locals.of (map (parameter names) params) (body_events names body)
+
 module _ (names : Names) (scopes : Scopes) where
   -- a name outside bodies is none of a function's
   abbrev pub value_sites : Place → Value → List SiteAt
@@ -30,16 +34,12 @@ module _ (names : Names) (scopes : Scopes) where
   defaults_sites at [] = []
   defaults_sites at (p ∷ ps) = default_sites at p.default ++ defaults_sites at ps
 
-  -- the parameters, then what the body binds
-  abbrev pub locals_of : List Formal → Body → List ℕ
-  locals_of params body = locals.of (map (parameter names) params) (body_events names body)
-
   abbrev pub body_sites : Place → List ℕ → Body → List SiteAt
   body_sites at own body = (block (name_part names scopes own at) (bound_part names scopes own at) (attr_part names scopes own at) body.of).sites body.first
 
   abbrev pub what_sites : Placed → What → List SiteAt
   what_sites p (Constant name value) = value_sites (outside p) value
-  what_sites p (Def name params star body) = defaults_sites (outside p) params ++ body_sites (inside p) (locals_of params body) body
+  what_sites p (Def name params star body) = defaults_sites (outside p) params ++ body_sites (inside p) (locals_of names params body) body
   what_sites p other = []
 
   abbrev pub member_sites : Placed → List SiteAt
