@@ -1,6 +1,7 @@
 pub mod Found
 mod Fusion
 pub mod Injective
+pub mod Known
 mod Layers
 pub mod Listed
 mod Runs

@@ -20,11 +20,11 @@ map_end : {A B : Type 0} (f : A → B) (xs : List A) (x : A) → map f xs ++ f x
 map_end f [] x = refl
 map_end f (y ∷ ys) x = ap (λ zs. f y ∷ zs) (map_end f ys x)
 
-all_first : {A : Type 0} (P : A → Type 0) (xs ys : List A) → AllByRecursion P (xs ++ ys) → AllByRecursion P xs
+pub all_first : {A : Type 0} (P : A → Type 0) (xs ys : List A) → AllByRecursion P (xs ++ ys) → AllByRecursion P xs
 all_first P [] ys h = tt
 all_first P (x ∷ xs) ys h = (h.0, all_first P xs ys h.1)
 
-all_rest : {A : Type 0} (P : A → Type 0) (xs ys : List A) → AllByRecursion P (xs ++ ys) → AllByRecursion P ys
+pub all_rest : {A : Type 0} (P : A → Type 0) (xs ys : List A) → AllByRecursion P (xs ++ ys) → AllByRecursion P ys
 all_rest P [] ys h = h
 all_rest P (x ∷ xs) ys h = all_rest P xs ys h.1
 

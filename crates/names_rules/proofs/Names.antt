@@ -38,12 +38,19 @@ or_true : (a b : Bool) → b ≡ true → (a || b) ≡ true
 or_true true b h = refl
 or_true false b h = h
 
-has_last : (p : List ℕ → Bool) (xs : Names) (x : List ℕ) → p x ≡ true → list_any p (xs ++ x ∷ []) ≡ true
+pub has_last : (p : List ℕ → Bool) (xs : Names) (x : List ℕ) → p x ≡ true → list_any p (xs ++ x ∷ []) ≡ true
 has_last p [] x is = ap (λ b. b || false) is
 has_last p (y ∷ ys) x is = or_true (p y) (list_any p (ys ++ x ∷ [])) (has_last p ys x is)
 
 pub same_name : (name : List ℕ) → bytes_eq name name ≡ true
 same_name name = grind (arith, common_steps, bytes_eq-Decides)
+
+first_true : (a b : Bool) → a ≡ true → (a || b) ≡ true
+first_true true b h = refl
+first_true false b h = absurd cc
+
+pub has_more : (p : List ℕ → Bool) (xs ys : Names) → list_any p xs ≡ true → list_any p (xs ++ ys) ≡ true
+has_more p xs ys h = list_any-append p xs ys ∙ first_true (list_any p xs) (list_any p ys) h
 
 -- ---- tables that grow
 

@@ -156,3 +156,19 @@ modules_said (m ∷ ms) = module_said m.module.members ++ modules_said ms
 -- all members of a program
 abbrev pub members : List Named → List Placed
 members ms = modules_from 0 0 ms
+
+-- the names that a member says
+abbrev pub value_said : Option Value → List (List ℕ)
+value_said None = []
+value_said (Some v) = said (expr v.of)
+
+abbrev pub params_said : List Formal → List (List ℕ)
+params_said [] = []
+params_said (p ∷ ps) = (p.name ∷ value_said p.default) ++ params_said ps
+
+abbrev pub what_said : What → List (List ℕ)
+what_said (Import names) = names
+what_said (From path names) = path ++ names
+what_said (Constant name v) = said (expr v.of) ++ name ∷ []
+what_said (Def name params star body) = name ∷ (params_said params ++ said (block body.of))
+what_said (Class name base) = name ∷ base

@@ -10,6 +10,8 @@ ghost use Rattle.names_found.specs.declared.finder.Finder.{Finder};
 ghost use Rattle.names_rules.specs.Listed.{whole, names_of};
 ghost use Rattle.names_rules.specs.Members.{module_nodes, modules_nodes, members};
 ghost use Rattle.names_rules.specs.ProgramSites.{sites_of};
+ghost use Rattle.names_rules.specs.Locals.{Has, IsKnown, HasLocals};
+ghost use Rattle.rpy_nodes.specs.Names.{number};
 ghost use Rattle.names_rules.specs.Laws.{modules, IsCounted, StandsIn};
 
 /// What the code lists of modules are their members in order, each with the node, the parts and the
@@ -31,4 +33,15 @@ pub fn places_follow_the_numbering()
 /// of the walk of each loop too.
 pub fn sites_follow_the_rules()
     ensures { (ms : List Named) (scopes : Scopes) (w : Finder) → (find_units scopes (listing ms).units w).1.sites ≡ w.sites ++ sites_of (names_of ms) scopes (members ms) }
+{}
+
+/// All names that members say stand in the table of the program, where no two have one number.
+pub fn names_have_numbers()
+    ensures known { (ms : List Named) → AllByRecursion (IsKnown (names_of ms)) (members ms) }
+    ensures apart { (names : List (List ℕ)) (a b : List ℕ) → Has names a → number names a ≡ number names b → a ≡ b }
+{}
+
+/// The locals that the code finds of each function are those of the rules, in their order.
+pub fn locals_follow_the_rules()
+    ensures { (ms : List Named) → AllByRecursion (HasLocals (names_of ms)) (members ms) }
 {}
