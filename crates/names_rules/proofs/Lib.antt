@@ -16,3 +16,4 @@ pub mod Numbered
 pub mod Places
 pub mod Program
 pub mod Walked
+pub mod Words

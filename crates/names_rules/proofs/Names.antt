@@ -69,7 +69,7 @@ more_of : (names : Names) (name : List ℕ) (later : Names) (one : (rest : Names
 more_of names name later (a, one) (b, rest) = (a ++ b, rest ∙ ap (λ ns. ns ++ b) one ∙ append_assoc names a b)
 
 -- a table after names were seen begins with what it was
-grown : (later names : Names) → (rest : Names) × (see later names ≡ names ++ rest)
+pub grown : (later names : Names) → (rest : Names) × (see later names ≡ names ++ rest)
 grown [] names = ([], sym (append-nil names))
 grown (name ∷ later) names = more_of names name later (grown_by (list_any (bytes_eq name) names) names name) (grown later (with_name names name))
 

@@ -10,3 +10,4 @@ pub mod ProgramSites
 pub mod Seen
 pub mod Sites
 pub mod Walked
+pub mod Words

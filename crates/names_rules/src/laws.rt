@@ -12,6 +12,8 @@ ghost use Rattle.names_rules.specs.Members.{module_nodes, modules_nodes, members
 ghost use Rattle.names_rules.specs.ProgramSites.{sites_of};
 ghost use Rattle.names_rules.specs.Locals.{Has, IsKnown, HasLocals};
 ghost use Rattle.rpy_nodes.specs.Names.{number};
+ghost use Rattle.names_rules.specs.Words as words;
+ghost use Rattle.names_bound.specs.Known as bound;
 ghost use Rattle.names_rules.specs.Laws.{modules, IsCounted, StandsIn};
 
 /// What the code lists of modules are their members in order, each with the node, the parts and the
@@ -44,4 +46,10 @@ pub fn names_have_numbers()
 /// The locals that the code finds of each function are those of the rules, in their order.
 pub fn locals_follow_the_rules()
     ensures { (ms : List Named) → AllByRecursion (HasLocals (names_of ms)) (members ms) }
+{}
+
+/// What a name stands for that neither a function nor a module binds is looked up by its number as
+/// by its text.
+pub fn words_follow_the_table()
+    ensures { (ms : List Named) (name : List ℕ) → bound.known (number (names_of ms) name) ≡ words.known name }
 {}
