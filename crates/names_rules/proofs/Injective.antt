@@ -21,16 +21,16 @@ pub same_number : (names : Names) (a b : List ℕ) → Has names a → number na
 same_number [] a b has e = absurd cc
 same_number (x ∷ xs) a b has e = same_cons (bytes_eq a x) (bytes_eq b x) (list_any (bytes_eq a) xs) (number xs a) (number xs b) x a b (λ h. same_text a x (sym h)) (λ h. same_text b x (sym h)) (same_number xs a b) has e
 
-bool_same : (s t : Bool) → (s ≡ true → t ≡ true) → (t ≡ true → s ≡ true) → s ≡ t
+pub bool_same : (s t : Bool) → (s ≡ true → t ≡ true) → (t ≡ true → s ≡ true) → s ≡ t
 bool_same true true p q = refl
 bool_same true false p q = sym (p refl)
 bool_same false true p q = q refl
 bool_same false false p q = refl
 
-eq_yes : (m n : ℕ) → nat_eq m n ≡ true → m ≡ n
+pub eq_yes : (m n : ℕ) → nat_eq m n ≡ true → m ≡ n
 eq_yes m n h = grind (arith, common_steps)
 
-yes_eq : (n : ℕ) → nat_eq n n ≡ true
+pub yes_eq : (n : ℕ) → nat_eq n n ≡ true
 yes_eq n = grind (arith, common_steps)
 
 -- to compare numbers is to compare names

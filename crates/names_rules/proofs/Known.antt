@@ -32,7 +32,7 @@ stays_by : (b : Bool) (names : Names) (x y : List ℕ) → Has names x → Has (
 stays_by true names x y has = has
 stays_by false names x y has = has_more (bytes_eq x) names (y ∷ []) has
 
-stays_seen : (later names : Names) (x : List ℕ) → Has names x → Has (see later names) x
+pub stays_seen : (later names : Names) (x : List ℕ) → Has names x → Has (see later names) x
 stays_seen [] names x has = has
 stays_seen (y ∷ later) names x has = stays_seen later (with_name names y) x (stays_by (list_any (bytes_eq y) names) names x y has)
 
@@ -40,7 +40,7 @@ here_by : (b : Bool) (names : Names) (x : List ℕ) → list_any (bytes_eq x) na
 here_by true names x e = e
 here_by false names x e = has_last (bytes_eq x) names x (same_name x)
 
-all_seen : (xs later names : Names) → AllByRecursion (Has (see later (see xs names))) xs
+pub all_seen : (xs later names : Names) → AllByRecursion (Has (see later (see xs names))) xs
 all_seen [] later names = tt
 all_seen (x ∷ xs) later names = (stays_seen later (see xs (with_name names x)) x (stays_seen xs (with_name names x) x (here_by (list_any (bytes_eq x) names) names x refl)), all_seen xs later (with_name names x))
 

@@ -1,6 +1,8 @@
+pub mod Bindings
 pub mod Found
 mod Fusion
 pub mod Injective
+pub mod Imports
 pub mod Known
 mod Layers
 pub mod Listed

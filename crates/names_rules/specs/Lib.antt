@@ -1,4 +1,7 @@
+pub mod Bindings
+pub mod Bound
 pub mod Events
+pub mod Imports
 pub mod Laws
 pub mod Listed
 pub mod Locals
