@@ -6,12 +6,14 @@ use Rattle.rpy_nodes.specs.Listing as listing
 use Rattle.rpy_nodes.specs.Names.{number}
 use Rattle.rpy_nodes.specs.declared.event.Event.{Event}
 use Rattle.rpy_nodes.specs.declared.listing.Named.{Named}
+use Rattle.rpy_nodes.specs.declared.unit.Listing.{Listing}
 use Rattle.rpy_nodes.specs.declared.unit.Parameter.{Parameter}
 use Rattle.names_bound.specs.Declare as old
 use Rattle.names_bound.specs.Imports as old_imports
 use Rattle.names_bound.specs.Table.{Entries, look, bind, fresh}
 use Rattle.names_bound.specs.declared.declare.Declared.{Declared}
 use Rattle.names_bound.specs.declared.declare.Spot.{Spot}
+use Rattle.names_bound.specs.declared.imports.Source.{Source}
 use Rattle.names_bound.specs.declared.stand.Stand.{Stand}
 use Rattle.names_bound.specs.declared.stand.Stand.TheVariants as stand
 use Rattle.names_bound.specs.declared.table.Binding.{Binding as Old}
@@ -22,7 +24,7 @@ use Rattle.names_rules.specs.Bindings.{Binding, Counts, none_before, count, bind
 use Rattle.names_rules.specs.Bound.{bound_in, entry, entries, Alike}
 use Rattle.names_rules.specs.Events.{Names}
 use Rattle.names_rules.specs.Imports.{Bound, Is, From, import_stand, source_of, taken}
-use Rattle.names_rules.specs.Listed.{numbers, module_names, names_of, listed, says}
+use Rattle.names_rules.specs.Listed.{numbers, module_names, names_of, listed, says, parameter, body_events}
 use Rattle.names_rules.specs.Locals.{Has}
 use Rattle.names_rules.specs.Members as member
 use Rattle.names_rules.specs.Members.{What, Placed, members}
@@ -119,3 +121,117 @@ bind_sum (Some class) at name s d = refl
 
 longer : {A : Type 0} (xs : List A) (x : A) → length (xs ++ x ∷ []) ≡ length xs + 1
 longer xs x = length-append xs (x ∷ [])
+
+constant_sum : (at : Spot) (name : ℕ) (d : Declared) → sum (old.add_constant at name d) ≡ record { table = bound_at at.class at name (stand.Constant (length d.constants)) d.bindings; counts = record { functions = length d.functions; classes = length d.classes; constants = length d.constants + 1 } }
+constant_sum at name d = attribute_sum at.class name _ ∙ bind_sum at.class at name (stand.Constant (length d.constants)) (old.new_constant at d)
+    ∙ (λ j. record { table = bound_at at.class at name (stand.Constant (length d.constants)) d.bindings; counts = record { functions = length d.functions; classes = length d.classes; constants = longer d.constants (record { unit = at.unit; class = at.class }) j } })
+
+function_sum : (at : Spot) (name : ℕ) (ps : List Parameter) (es : List Event) (d : Declared) → sum (old.add_function at name ps es d) ≡ record { table = bound_at at.class at name (old.function_stand at.class (length d.functions)) d.bindings; counts = record { functions = length d.functions + 1; classes = length d.classes; constants = length d.constants } }
+function_sum at name ps es d = self_sum at ps es _ ∙ method_sum at.class name _ ∙ bind_sum at.class at name (old.function_stand at.class (length d.functions)) (old.new_function at d)
+    ∙ (λ j. record { table = bound_at at.class at name (old.function_stand at.class (length d.functions)) d.bindings; counts = record { functions = longer d.functions (record { unit = at.unit; class = at.class }) j; classes = length d.classes; constants = length d.constants } })
+
+class_sum : (at : Spot) (name : ℕ) (d : Declared) → sum (old.add_class at name d) ≡ record { table = bound_at at.class at name (stand.Class (length d.classes + 13)) d.bindings; counts = record { functions = length d.functions; classes = length d.classes + 1; constants = length d.constants } }
+class_sum at name d = bind_sum at.class at name (stand.Class (length d.classes + 13)) (old.new_class at d)
+    ∙ (λ j. record { table = bound_at at.class at name (stand.Class (length d.classes + 13)) d.bindings; counts = record { functions = length d.functions; classes = longer d.classes (record { unit = at.unit; file = at.file; place = at.place; constant = length d.constants; function = length d.functions }) j; constants = length d.constants } })
+
+pub record Follows (d : Declared) (raw : Entries) (c : Counts) : Type 0 where
+  pub alike : Alike d.bindings raw
+  pub counted : (sum d).counts ≡ c
+
+module _ (names rest modules : Names) (begins : names ≡ texts words ++ rest) (all : AllByRecursion (Has names) modules) where
+  abbrev given : List ℕ
+  given = numbers names modules
+
+  abbrev spot : ℕ → Placed → Option ℕ → Spot
+  spot unit p o = record { unit = unit; file = p.file; place = p.place; node = p.node; class = o }
+
+  no_entries : (es raw : Entries) → Alike es raw → Alike es (raw ++ [])
+  no_entries es raw h = subst (λ (t : Entries). Alike es t) (sym (append-nil raw)) h
+
+  placed_alike : (o : Option ℕ) (unit : ℕ) (p : Placed) (class : Option ℕ) (name : List ℕ) (s : Stand) (es raw : Entries) → Alike es raw → Alike (bound_at o (spot unit p class) (number names name) s es) (raw ++ entries names (unless_inside o (binding p name (Is s))))
+  placed_alike None unit p class name s es raw h = bound_alike es raw p.file (number names name) (record { place = p.place; bound = old_bound.Is s }) h
+  placed_alike (Some c) unit p class name s es raw h = no_entries es raw h
+
+  function_alike : (o : Option ℕ) (unit : ℕ) (p : Placed) (class : Option ℕ) (name : List ℕ) (n : ℕ) (es raw : Entries) → Alike es raw → Alike (bound_at o (spot unit p class) (number names name) (old.function_stand o n) es) (raw ++ entries names (unless_inside o (binding p name (Is (stand.Function n)))))
+  function_alike None unit p class name n es raw h = placed_alike None unit p class name (stand.Function n) es raw h
+  function_alike (Some c) unit p class name n es raw h = no_entries es raw h
+
+  abbrev of_table : Declared → Entries → Type 0
+  of_table d raw = Alike (sum d).table raw
+
+  -- ---- imports
+
+  name_alike : (p : Placed) (name : List ℕ) (o : OldBound) (b : Bound) → o ≡ bound_in names b → (es raw : Entries) → Alike es raw → Alike (bind es p.file (number names name) (record { place = p.place; bound = o })) (raw ++ entry names (binding p name b) ∷ [])
+  name_alike p name o b e es raw h = subst (λ (x : OldBound). Alike (bind es p.file (number names name) (record { place = p.place; bound = x })) (raw ++ entry names (binding p name b) ∷ [])) (sym e) (bound_alike es raw p.file (number names name) (record { place = p.place; bound = bound_in names b }) h)
+
+  regroup : (es raw one more : Entries) → Alike es ((raw ++ one) ++ more) → Alike es (raw ++ (one ++ more))
+  regroup es raw one more h = subst (λ (t : Entries). Alike es t) (append_assoc raw one more) h
+
+  imports_alike : (of : Names) (unit : ℕ) (p : Placed) (o : Option ℕ) (d : Declared) (raw : Entries) → Alike d.bindings raw → Alike (old.add_imports (spot unit p o) given (numbers names of) d).bindings (raw ++ entries names (map (λ name. binding p name (Is (import_stand modules name))) of))
+  imports_alike [] unit p o d raw h = no_entries d.bindings raw h
+  imports_alike (name ∷ of) unit p o d raw h = regroup _ raw (entry names (binding p name (Is (import_stand modules name))) ∷ []) _
+      (imports_alike of unit p o (old.bind_name (spot unit p o) (number names name) (old_bound.Is (old_imports.import_stand given (number names name))) d) (raw ++ entry names (binding p name (Is (import_stand modules name))) ∷ [])
+        (name_alike p name (old_bound.Is (old_imports.import_stand given (number names name))) (Is (import_stand modules name)) (ap old_bound.Is (import_is names rest begins modules name all)) d.bindings raw h))
+
+  imports_counted : (of : List ℕ) (unit : ℕ) (p : Placed) (o : Option ℕ) (d : Declared) → (sum (old.add_imports (spot unit p o) given of d)).counts ≡ (sum d).counts
+  imports_counted [] unit p o d = refl
+  imports_counted (name ∷ of) unit p o d = imports_counted of unit p o (old.bind_name (spot unit p o) name (old_bound.Is (old_imports.import_stand given name)) d)
+
+  taken_alike : (of path : Names) (unit : ℕ) (p : Placed) (o : Option ℕ) (d : Declared) (raw : Entries) → Alike d.bindings raw → Alike (old.add_taken (spot unit p o) (old_imports.source_of given (numbers names path)) (numbers names of) d).bindings (raw ++ entries names (map (λ name. binding p name (taken (source_of modules path) name)) of))
+  taken_alike [] path unit p o d raw h = no_entries d.bindings raw h
+  taken_alike (name ∷ of) path unit p o d raw h = regroup _ raw (entry names (binding p name (taken (source_of modules path) name)) ∷ []) _
+      (taken_alike of path unit p o (old.bind_name (spot unit p o) (number names name) (old_imports.from_bound (old_imports.source_of given (numbers names path)) (number names name)) d) (raw ++ entry names (binding p name (taken (source_of modules path) name)) ∷ [])
+        (name_alike p name (old_imports.from_bound (old_imports.source_of given (numbers names path)) (number names name)) (taken (source_of modules path) name)
+          (ap (λ s. old_imports.from_bound s (number names name)) (source_is names rest begins modules path all) ∙ taken_is names rest begins (source_of modules path) name) d.bindings raw h))
+
+  taken_counted : (of : List ℕ) (s : Source) (unit : ℕ) (p : Placed) (o : Option ℕ) (d : Declared) → (sum (old.add_taken (spot unit p o) s of d)).counts ≡ (sum d).counts
+  taken_counted [] s unit p o d = refl
+  taken_counted (name ∷ of) s unit p o d = taken_counted of s unit p o (old.bind_name (spot unit p o) name (old_imports.from_bound s name) d)
+
+  -- ---- members
+
+  what_follows : (w : What) (unit : ℕ) (p : Placed) (d : Declared) (raw : Entries) (c : Counts) → Follows d raw c
+      → Follows (old.add (spot unit p (old.class_here p.inside (length d.classes))) given (says names w) d) (raw ++ entries names (binds modules c p w)) (count w c)
+  what_follows (member.Import of) unit p d raw c h = record { alike = imports_alike of unit p (old.class_here p.inside (length d.classes)) d raw h.alike; counted = imports_counted (numbers names of) unit p (old.class_here p.inside (length d.classes)) d ∙ h.counted }
+  what_follows (member.From path of) unit p d raw c h = record { alike = taken_alike of path unit p (old.class_here p.inside (length d.classes)) d raw h.alike; counted = taken_counted (numbers names of) (old_imports.source_of given (numbers names path)) unit p (old.class_here p.inside (length d.classes)) d ∙ h.counted }
+  what_follows (member.Constant name v) unit p d raw c h =
+      let at : Spot = spot unit p (old.class_here p.inside (length d.classes)) in
+      record {
+        alike = subst (λ (s : Sum). Alike s.table (raw ++ entries names (binds modules c p (member.Constant name v)))) (sym (constant_sum at (number names name) d))
+          (subst (λ (x : Counts). Alike (bound_at at.class at (number names name) (stand.Constant (length d.constants)) d.bindings) (raw ++ entries names (binds modules x p (member.Constant name v)))) h.counted
+            (placed_alike at.class unit p at.class name (stand.Constant (length d.constants)) d.bindings raw h.alike));
+        counted = ap (λ s. s.counts) (constant_sum at (number names name) d) ∙ ap (count (member.Constant name v)) h.counted;
+      }
+  what_follows (member.Def name params star body) unit p d raw c h =
+      let at : Spot = spot unit p (old.class_here p.inside (length d.classes)) in
+      record {
+        alike = subst (λ (s : Sum). Alike s.table (raw ++ entries names (binds modules c p (member.Def name params star body)))) (sym (function_sum at (number names name) (map (parameter names) params) (body_events names body) d))
+          (subst (λ (x : Counts). Alike (bound_at at.class at (number names name) (old.function_stand at.class (length d.functions)) d.bindings) (raw ++ entries names (binds modules x p (member.Def name params star body)))) h.counted
+            (function_alike at.class unit p at.class name (length d.functions) d.bindings raw h.alike));
+        counted = ap (λ s. s.counts) (function_sum at (number names name) (map (parameter names) params) (body_events names body) d) ∙ ap (count (member.Def name params star body)) h.counted;
+      }
+  what_follows (member.Class name base) unit p d raw c h =
+      let at : Spot = spot unit p (old.class_here p.inside (length d.classes)) in
+      record {
+        alike = subst (λ (s : Sum). Alike s.table (raw ++ entries names (binds modules c p (member.Class name base)))) (sym (class_sum at (number names name) d))
+          (subst (λ (x : Counts). Alike (bound_at at.class at (number names name) (stand.Class (length d.classes + 13)) d.bindings) (raw ++ entries names (binds modules x p (member.Class name base)))) h.counted
+            (placed_alike at.class unit p at.class name (stand.Class (length d.classes + 13)) d.bindings raw h.alike));
+        counted = ap (λ s. s.counts) (class_sum at (number names name) d) ∙ ap (count (member.Class name base)) h.counted;
+      }
+
+  map_both : (xs ys : List Binding) → entries names xs ++ entries names ys ≡ entries names (xs ++ ys)
+  map_both [] ys = refl
+  map_both (x ∷ xs) ys = ap (λ zs. entry names x ∷ zs) (map_both xs ys)
+
+  units_follow : (ps : List Placed) (unit : ℕ) (d : Declared) (raw : Entries) (c : Counts) → Follows d raw c → Alike (old.declared_from given unit (map (listed names) ps) d).bindings (raw ++ entries names (bindings_from modules c ps))
+  units_follow [] unit d raw c h = no_entries d.bindings raw h.alike
+  units_follow (p ∷ ps) unit d raw c h = subst (λ (t : Entries). Alike (old.declared_from given unit (map (listed names) (p ∷ ps)) d).bindings t)
+      (append_assoc raw (entries names (binds modules c p p.what)) (entries names (bindings_from modules (count p.what c) ps)) ∙ ap (λ t. raw ++ t) (map_both (binds modules c p p.what) (bindings_from modules (count p.what c) ps)))
+      (units_follow ps (unit + 1) _ (raw ++ entries names (binds modules c p p.what)) (count p.what c) (what_follows p.what unit p d raw c h))
+
+bindings_by : (ms : List Named) (begins : (rest : Names) × (names_of ms ≡ texts words ++ rest)) → Alike (old.declared (numbers (names_of ms) (module_names ms)) (map (listed (names_of ms)) (members ms))).bindings (entries (names_of ms) (bindings (module_names ms) (members ms)))
+bindings_by ms (rest, e) = units_follow (names_of ms) rest (module_names ms) e (modules_stand ms) (members ms) 0 old.start [] none_before (record { alike = λ file name. refl; counted = refl })
+
+-- every name of a module is found as the rules bind it
+pub bindings_are : (ms : List Named) → Alike (old.declared (listing.listing ms).modules (listing.listing ms).units).bindings (entries (names_of ms) (bindings (module_names ms) (members ms)))
+bindings_are ms = subst (λ (l : Listing). Alike (old.declared l.modules l.units).bindings (entries (names_of ms) (bindings (module_names ms) (members ms)))) (sym (listing_is ms)) (bindings_by ms (table_begins ms))
