@@ -48,10 +48,22 @@ abbrev pub bindings_from : List (List ℕ) → Counts → List Placed → List B
 bindings_from modules c [] = []
 bindings_from modules c (p ∷ ps) = binds modules c p p.what ++ bindings_from modules (count p.what c) ps
 
-abbrev pub bindings : List (List ℕ) → List Placed → List Binding
-bindings modules ps = bindings_from modules none_before ps
-
 -- what a name of a module is bound to
 abbrev pub look : List Binding → ℕ → List ℕ → Option Binding
 look [] file name = None
 look (b ∷ bs) file name = if file == b.file && bytes_eq name b.name then Some b else look bs file name
+
+abbrev pub add_by : Option Binding → List Binding → Binding → List Binding
+add_by None bs b = bs ++ b ∷ []
+add_by (Some earlier) bs b = bs
+
+-- a name is bound where it is not yet
+abbrev pub add : List Binding → Binding → List Binding
+add bs b = add_by (look bs b.file b.name) bs b
+
+abbrev pub add_all : List Binding → List Binding → List Binding
+add_all bs [] = bs
+add_all bs (b ∷ more) = add_all (add bs b) more
+
+abbrev pub bindings : List (List ℕ) → List Placed → List Binding
+bindings modules ps = add_all [] (bindings_from modules none_before ps)

@@ -1,7 +1,7 @@
 -- Bindings as the tables of the code have them.
-use Rattle.std.specs.Prelude.{◌≡◌, ℕ, List, map}
+use Rattle.std.specs.Prelude.{ℕ, List, map}
 use Rattle.rpy_nodes.specs.Names.{number}
-use Rattle.names_bound.specs.Table.{Entries, look}
+use Rattle.names_bound.specs.Table.{Entries}
 use Rattle.names_bound.specs.declared.table.Binding.{Binding as Old}
 use Rattle.names_bound.specs.declared.table.Bound.{Bound as OldBound}
 use Rattle.names_bound.specs.declared.table.Bound.TheVariants as old
@@ -19,7 +19,3 @@ entry names b = (record { scope = b.file; name = number names b.name }, record {
 
 abbrev pub entries : Names → List Binding → Entries
 entries names bs = map (entry names) bs
-
--- two tables in which every name is found alike
-abbrev pub Alike : Entries → Entries → Type 0
-Alike es fs = (file name : ℕ) → look es file name ≡ look fs file name

@@ -7,11 +7,14 @@ ghost use Rattle.rpy_tree.specs.Places.{node_count};
 ghost use Rattle.names_bound.specs.declared.scopes.Scopes.{Scopes};
 ghost use Rattle.names_found.specs.Units.{find_units};
 ghost use Rattle.names_found.specs.declared.finder.Finder.{Finder};
-ghost use Rattle.names_rules.specs.Listed.{whole, names_of};
+ghost use Rattle.names_rules.specs.Listed.{whole, names_of, module_names};
 ghost use Rattle.names_rules.specs.Members.{module_nodes, modules_nodes, members};
 ghost use Rattle.names_rules.specs.ProgramSites.{sites_of};
 ghost use Rattle.names_rules.specs.Locals.{Has, IsKnown, HasLocals};
 ghost use Rattle.rpy_nodes.specs.Names.{number};
+ghost use Rattle.names_bound.specs.Declare.{declared};
+ghost use Rattle.names_rules.specs.Bindings.{bindings};
+ghost use Rattle.names_rules.specs.Bound.{entries};
 ghost use Rattle.names_rules.specs.Words as words;
 ghost use Rattle.names_bound.specs.Known as bound;
 ghost use Rattle.names_rules.specs.Laws.{modules, IsCounted, StandsIn};
@@ -52,4 +55,10 @@ pub fn locals_follow_the_rules()
 /// by its text.
 pub fn words_follow_the_table()
     ensures { (ms : List Named) (name : List ℕ) → bound.known (number (names_of ms) name) ≡ words.known name }
+{}
+
+/// The table of the names of modules has what the rules bind, in the same order: imports, constants,
+/// functions and classes, each numbered among those of its kind.
+pub fn bindings_follow_the_rules()
+    ensures { (ms : List Named) → (declared (listing ms).modules (listing ms).units).bindings ≡ entries (names_of ms) (bindings (module_names ms) (members ms)) }
 {}

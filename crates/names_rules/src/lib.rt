@@ -4,6 +4,6 @@
 mod laws;
 
 pub use laws::{
-    listing_follows_the_rules, locals_follow_the_rules, names_have_numbers, places_follow_the_numbering,
+    bindings_follow_the_rules,     listing_follows_the_rules, locals_follow_the_rules, names_have_numbers, places_follow_the_numbering,
     sites_follow_the_rules, words_follow_the_table,
 };
