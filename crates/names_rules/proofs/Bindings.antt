@@ -43,7 +43,7 @@ use Rattle.names_rules.proofs.Words.{texts, table_begins}
 -- ---- tables
 
 module _ (names : Names) where
-  abbrev entry_of : Option Binding → Option Old
+  abbrev pub entry_of : Option Binding → Option Old
   entry_of None = None
   entry_of (Some b) = Some (entry names b).1
 
@@ -51,7 +51,7 @@ module _ (names : Names) where
   entry_cond true b o = refl
   entry_cond false b o = refl
 
-  look_entries : (bs : List Binding) (file : ℕ) (name : List ℕ) → Has names name → look (entries names bs) file (number names name) ≡ entry_of (rule.look bs file name)
+  pub look_entries : (bs : List Binding) (file : ℕ) (name : List ℕ) → Has names name → look (entries names bs) file (number names name) ≡ entry_of (rule.look bs file name)
   look_entries [] file name has = refl
   look_entries (b ∷ bs) file name has = (λ j. cond (nat_eq file b.file && compared names name b.name has j) (Some (entry names b).1) (look_entries bs file name has j))
       ∙ entry_cond (nat_eq file b.file && bytes_eq name b.name) b (rule.look bs file name)

@@ -22,7 +22,7 @@ use Rattle.names_rules.proofs.Listed.{see_rest, see_first}
 use Rattle.names_rules.proofs.Locals.{all_first, all_rest, locals_are}
 use Rattle.names_rules.proofs.Names.{same_name, has_last, has_more}
 
-all_both : {A : Type 0} (P : A → Type 0) (xs ys : List A) → AllByRecursion P xs → AllByRecursion P ys → AllByRecursion P (xs ++ ys)
+pub all_both : {A : Type 0} (P : A → Type 0) (xs ys : List A) → AllByRecursion P xs → AllByRecursion P ys → AllByRecursion P (xs ++ ys)
 all_both P [] ys h k = k
 all_both P (x ∷ xs) ys h k = (h.0, all_both P xs ys h.1 k)
 

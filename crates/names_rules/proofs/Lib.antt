@@ -16,6 +16,7 @@ pub mod Modules
 mod Names
 pub mod Numbered
 pub mod Places
+pub mod Scopes
 pub mod Program
 pub mod Walked
 pub mod Words

@@ -10,6 +10,7 @@ pub mod Numbering
 pub mod Order
 pub mod Parts
 pub mod ProgramSites
+pub mod Scopes
 pub mod Seen
 pub mod Sites
 pub mod Walked

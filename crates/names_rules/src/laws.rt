@@ -15,6 +15,7 @@ ghost use Rattle.rpy_nodes.specs.Names.{number};
 ghost use Rattle.names_bound.specs.Declare.{declared};
 ghost use Rattle.names_rules.specs.Bindings.{bindings};
 ghost use Rattle.names_rules.specs.Bound.{entries};
+ghost use Rattle.names_rules.specs.Scopes.{FindsAlike};
 ghost use Rattle.names_rules.specs.Words as words;
 ghost use Rattle.names_bound.specs.Known as bound;
 ghost use Rattle.names_rules.specs.Laws.{modules, IsCounted, StandsIn};
@@ -61,4 +62,10 @@ pub fn words_follow_the_table()
 /// functions and classes, each numbered among those of its kind.
 pub fn bindings_follow_the_rules()
     ensures { (ms : List Named) → (declared (listing ms).modules (listing ms).units).bindings ≡ entries (names_of ms) (bindings (module_names ms) (members ms)) }
+{}
+
+/// What a name of a module is, what a module has under it, and whether it is bound only later, are
+/// found by the number of the name as the rules find them by its text.
+pub fn scopes_follow_the_rules()
+    ensures { (ms : List Named) (s : Scopes) → s.bindings ≡ (declared (listing ms).modules (listing ms).units).bindings → (file : ℕ) (name : List ℕ) → Has (names_of ms) name → FindsAlike (names_of ms) (bindings (module_names ms) (members ms)) s file name }
 {}
