@@ -1,5 +1,5 @@
 -- The tables of the code find what the rules bind.
-use Rattle.std.proofs.Common.{◌≡◌, ℕ, ◌+◌, List, [], ◌∷◌, ◌++◌, Bool, true, false, map, length, length-append, Option, Some, None, append_assoc, append-nil, sym, ap, ◌∙◌, refl, cond, arith, subst}
+use Rattle.std.proofs.Common.{◌≡◌, ℕ, ◌+◌, List, [], ◌∷◌, ◌++◌, Bool, true, false, map, length, length-append, Option, Some, None, sym, ap, ◌∙◌, refl, cond}
 use Rattle.std.specs.Prelude.{nat_eq, ◌&&◌}
 use Rattle.std.specs.List.{AllByRecursion}
 use Rattle.std.specs.Str.{bytes_eq}
@@ -7,7 +7,6 @@ use Rattle.rpy_nodes.specs.Listing as listing
 use Rattle.rpy_nodes.specs.Names.{number}
 use Rattle.rpy_nodes.specs.declared.event.Event.{Event}
 use Rattle.rpy_nodes.specs.declared.listing.Named.{Named}
-use Rattle.rpy_nodes.specs.declared.unit.Listing.{Listing}
 use Rattle.rpy_nodes.specs.declared.unit.Parameter.{Parameter}
 use Rattle.names_bound.specs.Declare as old
 use Rattle.names_bound.specs.Imports as old_imports
@@ -20,12 +19,11 @@ use Rattle.names_bound.specs.declared.stand.Stand.TheVariants as stand
 use Rattle.names_bound.specs.declared.table.Binding.{Binding as Old}
 use Rattle.names_bound.specs.declared.table.Bound.{Bound as OldBound}
 use Rattle.names_bound.specs.declared.table.Bound.TheVariants as old_bound
-use Rattle.names_bound.specs.declared.table.Key.{Key}
 use Rattle.names_rules.specs.Bindings as rule
 use Rattle.names_rules.specs.Bindings.{Binding, Counts, none_before, count, binding, unless_inside, binds, bindings_from, bindings}
 use Rattle.names_rules.specs.Bound.{bound_in, entry, entries}
 use Rattle.names_rules.specs.Events.{Names}
-use Rattle.names_rules.specs.Imports.{Bound, Is, From, import_stand, source_of, taken}
+use Rattle.names_rules.specs.Imports.{Bound, Is, import_stand, source_of, taken}
 use Rattle.names_rules.specs.Listed.{numbers, module_names, names_of, listed, says, parameter, body_events}
 use Rattle.names_rules.specs.Locals.{Has, IsKnown}
 use Rattle.names_rules.specs.Numbering.{said}
@@ -158,7 +156,7 @@ module _ (names rest modules : Names) (begins : names ≡ texts words ++ rest) (
   imports_bound [] unit p o d bs h has = h
   imports_bound (name ∷ of) unit p o d bs h has =
       imports_bound of unit p o (old.bind_name (spot unit p o) (number names name) (old_bound.Is (old_imports.import_stand given (number names name))) d) (rule.add bs (binding p name (Is (import_stand modules name))))
-        (name_bound p name (old_bound.Is (old_imports.import_stand given (number names name))) (Is (import_stand modules name)) (ap old_bound.Is (import_is names rest begins modules name all)) d.bindings bs h has.0) has.1
+      (name_bound p name (old_bound.Is (old_imports.import_stand given (number names name))) (Is (import_stand modules name)) (ap old_bound.Is (import_is names rest begins modules name all)) d.bindings bs h has.0) has.1
 
   imports_counted : (of : List ℕ) (unit : ℕ) (p : Placed) (o : Option ℕ) (d : Declared) → (sum (old.add_imports (spot unit p o) given of d)).counts ≡ (sum d).counts
   imports_counted [] unit p o d = refl
@@ -168,8 +166,8 @@ module _ (names rest modules : Names) (begins : names ≡ texts words ++ rest) (
   taken_bound [] path unit p o d bs h has = h
   taken_bound (name ∷ of) path unit p o d bs h has =
       taken_bound of path unit p o (old.bind_name (spot unit p o) (number names name) (old_imports.from_bound (old_imports.source_of given (numbers names path)) (number names name)) d) (rule.add bs (binding p name (taken (source_of modules path) name)))
-        (name_bound p name (old_imports.from_bound (old_imports.source_of given (numbers names path)) (number names name)) (taken (source_of modules path) name)
-          (ap (λ s. old_imports.from_bound s (number names name)) (source_is names rest begins modules path all) ∙ taken_is names rest begins (source_of modules path) name) d.bindings bs h has.0) has.1
+      (name_bound p name (old_imports.from_bound (old_imports.source_of given (numbers names path)) (number names name)) (taken (source_of modules path) name)
+      (ap (λ s. old_imports.from_bound s (number names name)) (source_is names rest begins modules path all) ∙ taken_is names rest begins (source_of modules path) name) d.bindings bs h has.0) has.1
 
   taken_counted : (of : List ℕ) (s : Source) (unit : ℕ) (p : Placed) (o : Option ℕ) (d : Declared) → (sum (old.add_taken (spot unit p o) s of d)).counts ≡ (sum d).counts
   taken_counted [] s unit p o d = refl

@@ -1,14 +1,11 @@
 -- What the code finds has the sites of the rules.
-use Rattle.std.proofs.Common.{◌≡◌, ℕ, List, [], ◌∷◌, ◌++◌, Option, Some, None, append_assoc, append-nil, map, sym, ap, ◌∙◌, refl}
-use Rattle.std.specs.Prelude.{Bool, true, false}
+use Rattle.std.proofs.Common.{◌≡◌, ℕ, List, [], ◌∷◌, ◌++◌, ap, ◌∙◌, refl}
 use Rattle.rpy_tree.specs.declared.syntax.Expr.{Expr}
 use Rattle.rpy_tree.specs.declared.syntax.Stmt.{Stmt}
 use Rattle.names_bound.specs.declared.scopes.Scopes.{Scopes}
 use Rattle.names_found.specs.Finder.{find_event, find_events}
 use Rattle.names_found.specs.declared.finder.Finder.{Finder}
 use Rattle.names_found.specs.declared.finder.Place.{Place}
-use Rattle.names_found.specs.declared.part.Part.{Part}
-use Rattle.names_found.specs.declared.step.SiteAt.{SiteAt}
 use Rattle.names_rules.specs.Order as order
 use Rattle.names_rules.specs.Order.{Item, Items, Int, Str, Name, Attr, Unary, Binary, Call, Tuple, List_of, Dict, Slice, Comp, Other, Bind, BindAttr, Done, For, Multiply, Clause_of, Elif, Caught, CaughtOf, CaughtEnd, Catch}
 use Rattle.names_rules.specs.Numbering.{next}

@@ -30,10 +30,10 @@ module _ (A B C D : Type 0) (f : A → C) (g : B → D)
 
   pub expr_fuses : (e : Expr) → f (fold-Expr A B step step' e) ≡ fold-Expr C D done done' e
   expr_fuses = ind-Expr (λ e. f (first e) ≡ whole e) (λ t. g (first' t) ≡ whole' t)
-    (λ x y is. ap f (fold-roll-Expr A B step step' x) ∙ expr_layer x (expr_alike Expr Target _ _ C D (λ p. p.0) (λ p. p.0) (λ e. f (first e)) whole (λ t. g (first' t)) whole' (λ p. p.1) (λ p. p.1) x y is) ∙ sym (fold-roll-Expr C D done done' x))
-    (λ x y is. ap g (fold-roll-Target A B step step' x) ∙ target_layer x (target_alike Expr Target _ _ C D (λ p. p.0) (λ p. p.0) (λ e. f (first e)) whole (λ t. g (first' t)) whole' (λ p. p.1) (λ p. p.1) x y is) ∙ sym (fold-roll-Target C D done done' x))
+      (λ x y is. ap f (fold-roll-Expr A B step step' x) ∙ expr_layer x (expr_alike Expr Target _ _ C D (λ p. p.0) (λ p. p.0) (λ e. f (first e)) whole (λ t. g (first' t)) whole' (λ p. p.1) (λ p. p.1) x y is) ∙ sym (fold-roll-Expr C D done done' x))
+      (λ x y is. ap g (fold-roll-Target A B step step' x) ∙ target_layer x (target_alike Expr Target _ _ C D (λ p. p.0) (λ p. p.0) (λ e. f (first e)) whole (λ t. g (first' t)) whole' (λ p. p.1) (λ p. p.1) x y is) ∙ sym (fold-roll-Target C D done done' x))
 
   pub target_fuses : (t : Target) → g (fold-Target A B step step' t) ≡ fold-Target C D done done' t
   target_fuses = ind-Target (λ e. f (first e) ≡ whole e) (λ t. g (first' t) ≡ whole' t)
-    (λ x y is. ap f (fold-roll-Expr A B step step' x) ∙ expr_layer x (expr_alike Expr Target _ _ C D (λ p. p.0) (λ p. p.0) (λ e. f (first e)) whole (λ t. g (first' t)) whole' (λ p. p.1) (λ p. p.1) x y is) ∙ sym (fold-roll-Expr C D done done' x))
-    (λ x y is. ap g (fold-roll-Target A B step step' x) ∙ target_layer x (target_alike Expr Target _ _ C D (λ p. p.0) (λ p. p.0) (λ e. f (first e)) whole (λ t. g (first' t)) whole' (λ p. p.1) (λ p. p.1) x y is) ∙ sym (fold-roll-Target C D done done' x))
+      (λ x y is. ap f (fold-roll-Expr A B step step' x) ∙ expr_layer x (expr_alike Expr Target _ _ C D (λ p. p.0) (λ p. p.0) (λ e. f (first e)) whole (λ t. g (first' t)) whole' (λ p. p.1) (λ p. p.1) x y is) ∙ sym (fold-roll-Expr C D done done' x))
+      (λ x y is. ap g (fold-roll-Target A B step step' x) ∙ target_layer x (target_alike Expr Target _ _ C D (λ p. p.0) (λ p. p.0) (λ e. f (first e)) whole (λ t. g (first' t)) whole' (λ p. p.1) (λ p. p.1) x y is) ∙ sym (fold-roll-Target C D done done' x))

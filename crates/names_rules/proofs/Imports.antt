@@ -1,18 +1,15 @@
 -- What imports bind by the numbers of names.
-use Rattle.std.proofs.Common.{◌≡◌, ℕ, codes, ◌+◌, List, [], ◌∷◌, ◌++◌, Bool, true, false, map, Option, Some, None, sym, ap, ◌∙◌, refl, cond, arith, subst}
+use Rattle.std.proofs.Common.{◌≡◌, ℕ, codes, ◌+◌, List, [], ◌∷◌, ◌++◌, Option, Some, None, sym, ap, ◌∙◌, refl, cond, subst}
 use Rattle.std.specs.Prelude.{nat_eq, ◌&&◌}
 use Rattle.std.specs.List.{AllByRecursion}
 use Rattle.std.specs.Str.{bytes_eq}
-use Rattle.std.proofs.lemmas.Grind.{common_steps}
 use Rattle.rpy_nodes.specs.Names.{number}
 use Rattle.rpy_nodes.specs.Listing as code
 use Rattle.rpy_nodes.specs.declared.listing.Named.{Named}
 use Rattle.names_bound.specs.Imports as old
 use Rattle.names_bound.specs.declared.imports.Source.{Source}
 use Rattle.names_bound.specs.declared.imports.Source.TheVariants as source
-use Rattle.names_bound.specs.declared.stand.Stand.{Stand}
 use Rattle.names_bound.specs.declared.stand.Stand.TheVariants as stand
-use Rattle.names_bound.specs.declared.table.Bound.{Bound as Old}
 use Rattle.names_bound.specs.declared.table.Bound.TheVariants as old_bound
 use Rattle.names_rules.specs.Bound.{bound_in}
 use Rattle.names_rules.specs.Events.{Names, see}
@@ -23,7 +20,7 @@ use Rattle.names_rules.specs.Members.{modules_said}
 use Rattle.names_rules.specs.Words.{words}
 use Rattle.names_rules.proofs.Injective.{compared, bool_same, eq_yes, yes_eq}
 use Rattle.names_rules.proofs.Known.{all_seen, stays_seen}
-use Rattle.names_rules.proofs.Words.{texts, table_begins}
+use Rattle.names_rules.proofs.Words.{texts}
 
 pub turned : (m n : ℕ) → nat_eq m n ≡ nat_eq n m
 turned m n = bool_same (nat_eq m n) (nat_eq n m)

@@ -1,10 +1,9 @@
 -- Names that stand in a table have numbers of their own.
-use Rattle.std.proofs.Common.{◌≡◌, ℕ, ◌+◌, suc, List, [], ◌∷◌, ◌++◌, length, Bool, true, false, map, sym, ap, ◌∙◌, refl, arith, cond}
-use Rattle.std.specs.Prelude.{not, ◌||◌, ◌==◌, nat_eq}
-use Rattle.std.specs.List.{list_any, position_or_len}
+use Rattle.std.proofs.Common.{◌≡◌, ℕ, ◌+◌, List, [], ◌∷◌, Bool, true, false, sym, ap, ◌∙◌, refl, arith, cond}
+use Rattle.std.specs.Prelude.{not, ◌||◌, nat_eq}
+use Rattle.std.specs.List.{list_any}
 use Rattle.std.specs.Str.{bytes_eq}
 use Rattle.std.specs.Cmp.Lexicographic.{same_text}
-use Rattle.std.proofs.lemmas.Slice.Eq.{bytes_eq-Decides}
 use Rattle.std.proofs.lemmas.Grind.{common_steps}
 use Rattle.rpy_nodes.specs.Names.{number}
 use Rattle.names_rules.specs.Events.{Names}

@@ -1,6 +1,5 @@
 -- All names that members say stand in the table of the program.
-use Rattle.std.proofs.Common.{◌≡◌, ℕ, ◌+◌, List, [], ◌∷◌, ◌++◌, Option, Some, None, Bool, true, false, map, sym, ap, ◌∙◌, refl, cond, subst}
-use Rattle.std.specs.Prelude.{◌||◌}
+use Rattle.std.proofs.Common.{◌≡◌, ℕ, ◌+◌, List, [], ◌∷◌, ◌++◌, Option, Some, None, Bool, true, false, map, sym, ap, refl, cond, subst}
 use Rattle.std.specs.List.{AllByRecursion, list_any}
 use Rattle.std.specs.Str.{bytes_eq}
 use Rattle.rpy_tree.specs.declared.syntax.Param.{Param}
@@ -11,13 +10,12 @@ use Rattle.rpy_tree.specs.declared.syntax.ClassDef.{ClassDef}
 use Rattle.rpy_nodes.specs.Listing.{known}
 use Rattle.rpy_nodes.specs.Names.{with_name}
 use Rattle.rpy_nodes.specs.declared.listing.Named.{Named}
-use Rattle.names_rules.specs.Order.{Item, Items, Str, Name, Attr, Bind, BindAttr, Caught, CaughtOf, Catch, block}
+use Rattle.names_rules.specs.Order.{Items, Str, Name, Attr, Bind, BindAttr, Caught, CaughtOf, Catch, block}
 use Rattle.names_rules.specs.Numbering.{said}
 use Rattle.names_rules.specs.Events.{Names, see}
-use Rattle.names_rules.specs.Members.{Formal, What, Import, From, Constant, Def, Class, Placed, placed, what, default_at, default_items, formal_nodes, formals, formals_said, value_said, params_said, what_said, member_nodes, member_said, body_in, inside_of, inside_said, inside_nodes, members_of, module_said, module_nodes, modules_from, modules_said, members}
+use Rattle.names_rules.specs.Members.{Formal, What, Def, Placed, placed, what, default_at, default_items, formal_nodes, formals, formals_said, value_said, params_said, what_said, member_nodes, member_said, body_in, inside_of, inside_said, inside_nodes, members_of, module_said, module_nodes, modules_from, modules_said, members}
 use Rattle.names_rules.specs.Listed.{module_names, names_of}
 use Rattle.names_rules.specs.Locals.{Has, bound, IsKnown, HasLocals, AreLocals}
-use Rattle.names_rules.proofs.Injective.{same_number}
 use Rattle.names_rules.proofs.Listed.{see_rest, see_first}
 use Rattle.names_rules.proofs.Locals.{all_first, all_rest, locals_are}
 use Rattle.names_rules.proofs.Names.{same_name, has_last, has_more}
@@ -72,14 +70,16 @@ rest_known ps xs ys later names h = subst (λ (t : Names). AllByRecursion (IsKno
 
 inside_known : (ms : List Member) (file place n : ℕ) (later names : Names) → AllByRecursion (IsKnown (see later (see (inside_said ms) names))) (inside_of file place n ms)
 inside_known [] file place n later names = tt
-inside_known (m ∷ ms) file place n later names =
-    ((first_known (placed file place true n (out-Member m) ∷ []) (member_said (out-Member m)) (inside_said ms) later names (one_known file place true n (out-Member m) (inside_said ms ++ later) names, tt)).0,
-    rest_known (inside_of file place (n + member_nodes (out-Member m)) ms) (member_said (out-Member m)) (inside_said ms) later names (inside_known ms file place (n + member_nodes (out-Member m)) later (see (member_said (out-Member m)) names)))
+inside_known (m ∷ ms) file place n later names = (
+  (first_known (placed file place true n (out-Member m) ∷ []) (member_said (out-Member m)) (inside_said ms) later names (one_known file place true n (out-Member m) (inside_said ms ++ later) names, tt)).0,
+  rest_known (inside_of file place (n + member_nodes (out-Member m)) ms) (member_said (out-Member m)) (inside_said ms) later names (inside_known ms file place (n + member_nodes (out-Member m)) later (see (member_said (out-Member m)) names)),
+)
 
 whole_known : (m : Member) (file place n : ℕ) (later names : Names) → AllByRecursion (IsKnown (see later (see (member_said (out-Member m) ++ inside_said (body_in (out-Member m))) names))) (placed file place false n (out-Member m) ∷ inside_of file place (n + member_nodes (out-Member m)) (body_in (out-Member m)))
-whole_known m file place n later names =
-    ((first_known (placed file place false n (out-Member m) ∷ []) (member_said (out-Member m)) (inside_said (body_in (out-Member m))) later names (one_known file place false n (out-Member m) (inside_said (body_in (out-Member m)) ++ later) names, tt)).0,
-    rest_known (inside_of file place (n + member_nodes (out-Member m)) (body_in (out-Member m))) (member_said (out-Member m)) (inside_said (body_in (out-Member m))) later names (inside_known (body_in (out-Member m)) file place (n + member_nodes (out-Member m)) later (see (member_said (out-Member m)) names)))
+whole_known m file place n later names = (
+  (first_known (placed file place false n (out-Member m) ∷ []) (member_said (out-Member m)) (inside_said (body_in (out-Member m))) later names (one_known file place false n (out-Member m) (inside_said (body_in (out-Member m)) ++ later) names, tt)).0,
+  rest_known (inside_of file place (n + member_nodes (out-Member m)) (body_in (out-Member m))) (member_said (out-Member m)) (inside_said (body_in (out-Member m))) later names (inside_known (body_in (out-Member m)) file place (n + member_nodes (out-Member m)) later (see (member_said (out-Member m)) names)),
+)
 
 module_known : (ms : List Member) (file place n : ℕ) (later names : Names) → AllByRecursion (IsKnown (see later (see (module_said ms) names))) (members_of file place n ms)
 module_known [] file place n later names = tt
@@ -88,15 +88,15 @@ module_known (m ∷ ms) file place n later names =
     let count : ℕ = member_nodes (out-Member m) + inside_nodes (body_in (out-Member m)) in
     let one : List Placed = placed file place false n (out-Member m) ∷ inside_of file place (n + member_nodes (out-Member m)) (body_in (out-Member m)) in
     all_both (IsKnown (see later (see (say ++ module_said ms) names))) one (members_of file (place + 1) (n + count) ms)
-      (first_known one say (module_said ms) later names (whole_known m file place n (module_said ms ++ later) names))
-      (rest_known (members_of file (place + 1) (n + count) ms) say (module_said ms) later names (module_known ms file (place + 1) (n + count) later (see say names)))
+    (first_known one say (module_said ms) later names (whole_known m file place n (module_said ms ++ later) names))
+    (rest_known (members_of file (place + 1) (n + count) ms) say (module_said ms) later names (module_known ms file (place + 1) (n + count) later (see say names)))
 
 modules_known : (ms : List Named) (file n : ℕ) (later names : Names) → AllByRecursion (IsKnown (see later (see (modules_said ms) names))) (modules_from file n ms)
 modules_known [] file n later names = tt
 modules_known (m ∷ ms) file n later names =
     all_both (IsKnown (see later (see (module_said m.module.members ++ modules_said ms) names))) (members_of file 0 n m.module.members) (modules_from (file + 1) (n + module_nodes m.module.members) ms)
-      (first_known (members_of file 0 n m.module.members) (module_said m.module.members) (modules_said ms) later names (module_known m.module.members file 0 n (modules_said ms ++ later) names))
-      (rest_known (modules_from (file + 1) (n + module_nodes m.module.members) ms) (module_said m.module.members) (modules_said ms) later names (modules_known ms (file + 1) (n + module_nodes m.module.members) later (see (module_said m.module.members) names)))
+    (first_known (members_of file 0 n m.module.members) (module_said m.module.members) (modules_said ms) later names (module_known m.module.members file 0 n (modules_said ms ++ later) names))
+    (rest_known (modules_from (file + 1) (n + module_nodes m.module.members) ms) (module_said m.module.members) (modules_said ms) later names (modules_known ms (file + 1) (n + module_nodes m.module.members) later (see (module_said m.module.members) names)))
 
 pub members_known : (ms : List Named) → AllByRecursion (IsKnown (names_of ms)) (members ms)
 members_known ms = modules_known ms 0 0 [] (see (module_names ms) known)
@@ -122,8 +122,8 @@ params_bound names (p ∷ ps) h = (h.0, params_bound names ps (all_rest (Has nam
 what_locals : (names : Names) (w : What) → AllByRecursion (Has names) (what_said w) → AreLocals names w
 what_locals names (Def name params star body) h =
     locals_are names params body (all_both (Has names) (map (λ p. p.name) params) (bound (block body.of))
-      (params_bound names params (all_first (Has names) (params_said params) (said (block body.of)) h.1))
-      (items_bound names (block body.of) (all_rest (Has names) (params_said params) (said (block body.of)) h.1)))
+    (params_bound names params (all_first (Has names) (params_said params) (said (block body.of)) h.1))
+    (items_bound names (block body.of) (all_rest (Has names) (params_said params) (said (block body.of)) h.1)))
 what_locals names other h = tt
 
 all_locals : (names : Names) (ps : List Placed) → AllByRecursion (IsKnown names) ps → AllByRecursion (HasLocals names) ps

@@ -1,5 +1,5 @@
 -- Layers of trees, part by part.
-use Rattle.std.proofs.Common.{◌≡◌, ℕ, List, [], ◌∷◌, Option, Some, None, map, sym, ap, ◌∙◌, refl}
+use Rattle.std.proofs.Common.{◌≡◌, List, [], ◌∷◌, Some, None, map, sym, ap, ◌∙◌, refl}
 use Rattle.rpy_tree.specs.declared.syntax.Expr.{map-Expr}
 use Rattle.rpy_tree.specs.declared.syntax.Expr.TheFolds.{map-Target}
 use Rattle.rpy_tree.specs.declared.syntax.Expr.{Expr}

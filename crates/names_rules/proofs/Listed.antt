@@ -1,11 +1,10 @@
 -- The code lists the members of a program.
-use Rattle.std.proofs.Common.{◌≡◌, ℕ, ◌+◌, List, [], ◌∷◌, ◌++◌, map, Option, Some, None, append_assoc, append-nil, sym, ap, ◌∙◌, refl, arith}
-use Rattle.std.specs.Prelude.{Bool}
+use Rattle.std.proofs.Common.{◌≡◌, ℕ, ◌+◌, List, [], ◌∷◌, ◌++◌, map, Option, Some, None, append_assoc, append-nil, sym, ap, ◌∙◌, arith}
 use Rattle.rpy_tree.specs.declared.syntax.Expr.{Expr}
 use Rattle.rpy_tree.specs.declared.syntax.Stmt.{Stmt}
 use Rattle.rpy_tree.specs.declared.syntax.Param.{Param}
 use Rattle.rpy_tree.specs.declared.syntax.Function.{Function}
-use Rattle.rpy_tree.specs.declared.syntax.Member.{Member, out-Member}
+use Rattle.rpy_tree.specs.declared.syntax.Member.{Member}
 use Rattle.rpy_tree.specs.declared.syntax.Member.TheOpen.{Member-F}
 use Rattle.rpy_tree.specs.declared.syntax.ClassDef.{ClassDef, out-ClassDef}
 use Rattle.rpy_nodes.specs.Names.{number, with_name}
@@ -14,12 +13,11 @@ use Rattle.rpy_nodes.specs.Walk as walk
 use Rattle.rpy_nodes.specs.Listing as code
 use Rattle.rpy_nodes.specs.declared.event.Event.{Event}
 use Rattle.rpy_nodes.specs.declared.unit.Parameter.{Parameter}
-use Rattle.rpy_nodes.specs.declared.unit.What.{What as Said}
 use Rattle.rpy_nodes.specs.declared.walk.Walk.{Walk}
 use Rattle.names_rules.specs.Order as order
 use Rattle.names_rules.specs.Numbering.{nodes, said}
 use Rattle.names_rules.specs.Events.{Names, events, see}
-use Rattle.names_rules.specs.Members.{Formal, formal, formal_nodes, formal_said, formals, formals_nodes, formals_said, default_items, default_at, what, node, member_nodes, member_said}
+use Rattle.names_rules.specs.Members.{formal, formal_nodes, formal_said, formals, formals_nodes, formals_said, default_items, default_at, what, node, member_nodes, member_said}
 use Rattle.names_rules.specs.Listed.{standing, parameter, numbers, default_events, says}
 use Rattle.names_rules.proofs.Names.{number_stays, see_append}
 use Rattle.names_rules.proofs.Numbered.{over_items}
@@ -118,8 +116,10 @@ function_is f later names n =
     let at : ℕ = (n + 1) + formals_nodes f.params in
     ap (λ r. code.def_with n (number names f.name) r f) (parameters_onto f.params [] (bs ++ later) first (n + 1))
     ∙ ap (code.def_body n (number names f.name) (map (parameter (see (bs ++ later) (see fs first))) (formals (n + 1) f.params)) f.star) (walked_block f.body later (see fs first) at)
-    ∙ (λ j. ((n, say.Def (seen_number names f.name (fs ++ bs) later j) (map (parameter (see_first fs bs later first j)) (formals (n + 1) f.params)) f.star (events (see_rest fs bs later first j) at (order.block f.body))),
-        standing (sym (see_append fs bs first) j) (function_sum n (formals_nodes f.params) (nodes (order.block f.body)) j)))
+    ∙ (λ j. (
+      (n, say.Def (seen_number names f.name (fs ++ bs) later j) (map (parameter (see_first fs bs later first j)) (formals (n + 1) f.params)) f.star (events (see_rest fs bs later first j) at (order.block f.body))),
+      standing (sym (see_append fs bs first) j) (function_sum n (formals_nodes f.params) (nodes (order.block f.body)) j),
+    ))
 
 class_is : (c : ClassDef) (later names : Names) (n : ℕ) → Says (Member-F.Class c) later names n
 class_is c later names n =

@@ -1,12 +1,11 @@
 -- The locals of the code are those of the rules.
-use Rattle.std.proofs.Common.{◌≡◌, ℕ, ◌+◌, List, [], ◌∷◌, ◌++◌, Bool, true, false, map, sym, ap, ◌∙◌, refl, cond}
+use Rattle.std.proofs.Common.{◌≡◌, ℕ, List, [], ◌∷◌, ◌++◌, Bool, true, false, map, sym, ap, ◌∙◌, refl, cond}
 use Rattle.std.specs.Prelude.{◌||◌, nat_eq}
 use Rattle.std.specs.List.{AllByRecursion, list_any}
 use Rattle.std.specs.Str.{bytes_eq}
-use Rattle.rpy_tree.specs.declared.syntax.Stmt.{Stmt}
 use Rattle.rpy_nodes.specs.Names.{number, with_name}
 use Rattle.names_found.specs.Locals.{add, add_parameters, add_events}
-use Rattle.names_rules.specs.Order.{Item, Items, Bind, Catch, block}
+use Rattle.names_rules.specs.Order.{Items, Bind, Catch, block}
 use Rattle.names_rules.specs.Numbering.{next}
 use Rattle.names_rules.specs.Events.{Names, see, events}
 use Rattle.names_rules.specs.Locals.{Has, bound, names_bound, locals}

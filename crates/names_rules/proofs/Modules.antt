@@ -7,7 +7,6 @@ use Rattle.rpy_tree.specs.declared.syntax.ClassDef.{ClassDef}
 use Rattle.rpy_nodes.specs.Listing as code
 use Rattle.rpy_nodes.specs.declared.listing.Named.{Named}
 use Rattle.rpy_nodes.specs.declared.unit.Unit.{Unit as Listed}
-use Rattle.rpy_nodes.specs.declared.walk.Walk.{Walk}
 use Rattle.names_rules.specs.Events.{Names, see}
 use Rattle.names_rules.specs.Members.{Placed, placed, member_nodes, member_said, body_in, inside_of, inside_nodes, inside_said, members_of, module_nodes, module_said, modules_from, modules_nodes, modules_said, members}
 use Rattle.names_rules.specs.Listed.{standing, listed, module_names, names_of, whole, numbers}

@@ -1,14 +1,12 @@
 -- The sites of a program follow the rules.
-use Rattle.std.proofs.Common.{◌≡◌, ℕ, List, [], ◌∷◌, ◌++◌, Option, Some, None, append_assoc, append-nil, map, sym, ap, ◌∙◌, refl}
-use Rattle.std.specs.Prelude.{Bool, true, false}
+use Rattle.std.proofs.Common.{◌≡◌, ℕ, List, [], ◌∷◌, ◌++◌, Option, Some, None, append_assoc, append-nil, map, sym, ap, ◌∙◌}
+use Rattle.std.specs.Prelude.{false}
 use Rattle.rpy_nodes.specs.Listing as code
 use Rattle.rpy_nodes.specs.declared.listing.Named.{Named}
 use Rattle.names_bound.specs.declared.scopes.Scopes.{Scopes}
-use Rattle.names_found.specs.Locals.{add}
 use Rattle.names_found.specs.Finder.{add_fault}
-use Rattle.names_found.specs.Units.{parameter_fault, default_steps, find_parameter, parameters_onto, find_parameters, find_what, place_of, units_onto, find_units}
+use Rattle.names_found.specs.Units.{parameter_fault, default_steps, parameters_onto, find_parameters, find_what, units_onto, find_units}
 use Rattle.names_found.specs.declared.finder.Finder.{Finder}
-use Rattle.names_found.specs.declared.finder.Place.{Place}
 use Rattle.names_found.specs.declared.unit.Default.{Default}
 use Rattle.names_found.specs.declared.unit.Found.{Found}
 use Rattle.names_rules.specs.Events.{Names}

@@ -1,7 +1,6 @@
 -- Items that change a state one by one, as a fold over the tree.
-use Rattle.std.proofs.Common.{◌≡◌, ℕ, ◌+◌, List, [], ◌∷◌, ◌++◌, Option, Some, None, append_assoc, append-nil, length, map, sym, ap, ◌∙◌, refl}
+use Rattle.std.proofs.Common.{◌≡◌, ◌+◌, List, [], ◌∷◌, ◌++◌, Some, None, append_assoc, append-nil, length, map, sym, ap, ◌∙◌, refl}
 use Rattle.std.proofs.lemmas.List.{length-map}
-use Rattle.rpy_tree.specs.declared.syntax.BinOp.{BinOp}
 use Rattle.rpy_tree.specs.declared.syntax.Expr.{Expr, map-Expr, fold-Expr}
 use Rattle.rpy_tree.specs.declared.syntax.Expr.TheFolds.{map-Target, fold-Target}
 use Rattle.rpy_tree.specs.declared.syntax.Expr.TheOpen.{Expr-F, Target-F}
@@ -52,7 +51,7 @@ in_expr_parts (Expr-F.Not n a) = simp append-nil
 in_expr_parts (Expr-F.Call n f args) = sym (append_assoc f (order.all args) (order.Call (length args) ∷ []))
 in_expr_parts (Expr-F.Expr::Attr n a name) = simp append-nil
 in_expr_parts (Expr-F.Index n a i) = simp (append-nil, append_assoc)
-in_expr_parts (Expr-F.Slice n a None None) = simp (append-nil, append_assoc)
+in_expr_parts (Expr-F.Slice n a None None) = simp append-nil
 in_expr_parts (Expr-F.Slice n a None (Some to)) = simp (append-nil, append_assoc)
 in_expr_parts (Expr-F.Slice n a (Some from) None) = simp (append-nil, append_assoc)
 in_expr_parts (Expr-F.Slice n a (Some from) (Some to)) = simp (append-nil, append_assoc)

@@ -1,5 +1,5 @@
 -- Names of modules are found by their numbers as by their texts.
-use Rattle.std.proofs.Common.{◌≡◌, ℕ, ◌+◌, zero, suc, List, [], ◌∷◌, ◌++◌, Bool, true, false, map, length, Option, Some, None, sym, ap, ◌∙◌, refl, cond, subst}
+use Rattle.std.proofs.Common.{◌≡◌, ℕ, ◌+◌, zero, suc, List, [], ◌∷◌, Bool, true, false, map, length, Option, Some, None, ap, ◌∙◌, refl, cond}
 use Rattle.std.specs.Prelude.{nat_eq, ◌&&◌}
 use Rattle.std.specs.List.{AllByRecursion}
 use Rattle.std.specs.Str.{bytes_eq}
@@ -10,7 +10,7 @@ use Rattle.rpy_nodes.specs.declared.listing.Named.{Named}
 use Rattle.names_bound.specs.Declare as old
 use Rattle.names_bound.specs.Known as bound
 use Rattle.names_bound.specs.Scopes as code
-use Rattle.names_bound.specs.Table.{Entries, look}
+use Rattle.names_bound.specs.Table.{look}
 use Rattle.names_bound.specs.declared.imports.Source.{Source}
 use Rattle.names_bound.specs.declared.imports.Source.TheVariants as source
 use Rattle.names_bound.specs.declared.scopes.Scopes.{Scopes}
@@ -18,7 +18,7 @@ use Rattle.names_bound.specs.declared.stand.Stand.{Stand}
 use Rattle.names_bound.specs.declared.stand.Stand.TheVariants as stand
 use Rattle.names_rules.specs.Bindings as rule
 use Rattle.names_rules.specs.Bindings.{Binding, Counts, none_before, count, binding, unless_inside, binds, bindings_from, bindings}
-use Rattle.names_rules.specs.Bound.{bound_in, entry, entries}
+use Rattle.names_rules.specs.Bound.{bound_in, entries}
 use Rattle.names_rules.specs.Events.{Names}
 use Rattle.names_rules.specs.Imports.{Bound, Is, From, import_stand, source_of, taken}
 use Rattle.names_rules.specs.Listed.{module_names, names_of}
@@ -125,10 +125,11 @@ module _ (names : Names) where
     alike : (s : Scopes) → s.bindings ≡ entries names bs → (file : ℕ) (name : List ℕ) → Has names name → bound.known (number names name) ≡ known name → FindsAlike names bs s file name
     alike s e file name has k =
         let f : code.follow s file (number names name) ≡ scope.follow bs file name = ap (λ es. code.follow_from es (length es) false file (number names name)) e ∙ whole_follow file name has in
-        let l : look s.bindings file (number names name) ≡ entry_of names (rule.look bs file name) = ap (λ es. look es file (number names name)) e ∙ look_entries names bs file name has in
-        (f,
-         (λ j. code.global_by (l j) (f j) (number names name)) ∙ global_by (rule.look bs file name) (scope.follow bs file name) name k,
-         λ place. ap (code.late_by place) l ∙ late_by (rule.look bs file name) place)
+        let l : look s.bindings file (number names name) ≡ entry_of names (rule.look bs file name) = ap (λ es. look es file (number names name)) e ∙ look_entries names bs file name has in (
+          f,
+          (λ j. code.global_by (l j) (f j) (number names name)) ∙ global_by (rule.look bs file name) (scope.follow bs file name) name k,
+          λ place. ap (code.late_by place) l ∙ late_by (rule.look bs file name) place,
+        )
 
 pub scopes_alike : (ms : List Named) (s : Scopes) → s.bindings ≡ (old.declared (listing.listing ms).modules (listing.listing ms).units).bindings → (file : ℕ) (name : List ℕ) → Has (names_of ms) name → FindsAlike (names_of ms) (bindings (module_names ms) (members ms)) s file name
 scopes_alike ms s e file name has = alike (names_of ms) (bindings (module_names ms) (members ms)) (adds_taken (names_of ms) (bindings_from (module_names ms) none_before (members ms)) [] tt (all_taken (names_of ms) (members ms) (module_names ms) none_before (members_known ms))) s (e ∙ bindings_are ms) file name has (known_is ms name)

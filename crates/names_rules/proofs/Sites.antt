@@ -6,28 +6,26 @@ use Rattle.rpy_tree.specs.declared.program.Builtin.{Builtin}
 use Rattle.rpy_tree.specs.declared.program.Builtin.TheVariants as builtin
 use Rattle.rpy_tree.specs.declared.syntax.BinOp.{BinOp}
 use Rattle.rpy_tree.specs.declared.syntax.BinOp.TheVariants as binary
-use Rattle.rpy_tree.specs.declared.syntax.Expr.{Expr, map-Expr, fold-Expr}
-use Rattle.rpy_tree.specs.declared.syntax.Expr.TheFolds.{map-Target, fold-Target}
+use Rattle.rpy_tree.specs.declared.syntax.Expr.{Expr, map-Expr}
+use Rattle.rpy_tree.specs.declared.syntax.Expr.TheFolds.{map-Target}
 use Rattle.rpy_tree.specs.declared.syntax.Expr.TheOpen.{Expr-F, Target-F}
 use Rattle.rpy_tree.specs.declared.syntax.Target.{Target}
 use Rattle.rpy_nodes.specs.Names.{number}
-use Rattle.rpy_nodes.specs.declared.event.Act.{Act}
 use Rattle.rpy_nodes.specs.declared.event.Act.TheVariants as act
 use Rattle.names_bound.specs.declared.scopes.Scopes.{Scopes}
 use Rattle.names_bound.specs.declared.stand.Stand.{Stand}
 use Rattle.names_bound.specs.declared.stand.Stand.TheVariants as stand
-use Rattle.names_found.specs.Finder.{add_part, add_sites, site_count, push_part, call_seen, called_by, builtin_called, method_called, name_seen, local_or, local_in, bind_seen}
+use Rattle.names_found.specs.Finder.{add_part, add_sites, site_count, call_seen, called_by, builtin_called, local_or, bind_seen}
 use Rattle.names_found.specs.Part.{without, without_last, part_under, no_part, is_dict}
 use Rattle.names_found.specs.declared.finder.Place.{Place}
 use Rattle.names_found.specs.declared.part.Part.{Part}
-use Rattle.names_found.specs.declared.step.Called.{Called}
 use Rattle.names_found.specs.declared.step.Called.TheVariants as called
 use Rattle.names_found.specs.declared.step.SiteAt.{SiteAt}
 use Rattle.names_rules.specs.Order as order
 use Rattle.names_rules.specs.Order.{Item, Items}
 use Rattle.names_rules.specs.Numbering.{next}
 use Rattle.names_rules.specs.Events.{Names, act_of}
-use Rattle.names_rules.specs.Parts.{listed, both, expr_parts, target_parts}
+use Rattle.names_rules.specs.Parts.{both, expr_parts, target_parts}
 use Rattle.names_rules.specs.Seen.{Sight, see_item, seen_by, name_part, bound_part, attr_part}
 use Rattle.names_rules.specs.Sites as rule
 use Rattle.names_rules.specs.Sites.{Found}
@@ -173,8 +171,8 @@ module _ (names : Names) (scopes : Scopes) (locals : List ℕ) (at : Place) wher
       let callee : part_under (s.parts ++ (f.part ∷ qs)) count ≡ f.part = ap (part_under (s.parts ++ (f.part ∷ qs))) same ∙ under s.parts qs f.part in
       let called_at : Part = part_under (s.parts ++ (f.part ∷ qs)) count in
       close (order.Call count) (f ∷ args) (rule.call f.part) no_part s refl
-        (ap (λ q. without 1 (without count (s.parts ++ (f.part ∷ qs))) ++ q ∷ []) (call_part called_at.stand called_at.makes count) ∙ pushed_call s.parts qs f.part no_part count same)
-        (ap (λ c. add_sites (site_count (act.Call count) (call_seen c count).called) (rule.list_at (s.next + (rule.all (f ∷ args)).nodes)) (s.sites ++ (rule.all (f ∷ args)).sites s.next)) callee ∙ call_sites f.part.stand f.part.makes count _ _)
+      (ap (λ q. without 1 (without count (s.parts ++ (f.part ∷ qs))) ++ q ∷ []) (call_part called_at.stand called_at.makes count) ∙ pushed_call s.parts qs f.part no_part count same)
+      (ap (λ c. add_sites (site_count (act.Call count) (call_seen c count).called) (rule.list_at (s.next + (rule.all (f ∷ args)).nodes)) (s.sites ++ (rule.all (f ∷ args)).sites s.next)) callee ∙ call_sites f.part.stand f.part.makes count _ _)
   expr_closes (Expr-F.Expr::Attr n a name) s = close (order.Attr name) (a ∷ []) rule.no_site (dotted a.part name) s refl (ap (λ b. without 1 (s.parts ++ a.part ∷ []) ++ dotted b name ∷ []) (under s.parts [] a.part) ∙ pushed_some s.parts (a.part ∷ []) (dotted a.part name) 1 refl) (sym (append-nil _))
   expr_closes (Expr-F.Index n a i) s = close (order.Other 2) (a ∷ i ∷ []) rule.no_site no_part s refl (pushed_some s.parts (a.part ∷ i.part ∷ []) no_part 2 refl) (sym (append-nil _))
   expr_closes (Expr-F.Slice n a None None) s = close (order.Slice 1) (a ∷ []) rule.a_list no_part s refl (pushed_some s.parts (a.part ∷ []) no_part 1 refl) refl

@@ -1,5 +1,5 @@
 -- Parts that wait are taken by the node after them.
-use Rattle.std.proofs.Common.{◌≡◌, ℕ, ◌+◌, ◌-◌, zero, suc, List, [], ◌∷◌, ◌++◌, Option, Some, None, append_assoc, append-nil, length, length-append, sym, ap, ◌∙◌, refl, arith}
+use Rattle.std.proofs.Common.{◌≡◌, ℕ, ◌-◌, zero, suc, List, [], ◌∷◌, ◌++◌, Some, append_assoc, append-nil, length, length-append, sym, ap, ◌∙◌, refl, arith}
 use Rattle.std.specs.Prelude.{slice_get}
 use Rattle.names_found.specs.Part.{without, without_last, part_under, or_no_part}
 use Rattle.names_found.specs.declared.part.Part.{Part}

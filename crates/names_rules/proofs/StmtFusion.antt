@@ -30,10 +30,10 @@ module _ (A B C D : Type 0) (f : A → C) (g : B → D)
 
   pub stmt_fuses : (e : Stmt) → f (fold-Stmt A B step step' e) ≡ fold-Stmt C D done done' e
   stmt_fuses = ind-Stmt (λ e. f (first e) ≡ whole e) (λ t. g (first' t) ≡ whole' t)
-    (λ x y is. ap f (fold-roll-Stmt A B step step' x) ∙ stmt_layer x (stmt_alike Stmt Clause _ _ C D (λ p. p.0) (λ p. p.0) (λ e. f (first e)) whole (λ t. g (first' t)) whole' (λ p. p.1) (λ p. p.1) x y is) ∙ sym (fold-roll-Stmt C D done done' x))
-    (λ x y is. ap g (fold-roll-Clause A B step step' x) ∙ clause_layer x (clause_alike Stmt Clause _ _ C D (λ p. p.0) (λ p. p.0) (λ e. f (first e)) whole (λ t. g (first' t)) whole' (λ p. p.1) (λ p. p.1) x y is) ∙ sym (fold-roll-Clause C D done done' x))
+      (λ x y is. ap f (fold-roll-Stmt A B step step' x) ∙ stmt_layer x (stmt_alike Stmt Clause _ _ C D (λ p. p.0) (λ p. p.0) (λ e. f (first e)) whole (λ t. g (first' t)) whole' (λ p. p.1) (λ p. p.1) x y is) ∙ sym (fold-roll-Stmt C D done done' x))
+      (λ x y is. ap g (fold-roll-Clause A B step step' x) ∙ clause_layer x (clause_alike Stmt Clause _ _ C D (λ p. p.0) (λ p. p.0) (λ e. f (first e)) whole (λ t. g (first' t)) whole' (λ p. p.1) (λ p. p.1) x y is) ∙ sym (fold-roll-Clause C D done done' x))
 
   pub clause_fuses : (t : Clause) → g (fold-Clause A B step step' t) ≡ fold-Clause C D done done' t
   clause_fuses = ind-Clause (λ e. f (first e) ≡ whole e) (λ t. g (first' t) ≡ whole' t)
-    (λ x y is. ap f (fold-roll-Stmt A B step step' x) ∙ stmt_layer x (stmt_alike Stmt Clause _ _ C D (λ p. p.0) (λ p. p.0) (λ e. f (first e)) whole (λ t. g (first' t)) whole' (λ p. p.1) (λ p. p.1) x y is) ∙ sym (fold-roll-Stmt C D done done' x))
-    (λ x y is. ap g (fold-roll-Clause A B step step' x) ∙ clause_layer x (clause_alike Stmt Clause _ _ C D (λ p. p.0) (λ p. p.0) (λ e. f (first e)) whole (λ t. g (first' t)) whole' (λ p. p.1) (λ p. p.1) x y is) ∙ sym (fold-roll-Clause C D done done' x))
+      (λ x y is. ap f (fold-roll-Stmt A B step step' x) ∙ stmt_layer x (stmt_alike Stmt Clause _ _ C D (λ p. p.0) (λ p. p.0) (λ e. f (first e)) whole (λ t. g (first' t)) whole' (λ p. p.1) (λ p. p.1) x y is) ∙ sym (fold-roll-Stmt C D done done' x))
+      (λ x y is. ap g (fold-roll-Clause A B step step' x) ∙ clause_layer x (clause_alike Stmt Clause _ _ C D (λ p. p.0) (λ p. p.0) (λ e. f (first e)) whole (λ t. g (first' t)) whole' (λ p. p.1) (λ p. p.1) x y is) ∙ sym (fold-roll-Clause C D done done' x))

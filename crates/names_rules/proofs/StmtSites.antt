@@ -1,12 +1,12 @@
 -- The sites that the code sees in statements are those of the rules.
-use Rattle.std.proofs.Common.{◌≡◌, ℕ, ◌+◌, List, [], ◌∷◌, ◌++◌, Option, Some, None, append_assoc, append-nil, length, length-append, map, sym, ap, ◌∙◌, refl, arith, false}
+use Rattle.std.proofs.Common.{◌≡◌, ℕ, ◌+◌, List, [], ◌∷◌, ◌++◌, Option, Some, None, append_assoc, append-nil, length, map, sym, ap, ◌∙◌, refl, arith, false}
 use Rattle.std.proofs.lemmas.List.{length-map}
 use Rattle.rpy_tree.specs.declared.syntax.BinOp.{BinOp}
 use Rattle.rpy_tree.specs.declared.syntax.BinOp.TheVariants as binary
 use Rattle.rpy_tree.specs.declared.syntax.Expr.{Expr}
 use Rattle.rpy_tree.specs.declared.syntax.Target.{Target}
-use Rattle.rpy_tree.specs.declared.syntax.Stmt.{Stmt, map-Stmt, fold-Stmt}
-use Rattle.rpy_tree.specs.declared.syntax.Stmt.TheFolds.{map-Clause, fold-Clause}
+use Rattle.rpy_tree.specs.declared.syntax.Stmt.{Stmt, map-Stmt}
+use Rattle.rpy_tree.specs.declared.syntax.Stmt.TheFolds.{map-Clause}
 use Rattle.rpy_tree.specs.declared.syntax.Stmt.TheOpen.{Stmt-F, Clause-F}
 use Rattle.rpy_nodes.specs.Names.{number}
 use Rattle.rpy_nodes.specs.declared.event.Act.TheVariants as act
@@ -26,7 +26,7 @@ use Rattle.names_rules.specs.Sites.{Found}
 use Rattle.names_rules.proofs.Runs.{run, run_all, run_append, run_parts}
 use Rattle.names_rules.proofs.Stack.{drops}
 use Rattle.names_rules.proofs.Sites.{push, pushed, parts_of, run_pushed, no_more, sum_three, expr_seen, target_seen}
-use Rattle.names_rules.proofs.StmtFusion.{stmt_fuses, clause_fuses}
+use Rattle.names_rules.proofs.StmtFusion.{stmt_fuses}
 
 -- a statement leaves no part
 abbrev pub settle : Found → Sight → Sight
@@ -238,7 +238,7 @@ module _ (names : Names) (scopes : Scopes) (locals : List ℕ) (at : Place) wher
   assign_ran ts e s = run_append Sight one (order.all (map order.target ts)) (order.expr e ++ order.Done (length ts + 1) ∷ []) s
       ∙ run_append Sight one (order.expr e) (order.Done (length ts + 1) ∷ []) (moves (order.all (map order.target ts)) s)
       ∙ ap (one (order.Done (length ts + 1))) (ap (moves (order.expr e)) (targets_moved ts s) ∙ expr_seen names scopes locals at e (all_moves (map push (map in_target ts)) s)
-          ∙ sym (moves_append (map push (map in_target ts)) (push (in_expr e) ∷ []) s) ∙ ap (λ ms. all_moves ms s) (sym (map_end (map in_target ts) (in_expr e))) ∙ run_pushed one (map in_target ts ++ in_expr e ∷ []) s)
+      ∙ sym (moves_append (map push (map in_target ts)) (push (in_expr e) ∷ []) s) ∙ ap (λ ms. all_moves ms s) (sym (map_end (map in_target ts) (in_expr e))) ∙ run_pushed one (map in_target ts ++ in_expr e ∷ []) s)
       ∙ done (length ts + 1) (map in_target ts ++ in_expr e ∷ []) s (one_longer ts (in_expr e))
 
   aug_ran : (op : BinOp) (t : Target) (e : Expr) (s : Sight) → moves (order.target t ++ (order.expr e ++ order.augmented op ∷ [])) s ≡ settle (rule.node (in_target t ∷ in_expr e ∷ []) (rule.augmented op) no_part) s

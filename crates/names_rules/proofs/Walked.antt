@@ -1,5 +1,5 @@
 -- The walk over a tree takes its items one by one.
-use Rattle.std.proofs.Common.{◌≡◌, ℕ, ◌+◌, List, [], ◌∷◌, ◌++◌, Option, Some, None, length, map, sym, ap, ◌∙◌, refl}
+use Rattle.std.proofs.Common.{◌≡◌, ℕ, List, [], ◌∷◌, ◌++◌, Option, Some, None, map, ap, ◌∙◌, refl}
 use Rattle.std.proofs.lemmas.List.{length-map}
 use Rattle.rpy_tree.specs.declared.syntax.Expr.{Expr, map-Expr}
 use Rattle.rpy_tree.specs.declared.syntax.Expr.TheFolds.{map-Target}

@@ -1,5 +1,5 @@
 -- The words that the language knows stand for what the table says.
-use Rattle.std.proofs.Common.{◌≡◌, ℕ, codes, ◌+◌, ◌-◌, ◌≤◌, ◌<◌, zero, suc, List, [], ◌∷◌, ◌++◌, Bool, true, false, map, append_assoc, sym, ap, ◌∙◌, refl, arith, cond}
+use Rattle.std.proofs.Common.{◌≡◌, ℕ, codes, ◌+◌, ◌-◌, ◌≤◌, ◌<◌, zero, suc, List, [], ◌∷◌, ◌++◌, Bool, true, false, map, append_assoc, ap, ◌∙◌, refl, arith, cond}
 use Rattle.std.specs.Prelude.{not, nat_eq, nat_lt}
 use Rattle.std.specs.Str.{bytes_eq}
 use Rattle.std.proofs.lemmas.Grind.{common_steps}

@@ -1,10 +1,9 @@
 -- What the members of modules bind, each numbered among those of its kind. The first binding of a name in a module stands.
-use Rattle.std.specs.Prelude.{ℕ, ◌+◌, Bool, if◌then◌else◌, ◌==◌, ◌&&◌, List, [], ◌∷◌, ◌++◌, map, Option, Some, None}
+use Rattle.std.specs.Prelude.{ℕ, ◌+◌, if◌then◌else◌, ◌==◌, ◌&&◌, List, [], ◌∷◌, ◌++◌, map, Option, Some, None}
 use Rattle.std.specs.Str.{bytes_eq}
 use Rattle.names_bound.specs.Declare.{class_here}
-use Rattle.names_bound.specs.declared.stand.Stand.{Stand}
 use Rattle.names_bound.specs.declared.stand.Stand.TheVariants as stand
-use Rattle.names_rules.specs.Imports.{Bound, Is, From, import_stand, source_of, taken}
+use Rattle.names_rules.specs.Imports.{Bound, Is, import_stand, source_of, taken}
 use Rattle.names_rules.specs.Members as member
 use Rattle.names_rules.specs.Members.{What, Placed}
 

@@ -1,5 +1,5 @@
 -- Bindings as the tables of the code have them.
-use Rattle.std.specs.Prelude.{ℕ, List, map}
+use Rattle.std.specs.Prelude.{List, map}
 use Rattle.rpy_nodes.specs.Names.{number}
 use Rattle.names_bound.specs.Table.{Entries}
 use Rattle.names_bound.specs.declared.table.Binding.{Binding as Old}

@@ -1,5 +1,5 @@
 -- What imports bind.
-use Rattle.std.specs.Prelude.{ℕ, ◌+◌, Bool, if◌then◌else◌, ◌&&◌, List, [], ◌∷◌, codes, Option, Some, None}
+use Rattle.std.specs.Prelude.{ℕ, ◌+◌, if◌then◌else◌, ◌&&◌, List, [], ◌∷◌, codes, Option, Some, None}
 use Rattle.std.specs.Str.{bytes_eq}
 use Rattle.rpy_tree.specs.declared.program.Builtin.TheVariants as builtin
 use Rattle.names_bound.specs.declared.imports.Source.{Source}

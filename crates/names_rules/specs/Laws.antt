@@ -1,6 +1,6 @@
 -- What the laws of this crate say.
-use Rattle.std.specs.Prelude.{◌≡◌, ◌+◌, ◌<◌, ℕ, List, [], ◌∷◌, ◌++◌, length, map}
-use Rattle.rpy_tree.specs.Places.{node_count, node_file, node_line, line_in}
+use Rattle.std.specs.Prelude.{◌≡◌, ◌+◌, ℕ, List, ◌∷◌, ◌++◌, length, map}
+use Rattle.rpy_tree.specs.Places.{node_file, node_line, line_in}
 use Rattle.rpy_tree.specs.declared.syntax.Module.{Module}
 use Rattle.rpy_nodes.specs.declared.listing.Named.{Named}
 use Rattle.names_rules.specs.Members.{module_nodes, modules_nodes}

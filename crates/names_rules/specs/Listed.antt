@@ -1,5 +1,5 @@
 -- The members as the code lists them, where names have their numbers in a table.
-use Rattle.std.specs.Prelude.{ℕ, List, [], ◌∷◌, map, Option, Some, None}
+use Rattle.std.specs.Prelude.{ℕ, List, [], map, Option, Some, None}
 use Rattle.rpy_nodes.specs.Names.{number}
 use Rattle.rpy_nodes.specs.declared.event.Event.{Event}
 use Rattle.rpy_nodes.specs.declared.unit.Parameter.{Parameter}

@@ -1,11 +1,11 @@
 -- The locals of a function: its parameters, then what its body binds, each where it is first bound.
-use Rattle.std.specs.Prelude.{◌≡◌, ℕ, Bool, true, List, [], ◌∷◌, ◌++◌, map, Option, position}
+use Rattle.std.specs.Prelude.{◌≡◌, ℕ, true, List, [], ◌∷◌, ◌++◌, map, Option, position}
 use Rattle.std.specs.List.{AllByRecursion, list_any}
 use Rattle.std.specs.Str.{bytes_eq}
 use Rattle.rpy_tree.specs.declared.syntax.Stmt.{Stmt}
 use Rattle.names_rules.specs.Order.{Item, Items, Bind, Catch, block}
 use Rattle.names_rules.specs.Events.{Names, see}
-use Rattle.names_rules.specs.Members.{Formal, What, Import, From, Constant, Def, Class, Placed, what_said}
+use Rattle.names_rules.specs.Members.{Formal, What, Def, Placed, what_said}
 use Rattle.names_rules.specs.ProgramSites.{locals_of}
 use Rattle.rpy_nodes.specs.Names.{number}
 

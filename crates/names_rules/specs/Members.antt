@@ -4,7 +4,6 @@ use Rattle.std.specs.Prelude.{ℕ, ◌+◌, Bool, true, false, List, [], ◌∷�
 use Rattle.rpy_tree.specs.declared.syntax.Expr.{Expr}
 use Rattle.rpy_tree.specs.declared.syntax.Stmt.{Stmt}
 use Rattle.rpy_tree.specs.declared.syntax.Param.{Param}
-use Rattle.rpy_tree.specs.declared.syntax.Function.{Function}
 use Rattle.rpy_tree.specs.declared.syntax.Member.{Member, out-Member}
 use Rattle.rpy_tree.specs.declared.syntax.Member.TheOpen.{Member-F}
 use Rattle.rpy_tree.specs.declared.syntax.ClassDef.{ClassDef, out-ClassDef}

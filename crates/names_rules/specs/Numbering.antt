@@ -1,5 +1,5 @@
 -- The numbers of nodes: each node is numbered by the count of the nodes before it.
-use Rattle.std.specs.Prelude.{ℕ, zero, ◌+◌, Bool, true, false, if◌then◌else◌, List, [], ◌∷◌, ◌++◌}
+use Rattle.std.specs.Prelude.{ℕ, ◌+◌, Bool, true, false, if◌then◌else◌, List, [], ◌∷◌, ◌++◌}
 use Rattle.names_rules.specs.Order.{Item, Items, Str, Name, Attr, Bind, BindAttr, Elif, Caught, CaughtOf, CaughtEnd, Catch}
 
 -- the test of an `elif`, and what stands in the head of a clause, are no nodes of their own

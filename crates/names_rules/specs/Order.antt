@@ -1,6 +1,6 @@
 -- What stands in a tree, in node order: an expression, a target or a statement after its parts, and a compound
 -- statement after those of its first header and before its blocks. The number of a node is the count of the nodes before it.
-use Rattle.std.specs.Prelude.{ℕ, ◌+◌, ℤ, Bool, true, false, List, [], ◌∷◌, ◌++◌, length, map, Option, Some, None}
+use Rattle.std.specs.Prelude.{ℕ, ◌+◌, ℤ, List, [], ◌∷◌, ◌++◌, length, map, Option, Some, None}
 use Rattle.rpy_tree.specs.declared.syntax.BinOp.{BinOp}
 use Rattle.rpy_tree.specs.declared.syntax.BinOp.TheVariants as binary
 use Rattle.rpy_tree.specs.declared.syntax.UnOp.{UnOp}

@@ -1,12 +1,11 @@
 -- The sites of the members of a program, in their order.
-use Rattle.std.specs.Prelude.{ℕ, Bool, true, false, List, [], ◌∷◌, ◌++◌, map, Option, Some, None}
+use Rattle.std.specs.Prelude.{ℕ, true, false, List, [], ◌∷◌, ◌++◌, map, Option, Some, None}
 use Rattle.names_bound.specs.declared.scopes.Scopes.{Scopes}
 use Rattle.names_found.specs.Locals as locals
 use Rattle.names_found.specs.declared.finder.Place.{Place}
-use Rattle.names_found.specs.declared.part.Part.{Part}
 use Rattle.names_found.specs.declared.step.SiteAt.{SiteAt}
 use Rattle.names_rules.specs.Events.{Names}
-use Rattle.names_rules.specs.Members.{Value, Body, Formal, What, Import, From, Constant, Def, Class, Placed}
+use Rattle.names_rules.specs.Members.{Value, Body, Formal, What, Constant, Def, Placed}
 use Rattle.names_rules.specs.Listed.{parameter, body_events}
 use Rattle.names_rules.specs.Seen.{name_part, bound_part, attr_part}
 use Rattle.names_rules.specs.Sites.{expr, block}

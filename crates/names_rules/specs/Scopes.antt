@@ -1,5 +1,5 @@
 -- What a name of a module is.
-use Rattle.std.specs.Prelude.{◌≡◌, ℕ, zero, suc, Bool, true, false, nat_le, List, [], ◌∷◌, length, Option, Some, None}
+use Rattle.std.specs.Prelude.{◌≡◌, ℕ, zero, suc, Bool, true, false, nat_le, List, length, Option, Some, None}
 use Rattle.names_bound.specs.declared.scopes.Scopes.{Scopes}
 use Rattle.names_bound.specs.declared.stand.Stand.{Stand}
 use Rattle.names_bound.specs.declared.stand.Stand.TheVariants as stand
@@ -8,7 +8,6 @@ use Rattle.rpy_nodes.specs.Names.{number}
 use Rattle.names_rules.specs.Bindings.{Binding, look}
 use Rattle.names_rules.specs.Events.{Names}
 use Rattle.names_rules.specs.Imports.{Bound, Is, From}
-use Rattle.names_rules.specs.Locals.{Has}
 use Rattle.names_rules.specs.Words.{known}
 
 -- a module lacks the name; where an import led there, it is told at that import

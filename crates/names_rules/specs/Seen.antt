@@ -1,5 +1,5 @@
 -- The parts and sites of the code while it sees items one by one.
-use Rattle.std.specs.Prelude.{ℕ, ◌+◌, Bool, true, false, List, [], ◌∷◌, ◌++◌, Option, Some, None}
+use Rattle.std.specs.Prelude.{ℕ, List}
 use Rattle.rpy_nodes.specs.Names.{number}
 use Rattle.names_bound.specs.declared.scopes.Scopes.{Scopes}
 use Rattle.names_bound.specs.declared.stand.Stand.TheVariants as stand

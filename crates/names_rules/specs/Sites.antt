@@ -1,5 +1,5 @@
 -- The sites of trees in node order: the places that make lists or dicts, by what the callee of a call stands for.
-use Rattle.std.specs.Prelude.{ℕ, ◌+◌, Bool, true, false, if◌then◌else◌, List, [], ◌∷◌, ◌++◌, length, map, Option, Some, None}
+use Rattle.std.specs.Prelude.{ℕ, ◌+◌, Bool, true, false, if◌then◌else◌, List, [], ◌∷◌, ◌++◌, map, Option, Some, None}
 use Rattle.rpy_tree.specs.declared.syntax.BinOp.{BinOp}
 use Rattle.rpy_tree.specs.declared.syntax.BinOp.TheVariants as binary
 use Rattle.rpy_tree.specs.declared.syntax.Expr.{Expr, fold-Expr}
@@ -7,9 +7,7 @@ use Rattle.rpy_tree.specs.declared.syntax.Expr.TheFolds.{fold-Target}
 use Rattle.rpy_tree.specs.declared.syntax.Expr.TheOpen.{Expr-F, Target-F}
 use Rattle.rpy_tree.specs.declared.syntax.Target.{Target}
 use Rattle.rpy_tree.specs.declared.syntax.Stmt.{Stmt, fold-Stmt}
-use Rattle.rpy_tree.specs.declared.syntax.Stmt.TheFolds.{fold-Clause}
 use Rattle.rpy_tree.specs.declared.syntax.Stmt.TheOpen.{Stmt-F, Clause-F}
-use Rattle.rpy_tree.specs.declared.syntax.Clause.{Clause}
 use Rattle.names_bound.specs.declared.stand.Stand.{Stand}
 use Rattle.names_bound.specs.declared.stand.Stand.TheVariants as stand
 use Rattle.names_found.specs.Part.{no_part}

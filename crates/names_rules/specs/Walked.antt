@@ -1,5 +1,5 @@
 -- A walk that takes the items of a tree one by one.
-use Rattle.std.specs.Prelude.{ℕ, List, [], ◌∷◌}
+use Rattle.std.specs.Prelude.{[], ◌∷◌}
 use Rattle.rpy_nodes.specs.Walk.{push, note, push_name, note_name}
 use Rattle.rpy_nodes.specs.declared.event.Act.TheVariants as act
 use Rattle.rpy_nodes.specs.declared.walk.Walk.{Walk}
