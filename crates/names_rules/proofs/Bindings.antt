@@ -51,8 +51,8 @@ module _ (names : Names) where
 
   pub look_entries : (bs : List Binding) (file : ℕ) (name : List ℕ) → Has names name → look (entries names bs) file (number names name) ≡ entry_of (rule.look bs file name)
   look_entries [] file name has = refl
-  look_entries (b ∷ bs) file name has = (λ j. cond (nat_eq file b.file && compared names name b.name has j) (Some (entry names b).1) (look_entries bs file name has j))
-      ∙ entry_cond (nat_eq file b.file && bytes_eq name b.name) b (rule.look bs file name)
+  look_entries (b ∷ bs) file name has = (λ j. cond (nat_eq file b.scope && compared names name b.name has j) (Some (entry names b).1) (look_entries bs file name has j))
+      ∙ entry_cond (nat_eq file b.scope && bytes_eq name b.name) b (rule.look bs file name)
 
   entries_end : (bs : List Binding) (b : Binding) → entries names bs ++ entry names b ∷ [] ≡ entries names (bs ++ b ∷ [])
   entries_end [] b = refl
@@ -62,10 +62,10 @@ module _ (names : Names) where
   bind_by None bs b = entries_end bs b
   bind_by (Some x) bs b = refl
 
-  bound_entries : (bs : List Binding) (b : Binding) → Has names b.name → bind (entries names bs) b.file (number names b.name) (entry names b).1 ≡ entries names (rule.add bs b)
-  bound_entries bs b has = ap (λ o. cond (fresh o) (entries names bs ++ entry names b ∷ []) (entries names bs)) (look_entries bs b.file b.name has) ∙ bind_by (rule.look bs b.file b.name) bs b
+  pub bound_entries : (bs : List Binding) (b : Binding) → Has names b.name → bind (entries names bs) b.scope (number names b.name) (entry names b).1 ≡ entries names (rule.add bs b)
+  bound_entries bs b has = ap (λ o. cond (fresh o) (entries names bs ++ entry names b ∷ []) (entries names bs)) (look_entries bs b.scope b.name has) ∙ bind_by (rule.look bs b.scope b.name) bs b
 
-add_append : (xs ys bs : List Binding) → rule.add_all bs (xs ++ ys) ≡ rule.add_all (rule.add_all bs xs) ys
+pub add_append : (xs ys bs : List Binding) → rule.add_all bs (xs ++ ys) ≡ rule.add_all (rule.add_all bs xs) ys
 add_append [] ys bs = refl
 add_append (x ∷ xs) ys bs = add_append xs ys (rule.add bs x)
 
@@ -90,7 +90,7 @@ store_sum : (at : Spot) (o : Option ℕ) (d : Declared) → sum (old.store_of at
 store_sum at None d = refl
 store_sum at (Some name) d = attribute_sum at.class name d
 
-stores_sum : (at : Spot) (first : ℕ) (es : List Event) (last : Option ℕ) (d : Declared) → sum (old.stores_from at first last es d) ≡ sum d
+pub stores_sum : (at : Spot) (first : ℕ) (es : List Event) (last : Option ℕ) (d : Declared) → sum (old.stores_from at first last es d) ≡ sum d
 stores_sum at first [] last d = refl
 stores_sum at first (e ∷ es) last d = stores_sum at first es (old.name_in e.act) (old.store_of at (old.stored first last e.act) d) ∙ store_sum at (old.stored first last e.act) d
 
@@ -110,7 +110,7 @@ bind_sum : (o : Option ℕ) (at : Spot) (name : ℕ) (s : Stand) (d : Declared) 
 bind_sum None at name s d = refl
 bind_sum (Some class) at name s d = refl
 
-longer : {A : Type 0} (xs : List A) (x : A) → length (xs ++ x ∷ []) ≡ length xs + 1
+pub longer : {A : Type 0} (xs : List A) (x : A) → length (xs ++ x ∷ []) ≡ length xs + 1
 longer xs x = length-append xs (x ∷ [])
 
 constant_sum : (at : Spot) (name : ℕ) (d : Declared) → sum (old.add_constant at name d) ≡ record { table = bound_at at.class at name (stand.Constant (length d.constants)) d.bindings; counts = record { functions = length d.functions; classes = length d.classes; constants = length d.constants + 1 } }

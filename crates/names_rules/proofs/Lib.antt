@@ -1,4 +1,5 @@
 pub mod Bindings
+pub mod ClassBindings
 pub mod Found
 mod Fusion
 pub mod Injective

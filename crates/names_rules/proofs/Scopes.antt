@@ -82,7 +82,7 @@ module _ (names : Names) where
 
   adds_taken : (more bs : List Binding) → AllByRecursion IsTaken bs → AllByRecursion IsTaken more → AllByRecursion IsTaken (rule.add_all bs more)
   adds_taken [] bs h k = h
-  adds_taken (b ∷ more) bs h k = adds_taken more (rule.add bs b) (add_taken (rule.look bs b.file b.name) bs b h k.0) k.1
+  adds_taken (b ∷ more) bs h k = adds_taken more (rule.add bs b) (add_taken (rule.look bs b.scope b.name) bs b h k.0) k.1
 
   found_by : (t : Bool) (b : Binding) (o : Option Binding) → IsTaken b → Found o → Found (cond t (Some b) o)
   found_by true b o h k = h
@@ -90,7 +90,7 @@ module _ (names : Names) where
 
   look_taken : (bs : List Binding) (file : ℕ) (name : List ℕ) → AllByRecursion IsTaken bs → Found (rule.look bs file name)
   look_taken [] file name h = tt
-  look_taken (b ∷ bs) file name h = found_by (nat_eq file b.file && bytes_eq name b.name) b (rule.look bs file name) h.0 (look_taken bs file name h.1)
+  look_taken (b ∷ bs) file name h = found_by (nat_eq file b.scope && bytes_eq name b.name) b (rule.look bs file name) h.0 (look_taken bs file name h.1)
 
   -- ---- following
 

@@ -15,7 +15,7 @@ bound_in names (Is s) = old.Is s
 bound_in names (From file name) = old.From file (number names name)
 
 abbrev pub entry : Names → Binding → Key × Old
-entry names b = (record { scope = b.file; name = number names b.name }, record { place = b.place; bound = bound_in names b.bound })
+entry names b = (record { scope = b.scope; name = number names b.name }, record { place = b.place; bound = bound_in names b.bound })
 
 abbrev pub entries : Names → List Binding → Entries
 entries names bs = map (entry names) bs

@@ -13,7 +13,7 @@ ghost use Rattle.names_rules.specs.ProgramSites.{sites_of};
 ghost use Rattle.names_rules.specs.Locals.{Has, IsKnown, HasLocals};
 ghost use Rattle.rpy_nodes.specs.Names.{number};
 ghost use Rattle.names_bound.specs.Declare.{declared};
-ghost use Rattle.names_rules.specs.Bindings.{bindings};
+ghost use Rattle.names_rules.specs.Bindings.{bindings, class_bindings};
 ghost use Rattle.names_rules.specs.Bound.{entries};
 ghost use Rattle.names_rules.specs.Scopes.{FindsAlike};
 ghost use Rattle.names_rules.specs.Words as words;
@@ -58,10 +58,11 @@ pub fn words_follow_the_table()
     ensures { (ms : List Named) (name : List ℕ) → bound.known (number (names_of ms) name) ≡ words.known name }
 {}
 
-/// The table of the names of modules has what the rules bind, in the same order: imports, constants,
-/// functions and classes, each numbered among those of its kind.
+/// The tables of the names of modules and of class bodies have what the rules bind, in the same order:
+/// imports, constants, functions and classes, each numbered among those of its kind.
 pub fn bindings_follow_the_rules()
-    ensures { (ms : List Named) → (declared (listing ms).modules (listing ms).units).bindings ≡ entries (names_of ms) (bindings (module_names ms) (members ms)) }
+    ensures modules { (ms : List Named) → (declared (listing ms).modules (listing ms).units).bindings ≡ entries (names_of ms) (bindings (module_names ms) (members ms)) }
+    ensures classes { (ms : List Named) → (declared (listing ms).modules (listing ms).units).members ≡ entries (names_of ms) (class_bindings (members ms)) }
 {}
 
 /// What a name of a module is, what a module has under it, and whether it is bound only later, are
