@@ -1,6 +1,6 @@
 -- The words that the language knows stand for what the table says.
 use Rattle.std.proofs.Common.{◌≡◌, ℕ, codes, ◌+◌, ◌-◌, ◌≤◌, ◌<◌, zero, suc, List, [], ◌∷◌, ◌++◌, Bool, true, false, map, append_assoc, ap, ◌∙◌, refl, arith, cond}
-use Rattle.std.specs.Prelude.{not, nat_eq, nat_lt}
+use Rattle.std.specs.Prelude.{not, nat_eq, nat_lt, nat_le}
 use Rattle.std.specs.Str.{bytes_eq}
 use Rattle.std.proofs.lemmas.Grind.{common_steps}
 use Rattle.rpy_nodes.specs.Listing as code
@@ -12,7 +12,7 @@ use Rattle.names_bound.specs.declared.stand.Stand.TheVariants as stand
 use Rattle.names_rules.specs.Events.{Names, see}
 use Rattle.names_rules.specs.Listed.{module_names, names_of}
 use Rattle.names_rules.specs.Members.{modules_said}
-use Rattle.names_rules.specs.Words.{Table, words, find, known}
+use Rattle.names_rules.specs.Words.{Table, words, find, known, is_fixed}
 use Rattle.names_rules.proofs.Names.{grown}
 
 abbrev pub texts : Table → Names
@@ -121,3 +121,20 @@ known_by ms name (rest, e) = ap (λ t. bound.known (number t name)) e ∙ known_
 -- what the language knows is found by a name's number as by its text
 pub known_is : (ms : List Named) (name : List ℕ) → bound.known (number (names_of ms) name) ≡ known name
 known_is ms name = known_by ms name (table_begins ms)
+
+-- ---- the three that may not be bound
+
+past_two : (k : ℕ) → nat_le (1 + (1 + (1 + k))) 2 ≡ false
+past_two k = grind (arith, common_steps)
+
+fixed_by : (a b c : Bool) (k : ℕ) → nat_le (cond (not a) (1 + cond (not b) (1 + cond (not c) (1 + k) 0) 0) 0) 2 ≡ cond a true (cond b true c)
+fixed_by true b c k = refl
+fixed_by false true c k = refl
+fixed_by false false true k = refl
+fixed_by false false false k = past_two k
+
+fixed_from : (ms : List Named) (name : List ℕ) (first : (rest : Names) × (names_of ms ≡ texts words ++ rest)) → bound.is_fixed (number (names_of ms) name) ≡ is_fixed name
+fixed_from ms name (rest, e) = ap (λ t. bound.is_fixed (number t name)) e ∙ fixed_by (bytes_eq name (codes "None")) (bytes_eq name (codes "True")) (bytes_eq name (codes "False")) _
+
+pub fixed_is : (ms : List Named) (name : List ℕ) → bound.is_fixed (number (names_of ms) name) ≡ is_fixed name
+fixed_is ms name = fixed_from ms name (table_begins ms)

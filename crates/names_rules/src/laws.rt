@@ -52,10 +52,11 @@ pub fn locals_follow_the_rules()
     ensures { (ms : List Named) → AllByRecursion (HasLocals (names_of ms)) (members ms) }
 {}
 
-/// What a name stands for that neither a function nor a module binds is looked up by its number as
-/// by its text.
+/// What a name stands for that neither a function nor a module binds, and whether it may not be bound,
+/// is looked up by its number as by its text.
 pub fn words_follow_the_table()
-    ensures { (ms : List Named) (name : List ℕ) → bound.known (number (names_of ms) name) ≡ words.known name }
+    ensures known { (ms : List Named) (name : List ℕ) → bound.known (number (names_of ms) name) ≡ words.known name }
+    ensures fixed { (ms : List Named) (name : List ℕ) → bound.is_fixed (number (names_of ms) name) ≡ words.is_fixed name }
 {}
 
 /// The tables of the names of modules and of class bodies have what the rules bind, in the same order:
