@@ -1,5 +1,5 @@
 -- The table of the names of class bodies is what the rules bind.
-use Rattle.std.proofs.Common.{◌≡◌, ℕ, ◌+◌, List, [], ◌∷◌, ◌++◌, map, length, Option, Some, None, sym, ap, ◌∙◌, refl}
+use Rattle.std.proofs.Common.{◌≡◌, ℕ, ◌+◌, List, [], ◌∷◌, map, length, Option, Some, None, sym, ap, ◌∙◌, refl}
 use Rattle.std.specs.List.{AllByRecursion}
 use Rattle.rpy_nodes.specs.Listing as listing
 use Rattle.rpy_nodes.specs.Names.{number}
@@ -17,7 +17,7 @@ use Rattle.names_bound.specs.declared.stand.Stand.TheVariants as stand
 use Rattle.names_bound.specs.declared.table.Bound.TheVariants as old_bound
 use Rattle.names_rules.specs.Bindings as rule
 use Rattle.names_rules.specs.Bindings.{Binding, Counts, none_before, count, class_binding, if_inside, class_binds, class_bindings_from, class_bindings}
-use Rattle.names_rules.specs.Bound.{entry, entries}
+use Rattle.names_rules.specs.Bound.{entries}
 use Rattle.names_rules.specs.Events.{Names}
 use Rattle.names_rules.specs.Listed.{numbers, module_names, names_of, listed, says, parameter, body_events}
 use Rattle.names_rules.specs.Locals.{Has, IsKnown}

@@ -29,7 +29,7 @@ turned m n = bool_same (nat_eq m n) (nat_eq n m)
 
 module _ (names rest : Names) (begins : names ≡ texts words ++ rest) where
   -- a word's number is its place in the list of words
-  word : (w : List ℕ) (k : ℕ) (name : List ℕ) → number (texts words ++ rest) w ≡ k → Has (texts words ++ rest) w → nat_eq (number names name) k ≡ bytes_eq w name
+  pub word : (w : List ℕ) (k : ℕ) (name : List ℕ) → number (texts words ++ rest) w ≡ k → Has (texts words ++ rest) w → nat_eq (number names name) k ≡ bytes_eq w name
   word w k name at has = ap (nat_eq (number names name)) (sym at ∙ ap (λ t. number t w) (sym begins)) ∙ turned (number names name) (number names w) ∙ compared names w name (subst (λ (t : Names). Has t w) (sym begins) has)
 
   files : (modules : Names) (file : ℕ) (name : List ℕ) → AllByRecursion (Has names) modules → old.file_from file (numbers names modules) (number names name) ≡ file_from file modules name

@@ -1,5 +1,5 @@
 -- Names of modules are found by their numbers as by their texts.
-use Rattle.std.proofs.Common.{◌≡◌, ℕ, ◌+◌, zero, suc, List, [], ◌∷◌, Bool, true, false, map, length, Option, Some, None, ap, ◌∙◌, refl, cond}
+use Rattle.std.proofs.Common.{◌≡◌, ℕ, codes, ◌+◌, zero, suc, List, [], ◌∷◌, ◌++◌, Bool, true, false, map, length, Option, Some, None, ap, ◌∙◌, refl, cond}
 use Rattle.std.specs.Prelude.{nat_eq, ◌&&◌}
 use Rattle.std.specs.List.{AllByRecursion}
 use Rattle.std.specs.Str.{bytes_eq}
@@ -7,6 +7,7 @@ use Rattle.std.proofs.lemmas.List.{length-map}
 use Rattle.rpy_nodes.specs.Listing as listing
 use Rattle.rpy_nodes.specs.Names.{number}
 use Rattle.rpy_nodes.specs.declared.listing.Named.{Named}
+use Rattle.rpy_tree.specs.declared.program.Builtin.TheVariants as builtin
 use Rattle.names_bound.specs.Declare as old
 use Rattle.names_bound.specs.Known as bound
 use Rattle.names_bound.specs.Scopes as code
@@ -17,7 +18,7 @@ use Rattle.names_bound.specs.declared.scopes.Scopes.{Scopes}
 use Rattle.names_bound.specs.declared.stand.Stand.{Stand}
 use Rattle.names_bound.specs.declared.stand.Stand.TheVariants as stand
 use Rattle.names_rules.specs.Bindings as rule
-use Rattle.names_rules.specs.Bindings.{Binding, Counts, none_before, count, binding, unless_inside, binds, bindings_from, bindings}
+use Rattle.names_rules.specs.Bindings.{class_bindings, Binding, Counts, none_before, count, binding, unless_inside, binds, bindings_from, bindings}
 use Rattle.names_rules.specs.Bound.{bound_in, entries}
 use Rattle.names_rules.specs.Events.{Names}
 use Rattle.names_rules.specs.Imports.{Bound, Is, From, import_stand, source_of, taken}
@@ -27,11 +28,13 @@ use Rattle.names_rules.specs.Members as member
 use Rattle.names_rules.specs.Members.{What, Placed, members}
 use Rattle.names_rules.specs.Scopes as scope
 use Rattle.names_rules.specs.Scopes.{FindsAlike}
-use Rattle.names_rules.specs.Words.{known}
+use Rattle.names_rules.specs.Words.{known, words}
 use Rattle.names_rules.proofs.Bindings.{entry_of, look_entries, bindings_are}
 use Rattle.names_rules.proofs.Known.{members_known, all_both}
 use Rattle.names_rules.proofs.Locals.{all_rest}
-use Rattle.names_rules.proofs.Words.{known_is}
+use Rattle.names_rules.proofs.ClassBindings.{class_bindings_are}
+use Rattle.names_rules.proofs.Imports.{word}
+use Rattle.names_rules.proofs.Words.{known_is, table_begins, texts}
 
 module _ (names : Names) where
   -- the name that is taken stands in the table
@@ -133,3 +136,35 @@ module _ (names : Names) where
 
 pub scopes_alike : (ms : List Named) (s : Scopes) → s.bindings ≡ (old.declared (listing.listing ms).modules (listing.listing ms).units).bindings → (file : ℕ) (name : List ℕ) → Has (names_of ms) name → FindsAlike (names_of ms) (bindings (module_names ms) (members ms)) s file name
 scopes_alike ms s e file name has = alike (names_of ms) (bindings (module_names ms) (members ms)) (adds_taken (names_of ms) (bindings_from (module_names ms) none_before (members ms)) [] tt (all_taken (names_of ms) (members ms) (module_names ms) none_before (members_known ms))) s (e ∙ bindings_are ms) file name has (known_is ms name)
+
+-- ---- after a dot
+
+bound_stand_is_in : (names : Names) (b : Bound) → code.is_stand (bound_in names b) ≡ scope.bound_stand b
+bound_stand_is_in names (Is s) = refl
+bound_stand_is_in names (From file name) = refl
+
+module _ (names rest : Names) (begins : names ≡ texts words ++ rest) (bs classes : List Binding) (s : Scopes) (members_are : s.members ≡ entries names classes) where
+  stand_is : (o : Option Binding) → code.stand_in (entry_of names o) ≡ scope.stand_of o
+  stand_is None = refl
+  stand_is (Some b) = bound_stand_is_in names b.bound
+
+  class_is : (n class : ℕ) (name : List ℕ) → Has names name → code.member_from (entries names classes) s.bases n class (number names name) ≡ scope.class_from classes s.bases n class name
+  class_is zero class name has = refl
+  class_is (suc n) class name has = λ j. code.or_at_base (λ c. class_is n c name has j) (code.base_in s.bases class) ((ap code.stand_in (look_entries names classes class name has) ∙ stand_is (rule.look classes class name)) j)
+
+  member_is : (of : Stand) (name : List ℕ) → Has names name → ((file : ℕ) → code.follow s file (number names name) ≡ scope.follow bs file name) → code.member s of (number names name) ≡ scope.member bs classes s.bases of name
+  member_is (stand.Module file) name has f = f file
+  member_is (stand.Class class) name has f = ap (λ es. code.member_from es s.bases (length s.bases) class (number names name)) members_are ∙ class_is (length s.bases) class name has
+  member_is stand.Os name has f = ap (λ b. cond b (stand.Builtin builtin.OsWrite) stand.Unknown) (word names rest begins (codes "write") 10 name refl refl)
+  member_is stand.Sys name has f = ap (λ b. cond b stand.MaxInt stand.Unknown) (word names rest begins (codes "maxint") 11 name refl refl)
+  member_is stand.Missing name has f = refl
+  member_is stand.Unknown name has f = refl
+  member_is other name has f = refl
+
+members_by : (ms : List Named) (begins : (rest : Names) × (names_of ms ≡ texts words ++ rest)) (s : Scopes) → s.members ≡ (old.declared (listing.listing ms).modules (listing.listing ms).units).members → (of : Stand) (name : List ℕ) → Has (names_of ms) name → ((file : ℕ) → code.follow s file (number (names_of ms) name) ≡ scope.follow (bindings (module_names ms) (members ms)) file name)
+    → code.member s of (number (names_of ms) name) ≡ scope.member (bindings (module_names ms) (members ms)) (class_bindings (members ms)) s.bases of name
+members_by ms (rest, e) s m of name has f = member_is (names_of ms) rest e (bindings (module_names ms) (members ms)) (class_bindings (members ms)) s (m ∙ class_bindings_are ms) of name has f
+
+pub members_alike : (ms : List Named) (s : Scopes) → s.bindings ≡ (old.declared (listing.listing ms).modules (listing.listing ms).units).bindings → s.members ≡ (old.declared (listing.listing ms).modules (listing.listing ms).units).members → (of : Stand) (name : List ℕ) → Has (names_of ms) name
+    → code.member s of (number (names_of ms) name) ≡ scope.member (bindings (module_names ms) (members ms)) (class_bindings (members ms)) s.bases of name
+members_alike ms s e m of name has = members_by ms (table_begins ms) s m of name has (λ file. (scopes_alike ms s e file name has).0)

@@ -1,5 +1,7 @@
 -- What a name of a module is.
-use Rattle.std.specs.Prelude.{◌≡◌, ℕ, zero, suc, Bool, true, false, nat_le, List, length, Option, Some, None}
+use Rattle.std.specs.Prelude.{◌≡◌, ℕ, zero, suc, Bool, true, false, nat_le, if◌then◌else◌, codes, List, length, Option, Some, None}
+use Rattle.std.specs.Str.{bytes_eq}
+use Rattle.rpy_tree.specs.declared.program.Builtin.TheVariants as builtin
 use Rattle.names_bound.specs.declared.scopes.Scopes.{Scopes}
 use Rattle.names_bound.specs.declared.stand.Stand.{Stand}
 use Rattle.names_bound.specs.declared.stand.Stand.TheVariants as stand
@@ -47,6 +49,33 @@ late_by place (Some b) = nat_le place b.place
 -- the name is bound only at this place or later
 abbrev pub is_late : List Binding → ℕ → ℕ → List ℕ → Bool
 is_late bs file place name = late_by place (look bs file name)
+
+-- ---- names of class bodies, and names after a dot
+
+abbrev pub bound_stand : Bound → Stand
+bound_stand (Is s) = s
+bound_stand (From file name) = stand.Unknown
+
+abbrev pub stand_of : Option Binding → Stand
+stand_of None = stand.Unknown
+stand_of (Some b) = bound_stand b.bound
+
+-- the nearest among the class and its bases that has the name
+abbrev pub class_from : List Binding → List (Option ℕ) → ℕ → ℕ → List ℕ → Stand
+class_from bs bases zero class name = stand.Unknown
+class_from bs bases (suc n) class name = code.or_at_base (λ c. class_from bs bases n c name) (code.base_in bases class) (stand_of (look bs class name))
+
+abbrev pub class_member : List Binding → List (Option ℕ) → ℕ → List ℕ → Stand
+class_member bs bases class name = class_from bs bases (length bases) class name
+
+abbrev pub member : List Binding → List Binding → List (Option ℕ) → Stand → List ℕ → Stand
+member bs classes bases (stand.Module file) name = follow bs file name
+member bs classes bases (stand.Class class) name = class_member classes bases class name
+member bs classes bases stand.Os name = if bytes_eq (codes "write") name then stand.Builtin builtin.OsWrite else stand.Unknown
+member bs classes bases stand.Sys name = if bytes_eq (codes "maxint") name then stand.MaxInt else stand.Unknown
+member bs classes bases stand.Missing name = stand.Missing
+member bs classes bases stand.Unknown name = stand.Missing
+member bs classes bases other name = stand.Nothing
 
 -- ---- the scopes of the code find the same
 

@@ -15,7 +15,9 @@ ghost use Rattle.rpy_nodes.specs.Names.{number};
 ghost use Rattle.names_bound.specs.Declare.{declared};
 ghost use Rattle.names_rules.specs.Bindings.{bindings, class_bindings};
 ghost use Rattle.names_rules.specs.Bound.{entries};
-ghost use Rattle.names_rules.specs.Scopes.{FindsAlike};
+ghost use Rattle.names_rules.specs.Scopes.{FindsAlike, member};
+ghost use Rattle.names_bound.specs.Scopes as scopes;
+ghost use Rattle.names_bound.specs.declared.stand.Stand.{Stand};
 ghost use Rattle.names_rules.specs.Words as words;
 ghost use Rattle.names_bound.specs.Known as bound;
 ghost use Rattle.names_rules.specs.Laws.{modules, IsCounted, StandsIn};
@@ -66,8 +68,9 @@ pub fn bindings_follow_the_rules()
     ensures classes { (ms : List Named) → (declared (listing ms).modules (listing ms).units).members ≡ entries (names_of ms) (class_bindings (members ms)) }
 {}
 
-/// What a name of a module is, what a module has under it, and whether it is bound only later, are
-/// found by the number of the name as the rules find them by its text.
+/// What a name of a module is, what a module has under it, whether it is bound only later, and what
+/// it is after a dot, are found by the number of the name as the rules find them by its text.
 pub fn scopes_follow_the_rules()
-    ensures { (ms : List Named) (s : Scopes) → s.bindings ≡ (declared (listing ms).modules (listing ms).units).bindings → (file : ℕ) (name : List ℕ) → Has (names_of ms) name → FindsAlike (names_of ms) (bindings (module_names ms) (members ms)) s file name }
+    ensures modules { (ms : List Named) (s : Scopes) → s.bindings ≡ (declared (listing ms).modules (listing ms).units).bindings → (file : ℕ) (name : List ℕ) → Has (names_of ms) name → FindsAlike (names_of ms) (bindings (module_names ms) (members ms)) s file name }
+    ensures after_a_dot { (ms : List Named) (s : Scopes) → s.bindings ≡ (declared (listing ms).modules (listing ms).units).bindings → s.members ≡ (declared (listing ms).modules (listing ms).units).members → (of : Stand) (name : List ℕ) → Has (names_of ms) name → scopes.member s of (number (names_of ms) name) ≡ member (bindings (module_names ms) (members ms)) (class_bindings (members ms)) s.bases of name }
 {}
