@@ -1,5 +1,5 @@
 -- The locals of a function: its parameters, then what its body binds, each where it is first bound.
-use Rattle.std.specs.Prelude.{◌≡◌, ℕ, true, List, [], ◌∷◌, ◌++◌, map, Option, position}
+use Rattle.std.specs.Prelude.{◌≡◌, ℕ, true, List, [], ◌∷◌, ◌++◌, map}
 use Rattle.std.specs.List.{AllByRecursion, list_any}
 use Rattle.std.specs.Str.{bytes_eq}
 use Rattle.rpy_tree.specs.declared.syntax.Stmt.{Stmt}
@@ -24,10 +24,6 @@ names_bound params body = map (λ p. p.name) params ++ bound (block body)
 
 abbrev pub locals : List Formal → List Stmt → List (List ℕ)
 locals params body = see (names_bound params body) []
-
--- the number of a local
-abbrev pub local : List (List ℕ) → List ℕ → Option ℕ
-local of name = position (bytes_eq name) of
 
 -- a name that stands in a table
 abbrev pub Has : Names → List ℕ → Type 0
