@@ -1,0 +1,23 @@
+pub mod Bindings
+pub mod ClassBindings
+pub mod Found
+mod Fusion
+pub mod Injective
+pub mod Imports
+pub mod Known
+mod Layers
+pub mod Listed
+mod Runs
+mod Sites
+mod Stack
+mod StmtFusion
+mod StmtSites
+pub mod Locals
+pub mod Modules
+mod Names
+pub mod Numbered
+pub mod Places
+pub mod Scopes
+pub mod Program
+pub mod Walked
+pub mod Words

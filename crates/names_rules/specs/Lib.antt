@@ -1,0 +1,17 @@
+pub mod Bindings
+pub mod Bound
+pub mod Events
+pub mod Imports
+pub mod Laws
+pub mod Listed
+pub mod Locals
+pub mod Members
+pub mod Numbering
+pub mod Order
+pub mod Parts
+pub mod ProgramSites
+pub mod Scopes
+pub mod Seen
+pub mod Sites
+pub mod Walked
+pub mod Words

@@ -1,0 +1,10 @@
+//! The rules of names on the trees alone, and that the tables of the code say the same.
+#![tactic(auto)]
+
+mod laws;
+
+pub use laws::{
+    bindings_follow_the_rules, listing_follows_the_rules, locals_follow_the_rules,
+    names_have_numbers, places_follow_the_numbering, scopes_follow_the_rules,
+    sites_follow_the_rules, words_follow_the_table,
+};
