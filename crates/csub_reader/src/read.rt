@@ -7,7 +7,7 @@ ghost use Rattle.csub_text.specs.ReadFile as pure;
 ghost use Rattle.csub_reader.specs.Reads.{Reads, ReadsWhole, Strips};
 ghost use Rattle.csub_reader.specs.Parts.{none_yet};
 ghost use Rattle.csub_reader.specs.Functions.{ReadsHeading, ReadsInsides};
-ghost use Rattle.csub_reader.specs.Refused.{IsRefused, NamesDead};
+ghost use Rattle.csub_reader.specs.Refused.{IsRefused};
 ghost use Rattle.csub_text.specs.Text.{IsText, IsNoText};
 ghost use Rattle.csub_tree.specs.Spelling.{numbered, local_line, block_text, function_start, function_body, function_text, struct_text, prototype_text, static_text, cell_text, cells_text, file_text, head, line};
 
@@ -368,8 +368,7 @@ fn whole(alloc: Global, bytes: &mut Cursor<'_>) -> Result<CFile, Stop>
 // Why bytes are refused that are the text of no file.
 fn refusal(alloc: Global, text: &Text) -> CFault
     requires { IsNoText text.now }
-    ensures refused { IsRefused text.now result }
-    ensures line { NamesDead text.now result }
+    ensures { IsRefused text.now result }
 {
     match dead_line(alloc, text) {
         Ok(line) => CFault::NotText(line),
@@ -384,7 +383,6 @@ pub fn read_text(alloc: Global, text: &Text) -> Result<CFile, CFault>
     ensures spelled { IfOk result (λ file. text.now ≡ file_text file) }
     ensures text { IfOk result (λ file. IsText text.now file) }
     ensures refused { IfErr result (λ fault. IsRefused text.now fault) }
-    ensures line { IfErr result (λ fault. NamesDead text.now fault) }
 {
     let mut bytes = Cursor::new(text.bytes());
     match whole(alloc, &mut bytes) {
@@ -400,7 +398,6 @@ pub fn read_c(alloc: Global, text: &Text) -> Result<CFile, CFault>
     ensures text { IfOk result (λ file. IsText text.now file) }
     ensures checked { IfOk result (λ file. IsChecked file) }
     ensures refused { IfErr result (λ fault. IsRefused text.now fault) }
-    ensures line { IfErr result (λ fault. NamesDead text.now fault) }
 {
     let file = read_text(alloc, text)?;
     match checked(&file) {

@@ -1,5 +1,5 @@
 -- The machine's state as its definition sees it.
-use Rattle.std.specs.Prelude.{◌≡◌, ℕ, List, [], map, replicate}
+use Rattle.std.specs.Prelude.{◌≡◌, ℕ, Bool, true, false, List, [], map, replicate}
 use Rattle.std.specs.List.{All}
 use Rattle.csub_tree.specs.State.{Unset, Null, Block, Core, Event, Made, Freed, After, Onward, Puts, Told, Over, Stuck}
 use Rattle.csub_runner.specs.Erased.{erase, erase_all, erase_cells, erase_caller}
@@ -50,6 +50,15 @@ IsStep old (Puts byte core) next new = (next ≡ NextPuts byte) × (new ≡ core
 IsStep old (Told event core) next new = (next ≡ named event) × (new ≡ core)
 IsStep old (Over outcome core) next new = (next ≡ Ends outcome) × (new ≡ core)
 IsStep old (Stuck reason) next new = (next ≡ NextStuck reason) × (new ≡ old)
+
+abbrev pub is_goes : Next → Bool
+is_goes Goes = true
+is_goes other = false
+
+-- whether the statement was done and the run goes on with nothing else; if not, nothing was done
+abbrev pub Plainly : After → Bool → Core → Core → Type 0
+Plainly after true old new = after ≡ Onward new
+Plainly after false old new = new ≡ old
 
 -- at the start of a function of so many variables, with no block
 abbrev pub new_core : ℕ → ℕ → List Block → ℕ → Core

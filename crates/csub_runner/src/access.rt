@@ -28,6 +28,7 @@ fn index_in(i: i64, items: &Vec<Val>) -> Option<u64>
 }
 
 impl Machine {
+    #[inline(always)]
     pub fn get_field(
         &mut self,
         shapes: &Vec<Shape>,
@@ -50,6 +51,7 @@ impl Machine {
     }
 
     // Writes a field of the block that a pointer names.
+    #[inline(always)]
     fn store_field(&mut self, pointer: Val, at: u64, value: Val) -> Next
         requires at { self.old.at + 1 < 2 ^ 64 }
         requires ok { MachineOk self.old }
@@ -100,6 +102,7 @@ impl Machine {
         }
     }
 
+    #[inline(always)]
     pub fn set_field(
         &mut self,
         shapes: &Vec<Shape>,

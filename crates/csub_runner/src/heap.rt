@@ -72,6 +72,7 @@ impl Heap {
     }
 
     /// The block, where it is there still.
+    #[inline(always)]
     pub fn block(&self, ptr: Ptr) -> Option<&Cells>
         requires sound { IsSound self.now }
         requires ptr { PtrOk self.now ptr }
@@ -91,6 +92,7 @@ impl Heap {
     }
 
     /// Writes a field of a block, where the block is there still and has it.
+    #[inline(always)]
     pub fn set_field(&mut self, ptr: Ptr, at: u64, value: Val)
         requires sound { IsSound self.old }
         requires ptr { PtrOk self.old ptr }
@@ -127,6 +129,7 @@ impl Heap {
     }
 
     // Whether the block is there still.
+    #[inline(always)]
     fn is_live(&self, ptr: Ptr) -> bool
         requires { PtrOk self.now ptr }
         ensures { IsLive result self.now ptr }

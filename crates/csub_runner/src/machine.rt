@@ -90,6 +90,7 @@ impl Machine {
     }
 
     // The block or static that a pointer names, where it is there.
+    #[inline(always)]
     fn block_at(&self, pointer: Val) -> Option<&Cells>
         requires ok { MachineOk self.now }
         requires pointer { ValOk self.now.heap pointer }
@@ -105,6 +106,7 @@ impl Machine {
     }
 
     /// The block that a pointer names, seen as a struct.
+    #[inline(always)]
     pub fn reached(
         &self,
         shapes: &Vec<Shape>,
@@ -145,6 +147,7 @@ impl Machine {
         Next::Goes
     }
 
+    #[inline(always)]
     pub fn set(&mut self, a: u64, value: Val) -> Next
         requires at { self.old.at + 1 < 2 ^ 64 }
         requires ok { MachineOk self.old }
@@ -158,6 +161,7 @@ impl Machine {
         self.assign(a, value)
     }
 
+    #[inline(always)]
     fn answer(&mut self, a: u64, answer: Result<Val, StuckReason>) -> Next
         requires at { self.old.at + 1 < 2 ^ 64 }
         requires ok { MachineOk self.old }
@@ -180,6 +184,7 @@ impl Machine {
         self.answer(a, unary(op, x))
     }
 
+    #[inline(always)]
     pub fn binary(&mut self, a: u64, op: CBinary, x: Val, y: Val) -> Next
         requires at { self.old.at + 1 < 2 ^ 64 }
         requires ok { MachineOk self.old }

@@ -156,6 +156,7 @@ fn mul_overflows(a: i64, b: i64) -> bool
     word::mul_ovf(a, b)
 }
 
+#[inline(always)]
 fn on_two_words(op: CBinary, a: i64, b: i64) -> Result<Val, StuckReason>
     ensures is { erase_answer result ≡ binary_of op (Value.Word a) (Value.Word b) }
     ensures plain { IfOk result IsPlain }
@@ -187,6 +188,7 @@ fn on_two_words(op: CBinary, a: i64, b: i64) -> Result<Val, StuckReason>
     }
 }
 
+#[inline(always)]
 pub fn binary(op: CBinary, x: Val, y: Val) -> Result<Val, StuckReason>
     ensures is { erase_answer result ≡ binary_of op (erase x) (erase y) }
     ensures plain { IfOk result IsPlain }

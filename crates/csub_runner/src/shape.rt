@@ -58,6 +58,7 @@ impl Shape {
         })
     }
 
+    #[inline(always)]
     fn has_base(&self, number: u64) -> bool
         ensures { result ≡ among number (self.now).bases }
     {
@@ -71,6 +72,7 @@ impl Shape {
     }
 
     // The place of a field among these values, or behind them.
+    #[inline(always)]
     fn place(&self, k: u64, values: &Vec<Val>) -> u64
         ensures { result ≡ min (place_of self.now k) (length values.now.items) }
     {
@@ -82,6 +84,7 @@ impl Shape {
     }
 }
 
+#[inline(always)]
 fn is_among(number: u64, list: &[u64]) -> bool
     ensures { result ≡ among number list.now }
 {
@@ -128,6 +131,7 @@ pub fn shapes_of(alloc: Global, structs: &[CStruct]) -> Result<Vec<Shape>, NoMem
 }
 
 /// Whether a struct is this one, or begins with it.
+#[inline(always)]
 pub fn begins_with(shapes: &Vec<Shape>, kind: u64, number: u64) -> bool
     ensures { result ≡ begins shapes.now.items kind number }
 {
@@ -148,6 +152,7 @@ pub fn size_of(shapes: &Vec<Shape>, kind: u64) -> u64
 }
 
 /// The place of a field of a struct among these values, or behind them.
+#[inline(always)]
 pub fn place(shapes: &Vec<Shape>, kind: u64, k: u64, values: &Vec<Val>) -> u64
     ensures { result ≡ min (place_of (shape_in shapes.now.items kind) k) (length values.now.items) }
 {

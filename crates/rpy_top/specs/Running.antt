@@ -11,7 +11,7 @@ use Rattle.csub_tree.specs.Checked.{IsChecked}
 use Rattle.csub_tree.specs.declared.tree.CFile.{CFile}
 use Rattle.csub_tree.specs.declared.stuck.StuckReason.{StuckReason}
 use Rattle.csub_tree.specs.declared.stuck.StuckReason.TheVariants.{Gone, Kind, Outside, Unset, BadFree, Signature, Word, Length, Cost, Argument}
-use Rattle.csub_reader.specs.Refused.{IsRefused, NamesDead}
+use Rattle.csub_reader.specs.Refused.{IsRefused}
 use Rattle.csub_reader.specs.declared.fault.CFault.{CFault}
 use Rattle.csub_reader.specs.declared.fault.CFault.TheVariants.{NotText, NotChecked, NoMem as NoMemToRead}
 use Rattle.csub_runner.specs.Run.{Runs, CauseOf}
@@ -116,7 +116,7 @@ RunsFile other c words out seen seen_now = ⊥
 -- where these bytes are run, they are the spelling of a C file that keeps the rules; else there is what is known of why they are refused
 abbrev pub RunsBytes : CWork → List ℕ → RunWords → Sunk → List Seen → List Seen → Type 0
 RunsBytes (Ran result) bytes words out seen seen_now = (c : CFile) × (bytes ≡ file_text c) × IsChecked c × RunsFile (Ran result) c words out seen seen_now
-RunsBytes (Refused why) bytes words out seen seen_now = IsRefused bytes why × NamesDead bytes why × IsQuiet out × (seen_now ≡ seen)
+RunsBytes (Refused why) bytes words out seen seen_now = IsRefused bytes why × IsQuiet out × (seen_now ≡ seen)
 RunsBytes Starved bytes words out seen seen_now = IsQuiet out × (seen_now ≡ seen)
 RunsBytes (Unread why) bytes words out seen seen_now = ⊥
 
