@@ -48,7 +48,14 @@ fn run_program(
 ) -> Result<(), NoMem> {
     let tree = resolved(alloc, program)?;
     let graphs = flow(alloc, program)?;
-    match run_graphs(alloc, &tree, &graphs, case.args.as_slice(), case.steps, TURNS)? {
+    match run_graphs(
+        alloc,
+        &tree,
+        &graphs,
+        case.args.as_slice(),
+        case.steps,
+        TURNS,
+    )? {
         None => text.append(b"@@ no ending"),
         Some(ran) => put_ran(alloc, &ran, text),
     }
