@@ -224,9 +224,11 @@ fn unwind(
     machine: &mut Machine,
     exception: usize,
 ) -> Result<Next, NoMem> {
-    while let Some(frame) = machine.frames.pop() {
-        if let Some(next) = catch(alloc, program, graphs, machine, frame, exception)? {
-            return Ok(next);
+    for _call in 0..machine.frames.len() {
+        if let Some(frame) = machine.frames.pop() {
+            if let Some(next) = catch(alloc, program, graphs, machine, frame, exception)? {
+                return Ok(next);
+            }
         }
     }
     raised(alloc, program, machine, exception)
@@ -260,8 +262,8 @@ fn parameters(
     if function.takes_more || function.defaults.len() < values.len() {
         return Ok(None);
     }
-    while values.len() < function.defaults.len() {
-        match default_at(alloc, program, function.defaults.as_slice(), values.len())? {
+    for place in values.len()..function.defaults.len() {
+        match default_at(alloc, program, function.defaults.as_slice(), place)? {
             None => return Ok(None),
             Some(value) => values.push(value)?,
         }
@@ -352,7 +354,7 @@ fn give(graphs: &Graphs, machine: &mut Machine, frame: Frame, value: Val) -> Res
         variable: op.result,
         value: Some(value),
     })?;
-    frame.op += 1;
+    frame.op = frame.op.saturating_add(1);
     machine.frames.push(frame)?;
     Ok(Next::Go)
 }
