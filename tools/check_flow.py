@@ -41,7 +41,6 @@ class Programs:
 
     def add(self, name, files, sources, args, smaller):
         annotated = self.oracle.front(files, sources, 15)
-        args = ['program'] + args
         steps, full = self.wanted(annotated, args, MOST)
         bounds = {MOST: full}
         for k in range(smaller):
@@ -50,9 +49,9 @@ class Programs:
         modules = b''.join(
             piece(os.path.basename(file).rsplit('.py', 1)[0].encode()) + piece(source)
             for file, source in zip(files, sources))
-        words = b''.join(piece(arg.encode('latin-1')) for arg in args)
+        words = b''.join(piece(arg.encode('latin-1')) for arg in ['program'] + args)
         for bound, want in sorted(bounds.items()):
-            case = b'%d\n%d\n%s%d\n%s' % (bound, len(args), words, len(files), modules)
+            case = b'%d\n%d\n%s%d\n%s' % (bound, 1 + len(args), words, len(files), modules)
             self.waiting.append(('%s, %d steps' % (name, bound), case, want))
         self.programs += 1
         if len(self.waiting) >= BATCH:
@@ -100,10 +99,10 @@ def fuzz(programs, generate, count):
         if time.time() - programs.start > SECONDS:
             print('flow: stopped after %d seconds' % SECONDS)
             return
-        files = generate(seed, 5)
-        sources = [text if isinstance(text, bytes) else text.encode('latin-1') for _, text in files]
+        made = generate(seed, 5)
+        sources = [text.encode('latin-1') for _, text in made.files]
         try:
-            programs.add('seed %d' % seed, [name for name, _ in files], sources, [], 3)
+            programs.add('seed %d' % seed, [name for name, _ in made.files], sources, list(made.args), 3)
         except programs.oracle.Refused:
             pass
 
