@@ -47,7 +47,7 @@ def main():
             worst = max(worst, size / before if before else 0)
             print('%d %s: status %d, %d bytes%s, %.2f s' % (many, name, status, size, growth, seconds))
             before = size
-    return 0 if worst < 2.1 else 1
+    return 0 if worst < 2.2 else 1
 
 
 if __name__ == '__main__':
