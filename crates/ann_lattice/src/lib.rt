@@ -4,16 +4,16 @@
 mod compare;
 mod container;
 mod instance;
-mod join;
 mod method;
 mod number;
 mod order;
-mod row;
+mod table;
 mod text;
+mod upper;
 mod walk;
 
 pub use compare::truth_of;
-pub use join::join;
 pub use method::{Method, fits_none, method_of};
 pub use order::{below, is_key};
-pub use row::{row, row_of};
+pub use table::{row, row_of};
+pub use upper::join;

@@ -162,8 +162,7 @@ fn reference_below(classes: &Classes, same: &Sites, a: &Element, b: &Element) ->
         },
         Element::Func(functions, none) => match b {
             Element::Func(others, more) => {
-                functions_below(functions.as_slice(), others.as_slice())
-                    && mark_below(*none, *more)
+                functions_below(functions.as_slice(), others.as_slice()) && mark_below(*none, *more)
             }
             _ => false,
         },

@@ -1,5 +1,7 @@
 // The least element above two others.
-use ann_element::{Element, Sites, copy_element, copy_functions, depth_of, is_bool, is_conflict, is_int};
+use ann_element::{
+    Element, Sites, copy_element, copy_functions, depth_of, is_bool, is_conflict, is_int,
+};
 use class_desc::Classes;
 use rpy_base::{NoMem, Seq};
 use rpy_tree::{FunId, SiteId};
@@ -172,11 +174,7 @@ fn push_rising(functions: &mut Seq<FunId>, function: FunId) -> Result<(), NoMem>
     functions.push(function)
 }
 
-fn union(
-    a: &[FunId],
-    b: &[FunId],
-    joined: &mut Seq<FunId>,
-) -> Result<(), NoMem> {
+fn union(a: &[FunId], b: &[FunId], joined: &mut Seq<FunId>) -> Result<(), NoMem> {
     match a {
         [] => push_all(b, joined),
         [first, further @ ..] => match b {
@@ -211,11 +209,7 @@ fn join_sites(same: &mut Sites, a: SiteId, b: SiteId) -> SiteId {
     same.leader(a)
 }
 
-fn join_instances(
-    classes: &Classes,
-    a: ClassMark,
-    b: ClassMark,
-) -> Element {
+fn join_instances(classes: &Classes, a: ClassMark, b: ClassMark) -> Element {
     match classes.common_base(a.class, b.class) {
         None => Element::Conflict(None, None),
         Some(class) => Element::Instance(class, a.none || b.none),
@@ -228,12 +222,7 @@ struct ClassMark {
     none: bool,
 }
 
-fn join_functions(
-    alloc: Global,
-    a: &[FunId],
-    b: &[FunId],
-    none: bool,
-) -> Result<Element, NoMem> {
+fn join_functions(alloc: Global, a: &[FunId], b: &[FunId], none: bool) -> Result<Element, NoMem> {
     let mut joined = Seq::new(alloc);
     union(a, b, &mut joined)?;
     Ok(Element::Func(joined, none))
@@ -369,7 +358,15 @@ fn join_reached(
         Element::NoneOnly => join_none(alloc, same, a, b),
         Element::Tuple(parts) => match b {
             Element::Tuple(others) => {
-                join_tuples(alloc, classes, same, a, b, parts.as_slice(), others.as_slice())
+                join_tuples(
+                    alloc,
+                    classes,
+                    same,
+                    a,
+                    b,
+                    parts.as_slice(),
+                    others.as_slice(),
+                )
             }
             _ => Ok(clash(same, a, b)),
         },
