@@ -1,0 +1,3 @@
+pub mod Displays
+pub mod Turns
+mod Rows

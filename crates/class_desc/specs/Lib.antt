@@ -1,0 +1,3 @@
+pub mod Line
+pub mod Stores
+pub mod Tables
