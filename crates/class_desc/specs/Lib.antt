@@ -1,3 +1,4 @@
 pub mod Line
+pub mod Range
 pub mod Stores
 pub mod Tables

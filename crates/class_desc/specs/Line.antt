@@ -1,5 +1,5 @@
 -- Classes, each with its bases.
-use Rattle.std.specs.Prelude.{ℕ, zero, suc, ◌==◌, Bool, true, false, if◌then◌else◌, List, [], ◌∷◌, ◌++◌, length, find, slice_get, Option, Some, None}
+use Rattle.std.specs.Prelude.{ℕ, zero, suc, ◌==◌, Bool, true, false, if◌then◌else◌, List, [], ◌∷◌, ◌++◌, length, find, slice_get, Option, Some, None, codes}
 use Rattle.std.specs.Str.{bytes_eq}
 use Rattle.std.specs.List.{list_any}
 use Rattle.rpy_tree.specs.declared.program.ClassInfo.{ClassInfo}
@@ -73,6 +73,10 @@ own_constant classes name c = named name (constants_in (slice_get classes c))
 -- the nearest method of a name among a class and its bases
 abbrev pub method : List ClassInfo → ℕ → List ℕ → Option ℕ
 method classes c name = nearest (own_method classes name) (above classes c)
+
+-- what is called with a new instance
+abbrev pub init : List ClassInfo → ℕ → Option ℕ
+init classes c = method classes c (codes "__init__")
 
 -- the nearest class-level constant of a name
 abbrev pub constant : List ClassInfo → ℕ → List ℕ → Option Const

@@ -2,10 +2,13 @@
 ghost use Rattle.std.specs.Prelude.{◌≡◌, IfOk, OnOk, [], length, unwrap_or, slice_get};
 ghost use Rattle.std.specs.Option.{option_copied};
 ghost use Rattle.class_desc.specs.Line as line;
+ghost use Rattle.class_desc.specs.Range as numbers;
 ghost use Rattle.class_desc.specs.Tables as spec;
 
+use crate::line::base_of;
 use crate::names::Names;
 use crate::own::attributes_of;
+use crate::range::ranges_of;
 use rpy_base::{NoMem, Seq, Text};
 use rpy_copies::copy_const;
 use rpy_tree::{ClassId, ClassInfo, Const, FunId, Program};
@@ -17,10 +20,13 @@ use std::marker::Model;
 pub struct Classes {
     infos: Seq<ClassInfo>,
     attributes: Seq<Names>,
+    spans: Seq<(u32, u32)>,
 }
 
 impl Model for Classes {
+    ghost use Rattle.std.specs.Prelude.{◌≡◌};
     ghost use Rattle.std.specs.Coded.{codes};
+    ghost use Rattle.class_desc.specs.Range.{ranges};
     ghost use Rattle.rpy_tree.specs.contracts.program.Const as constant;
     ghost use Rattle.class_desc.specs.Tables.{Tables};
 
@@ -29,6 +35,8 @@ impl Model for Classes {
     ghost coded = { Prim.hlevel (codes, constant.the_row.coded) };
 
     ghost view = { λ c. record { classes = c.infos; attributes = c.attributes } };
+
+    ghost invariant = { λ c. c.spans ≡ ranges c.infos };
 }
 
 fn copy_constants(alloc: Global, constants: &[(Text, Const)]) -> Result<Seq<(Text, Const)>, NoMem>
@@ -77,15 +85,6 @@ fn copy_classes(alloc: Global, infos: &[ClassInfo]) -> Result<Seq<ClassInfo>, No
     Ok(copies)
 }
 
-fn base_of(infos: &[ClassInfo], class: ClassId) -> Option<ClassId>
-    ensures { result ≡ line.base infos.now class }
-{
-    match infos.get(class as usize) {
-        None => None,
-        Some(info) => info.base,
-    }
-}
-
 #[tactic(auto, using(crate::proofs::Turns::line_turn))]
 fn is_below(infos: &[ClassInfo], c: ClassId, d: ClassId) -> bool
     ensures { result ≡ line.is_below infos.now c d }
@@ -120,18 +119,18 @@ fn common_base(infos: &[ClassInfo], c: ClassId, d: ClassId) -> Option<ClassId>
     None
 }
 
-fn method_named(methods: &[(Text, FunId)], name: &Text) -> Option<FunId>
+fn method_named(methods: &[(Text, FunId)], name: &[u8]) -> Option<FunId>
     ensures { result ≡ line.named name.now methods.now }
 {
     for method in methods {
-        if method.0 == *name {
+        if method.0.bytes() == name {
             return Some(method.1);
         }
     }
     None
 }
 
-fn own_method(infos: &[ClassInfo], class: ClassId, name: &Text) -> Option<FunId>
+fn own_method(infos: &[ClassInfo], class: ClassId, name: &[u8]) -> Option<FunId>
     ensures { result ≡ line.own_method infos.now name.now class }
 {
     match infos.get(class as usize) {
@@ -141,7 +140,7 @@ fn own_method(infos: &[ClassInfo], class: ClassId, name: &Text) -> Option<FunId>
 }
 
 #[tactic(auto, using(crate::proofs::Turns::line_turn))]
-fn method_of(infos: &[ClassInfo], c: ClassId, name: &Text) -> Option<FunId>
+fn method_of(infos: &[ClassInfo], c: ClassId, name: &[u8]) -> Option<FunId>
     ensures { result ≡ line.method infos.now c name.now }
 {
     let mut class = c;
@@ -248,9 +247,13 @@ impl Classes {
     pub fn new(alloc: Global, program: &Program) -> Result<Classes, NoMem>
         ensures { IfOk result (λ classes. classes ≡ spec.tables program.now) }
     {
+        let infos = copy_classes(alloc, program.classes.as_slice())?;
+        let attributes = attributes_of(alloc, program.modules.as_slice())?;
+        let spans = ranges_of(alloc, infos.as_slice())?;
         Ok(Classes {
-            infos: copy_classes(alloc, program.classes.as_slice())?,
-            attributes: attributes_of(alloc, program.modules.as_slice())?,
+            infos,
+            attributes,
+            spans,
         })
     }
 
@@ -286,7 +289,14 @@ impl Classes {
     pub fn method(&self, c: ClassId, name: &Text) -> Option<FunId>
         ensures { result ≡ line.method self.now.classes c name.now }
     {
-        method_of(self.infos.as_slice(), c, name)
+        method_of(self.infos.as_slice(), c, name.bytes())
+    }
+
+    /// The nearest `__init__` among c and its bases.
+    pub fn init(&self, c: ClassId) -> Option<FunId>
+        ensures { result ≡ line.init self.now.classes c }
+    {
+        method_of(self.infos.as_slice(), c, b"__init__".as_slice())
     }
 
     /// The nearest class-level constant of a name among c and its bases.
@@ -301,6 +311,19 @@ impl Classes {
         ensures { result ≡ spec.home self.now c name.now }
     {
         home_of(self.infos.as_slice(), self.attributes.as_slice(), c, name)
+    }
+
+    /// The number of a class, and the end of the numbers of those below it: a class is below c exactly
+    /// where its own number lies in this half-open range.
+    #[tactic(auto, using(crate::proofs::Exact::exact))]
+    pub fn range(&self, c: ClassId) -> (u32, u32)
+        ensures value { result ≡ numbers.range self.now.classes c }
+        ensures exact { numbers.IsForest self.now.classes → numbers.IsExact self.now.classes }
+    {
+        match self.spans.get(c as usize) {
+            None => (0, 0),
+            Some(range) => *range,
+        }
     }
 
     /// How many attributes the class itself declares.

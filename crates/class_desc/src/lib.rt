@@ -2,8 +2,10 @@
 #![tactic(auto)]
 
 mod classes;
+mod line;
 mod names;
 mod own;
+mod range;
 mod stores;
 #[cfg(test)]
 mod tests;
