@@ -170,6 +170,20 @@ fn classes_have_their_bases(rt: HostRuntime) -> Result<(), Fail> {
 }
 
 #[test]
+fn those_below_a_class_have_the_numbers_of_its_range(rt: HostRuntime) -> Result<(), Fail> {
+    let classes = Classes::new(rt.alloc(), &program(rt.alloc())?)?;
+    for c in 0..15 {
+        let (number, _) = classes.range(c);
+        for d in 0..15 {
+            let (first, end) = classes.range(d);
+            let within = first <= number && number < end;
+            assert_eq!(rt; classes.below(c, d), within, "{c} {d}");
+        }
+    }
+    Ok(())
+}
+
+#[test]
 fn attributes_have_homes(rt: HostRuntime) -> Result<(), Fail> {
     let alloc = rt.alloc();
     let classes = Classes::new(alloc, &program(alloc)?)?;
@@ -196,6 +210,7 @@ fn methods_and_constants_are_the_nearest(rt: HostRuntime) -> Result<(), Fail> {
     assert_eq!(rt; classes.method(14, &text(alloc, "f")?), Some(0));
     assert_eq!(rt; classes.method(14, &text(alloc, "g")?), Some(1));
     assert_eq!(rt; classes.method(13, &text(alloc, "g")?), None);
+    assert_eq!(rt; classes.init(14), None);
     let nearest = match classes.constant(14, &text(alloc, "k")?) {
         Some(Const::Word(word)) => *word,
         _ => 0,

@@ -1,0 +1,3 @@
+pub mod AnnotationText
+pub mod ElementText
+pub mod PartText
