@@ -794,7 +794,34 @@ fn put_result(
     if changed && state.is_in_conflict(cell) {
         return Err(conflict_at(state, around, op, xs)?);
     }
+    put_statement(state, around, op, e, xs)
+}
+
+// The new value of an augmented assignment is the element of its statement.
+fn put_statement(
+    state: &mut State,
+    around: Around<'_>,
+    op: &Op,
+    e: &Element,
+    xs: &[Element],
+) -> Result<(), AnnFault> {
+    if op.value || !is_augmented(&op.op) {
+        return Ok(());
+    }
+    let cell = around.plan.node(op.node);
+    let changed = state.raise(around, cell, e)?;
+    if changed && state.is_in_conflict(cell) {
+        return Err(conflict_at(state, around, op, xs)?);
+    }
     Ok(())
+}
+
+fn is_augmented(op: &RowOp) -> bool {
+    match op {
+        RowOp::Binary(_, _) => true,
+        RowOp::AddTo => true,
+        _ => false,
+    }
 }
 
 fn result_is_unreached(state: &State, around: Around<'_>, graph: usize, op: &Op) -> bool {

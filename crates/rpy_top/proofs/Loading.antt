@@ -1,8 +1,8 @@
 -- One more file after the first ones.
 use Rattle.std.proofs.Common.{◌≡◌, ℕ, zero, suc, ◌+◌, ◌≤◌, List, [], ◌∷◌, ◌++◌, length, get_or, Option, Some, None, Result, Ok, Err, refl, sym, ap, subst, ◌∙◌, arith, true, false, inl, inr}
 use Rattle.std.specs.Prelude.{slice_get, nat_lt, nat_le, map, IfSome}
-use Rattle.rpy_first.specs.declared.fault.TranslateFault.{TranslateFault}
-use Rattle.rpy_first.specs.declared.fault.TranslateFault.TheVariants as fault
+use Rattle.rpy_top.specs.declared.fault.TranslateFault.{TranslateFault}
+use Rattle.rpy_top.specs.declared.fault.TranslateFault.TheVariants as fault
 use Rattle.rpy_top.specs.Command.{module_name}
 use Rattle.std.proofs.lemmas.Bool.Decides.{nat_tests}
 use Rattle.rpy_base.specs.Reading.{Disk}
@@ -89,6 +89,8 @@ put_ends task names files text out of read took = ((of.0, of.1, (text, of.2, too
 by_fault : (task : Task) (names sources : List (List ℕ)) (files : Filed) (out : Sunk) (f : TranslateFault) → AreSources files names sources → WritesTo task sources (map module_name names) (Err f) → AllRead files → IsQuiet out → BuildsTo task (untranslated f) names files out
 by_fault task names sources files out (fault.Source file line kind) are t read quiet = ((sources, are, t), quiet, read)
 by_fault task names sources files out (fault.Name file line kind) are t read quiet = ((sources, are, t), quiet, read)
+by_fault task names sources files out (fault.Conflict file line words) are t read quiet = ((sources, are, t), quiet, read)
+by_fault task names sources files out (fault.Typing file line kind) are t read quiet = ((sources, are, t), quiet, read)
 by_fault task names sources files out fault.NotYet are t read quiet = (refl, (sources, are, t), quiet, read)
 by_fault task names sources files out fault.NoMem are t read quiet = (read, quiet)
 

@@ -13,14 +13,16 @@ use Rattle.rpy_top.specs.Lower.{lowered}
 use Rattle.rpy_top.specs.Built.{Built}
 use Rattle.rpy_nodes.specs.declared.listing.Named.{Named}
 use Rattle.rpy_front.specs.Modules.{AreModules}
-use Rattle.rpy_first.specs.declared.fault.TranslateFault.{TranslateFault}
-use Rattle.rpy_first.specs.declared.fault.TranslateFault.TheVariants.{Source, Name, NotYet, NoMem}
+use Rattle.rpy_first.specs.declared.fault.TranslateFault.{TranslateFault as FrontFault}
+use Rattle.rpy_first.specs.declared.fault.TranslateFault.TheVariants as front
+use Rattle.rpy_top.specs.declared.fault.TranslateFault.{TranslateFault}
+use Rattle.rpy_top.specs.declared.fault.TranslateFault.TheVariants.{Source, Name, Conflict, Typing, NotYet, NoMem}
 use Rattle.rpy_first.specs.Gives.{Gives}
 use Rattle.rpy_names.specs.Resolve.{prog}
 use Rattle.rpy_tree.specs.declared.program.Program.{Program}
-use Rattle.rpy_top.specs.Answer.{TranslatesBody, Sunk, Says, SaysLine, text_of, only_body, TranslatesModules, DrawsModules, WritesModules, WritesTo}
+use Rattle.rpy_top.specs.Answer.{IsCheck, IsChecked, WritesProgram, Sunk, Says, SaysLine, text_of, only_body, WritesModules, WritesTo}
 use Rattle.rpy_top.specs.declared.job.Task.{Task}
-use Rattle.rpy_top.specs.declared.job.Task.TheVariants.{Build, Flow}
+use Rattle.rpy_top.specs.declared.job.Task.TheVariants.{Build, Check, Annotate, Flow}
 use Rattle.rpy_top.specs.declared.status.Status.{Status}
 use Rattle.rpy_first.specs.declared.body.Body.{Body}
 use Rattle.rpy_top.proofs.Abstract.{and_left, and_right, eq_of}
@@ -75,16 +77,19 @@ built_only name (m ∷ n ∷ ms) body text named is_path is = absurd (none_some 
 
 -- what becomes of sources is what becomes of their modules
 pub written : (task : Task) (sources names : List (List ℕ)) (ms : List Named) (r : Result (List ℕ) TranslateFault) → AreModules sources names ms → WritesModules task ms r → WritesTo task sources names r
-written Build sources names ms (Ok text) are t = record { modules = ms; make = record { are = are; program = t.0.0; is = t.0.1 }; body = t.1.0; is = t.1.1; built = t.1.2 }
-written Build sources names ms (Err (Source file line kind)) are t = absurd t
-written Build sources names ms (Err (Name file line kind)) are t = record { modules = ms; are = are; misnamed = t }
-written Build sources names ms (Err NotYet) are t = record { modules = ms; make = record { are = are; program = t.0.0; is = t.0.1 }; is_none = t.1 }
-written Build sources names ms (Err NoMem) are t = tt
+written Build sources names ms (Ok text) are t = record { modules = ms; make = record { are = are; program = t.0; is = t.1 }; body = t.2.0; is = t.2.1; built = t.2.2 }
+written Check sources names ms (Ok text) are t = record { modules = ms; make = record { are = are; program = t.0; is = t.1 }; is = t.2 }
+written Annotate sources names ms (Ok text) are t = record { modules = ms; make = record { are = are; program = t.0; is = t.1 }; annotates = t.2 }
 written Flow sources names ms (Ok text) are t = record { modules = ms; make = record { are = are; program = t.0; is = t.1 }; draws = t.2 }
-written Flow sources names ms (Err (Source file line kind)) are t = absurd t
-written Flow sources names ms (Err (Name file line kind)) are t = record { modules = ms; are = are; misnamed = t }
-written Flow sources names ms (Err NotYet) are t = absurd t
-written Flow sources names ms (Err NoMem) are t = tt
+written task sources names ms (Err (Source file line kind)) are t = absurd t
+written task sources names ms (Err (Name file line kind)) are t = record { modules = ms; are = are; misnamed = t }
+written task sources names ms (Err (Conflict file line words)) are t = record { modules = ms; make = record { are = are; program = t.0; is = t.1 }; checked = t.2 }
+written task sources names ms (Err (Typing file line kind)) are t = record { modules = ms; make = record { are = are; program = t.0; is = t.1 }; checked = t.2 }
+written Build sources names ms (Err NotYet) are t = record { modules = ms; make = record { are = are; program = t.0; is = t.1 }; is_none = t.2 }
+written Check sources names ms (Err NotYet) are t = absurd t.2
+written Annotate sources names ms (Err NotYet) are t = absurd t.2
+written Flow sources names ms (Err NotYet) are t = absurd t.2
+written task sources names ms (Err NoMem) are t = tt
 
 pub module_named : (name : List ℕ) → is_module_name name ≡ true → is_name name ≡ true
 module_named name h = and_left (is_name name) _ (and_left (is_name name && not (is_keyword name)) _ h)
@@ -115,14 +120,43 @@ pub said_line : {N : Type 0} (status answered : Status) (text : Result (List ℕ
 said_line status answered (Ok t) wanted err e s = subst (λ x. Says status answered x err) e s
 said_line status answered (Err n) wanted err e s = inr (inr s)
 
--- what becomes of modules that make a program is what becomes of the only body
-pub of_body : (name : List ℕ) (ms : List Named) (p : Program) (found : Result Body TranslateFault) (r : Result (List ℕ) TranslateFault) → is_name name ≡ true → prog ms ≡ Some p → Gives (only_body ms) found → TranslatesBody name found r → TranslatesModules ms r
-of_body name ms p (Ok body) (Ok text) named is gives t = ((p, is), (body, gives, built_only name ms body text named gives t))
-of_body name ms p (Ok body) (Err NoMem) named is gives t = tt
-of_body name ms p (Ok body) (Err NotYet) named is gives t = absurd t
-of_body name ms p (Ok body) (Err (Source file line kind)) named is gives t = absurd t
-of_body name ms p (Ok body) (Err (Name file line kind)) named is gives t = absurd t
-of_body name ms p (Err NotYet) r named is gives t = subst (λ x. TranslatesModules ms x) (sym t) ((p, is), gives)
-of_body name ms p (Err NoMem) r named is gives t = subst (λ x. TranslatesModules ms x) (sym t) tt
-of_body name ms p (Err (Source file line kind)) r named is gives t = absurd gives
-of_body name ms p (Err (Name file line kind)) r named is gives t = absurd gives
+-- a refusal by the checks
+of_check : (task : Task) (ms : List Named) (p : Program) (fault : TranslateFault) → prog ms ≡ Some p → IsChecked task ms → IsCheck fault → WritesModules task ms (Err fault)
+of_check task ms p (Source file line kind) is checked t = absurd t
+of_check task ms p (Name file line kind) is checked t = absurd t
+of_check task ms p (Conflict file line words) is checked t = (p, is, checked)
+of_check task ms p (Typing file line kind) is checked t = (p, is, checked)
+of_check task ms p NotYet is checked t = absurd t
+of_check task ms p NoMem is checked t = tt
+
+-- what becomes of modules that make a program is what becomes of the program
+pub of_program : (task : Task) (name : List ℕ) (ms : List Named) (p : Program) (found : Result Body FrontFault) (r : Result (List ℕ) TranslateFault) → is_name name ≡ true → prog ms ≡ Some p → Gives (only_body ms) found → WritesProgram task name p found r → WritesModules task ms r
+of_program Build name ms p (Ok body) (Ok text) named is gives t = (p, is, (body, gives, built_only name ms body text named gives t))
+of_program Build name ms p (Ok body) (Err NoMem) named is gives t = tt
+of_program Build name ms p (Ok body) (Err (Source file line kind)) named is gives t = absurd t
+of_program Build name ms p (Ok body) (Err (Name file line kind)) named is gives t = absurd t
+of_program Build name ms p (Ok body) (Err (Conflict file line words)) named is gives t = absurd t
+of_program Build name ms p (Ok body) (Err (Typing file line kind)) named is gives t = absurd t
+of_program Build name ms p (Ok body) (Err NotYet) named is gives t = absurd t
+of_program Build name ms p (Err front.NotYet) (Ok text) named is gives t = absurd t
+of_program Build name ms p (Err front.NotYet) (Err (Source file line kind)) named is gives t = absurd t
+of_program Build name ms p (Err front.NotYet) (Err (Name file line kind)) named is gives t = absurd t
+of_program Build name ms p (Err front.NotYet) (Err (Conflict file line words)) named is gives t = (p, is, gives)
+of_program Build name ms p (Err front.NotYet) (Err (Typing file line kind)) named is gives t = (p, is, gives)
+of_program Build name ms p (Err front.NotYet) (Err NotYet) named is gives t = (p, is, gives)
+of_program Build name ms p (Err front.NotYet) (Err NoMem) named is gives t = tt
+of_program Build name ms p (Err front.NoMem) (Ok text) named is gives t = absurd t
+of_program Build name ms p (Err front.NoMem) (Err (Source file line kind)) named is gives t = absurd t
+of_program Build name ms p (Err front.NoMem) (Err (Name file line kind)) named is gives t = absurd t
+of_program Build name ms p (Err front.NoMem) (Err (Conflict file line words)) named is gives t = absurd t
+of_program Build name ms p (Err front.NoMem) (Err (Typing file line kind)) named is gives t = absurd t
+of_program Build name ms p (Err front.NoMem) (Err NotYet) named is gives t = absurd t
+of_program Build name ms p (Err front.NoMem) (Err NoMem) named is gives t = tt
+of_program Build name ms p (Err (front.Source file line kind)) r named is gives t = absurd gives
+of_program Build name ms p (Err (front.Name file line kind)) r named is gives t = absurd gives
+of_program Check name ms p found (Ok text) named is gives t = (p, is, t)
+of_program Check name ms p found (Err fault) named is gives t = of_check Check ms p fault is tt t
+of_program Annotate name ms p found (Ok text) named is gives t = (p, is, t)
+of_program Annotate name ms p found (Err fault) named is gives t = of_check Annotate ms p fault is tt t
+of_program Flow name ms p found (Ok text) named is gives t = (p, is, t)
+of_program Flow name ms p found (Err fault) named is gives t = of_check Flow ms p fault is tt t

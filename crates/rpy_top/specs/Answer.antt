@@ -8,27 +8,35 @@ use Rattle.rpy_top.specs.Lower.{lowered}
 use Rattle.rpy_first.specs.Gives.{Gives}
 use Rattle.rpy_first.specs.Program.{program_of}
 use Rattle.rpy_top.specs.Built.{Built}
-use Rattle.rpy_first.specs.declared.fault.TranslateFault.{TranslateFault}
-use Rattle.rpy_first.specs.declared.fault.TranslateFault.TheVariants.{Source as Refused, Name as NoProgram, NotYet as Unready, NoMem as NoMemory}
+use Rattle.rpy_first.specs.declared.fault.TranslateFault.{TranslateFault as FrontFault}
+use Rattle.rpy_first.specs.declared.fault.TranslateFault.TheVariants as front
+use Rattle.rpy_checked.specs.declared.fault.CheckFault.{CheckFault}
+use Rattle.rpy_checked.specs.declared.fault.CheckFault.TheVariants as check
+use Rattle.rpy_checked.specs.declared.fault.TypeKind.{TypeKind}
+use Rattle.rpy_checked.specs.Words.{words_of as type_words}
+use Rattle.ann_text.specs.AnnotationText.{annotation_text}
+use Rattle.ann_element.specs.declared.annotation.Annotation.{Annotation}
+use Rattle.rpy_top.specs.declared.fault.TranslateFault.{TranslateFault}
+use Rattle.rpy_top.specs.declared.fault.TranslateFault.TheVariants.{Source as Refused, Name as NoProgram, Conflict as InConflict, Typing as NoTypes, NotYet as Unready, NoMem as NoMemory}
 use Rattle.rpy_first.specs.declared.fault.NameKind.{NameKind}
-use Rattle.rpy_first.specs.Source.{refusal}
+use Rattle.rpy_first.specs.Source.{refusal, line_at}
 use Rattle.rpy_nodes.specs.declared.listing.Named.{Named}
 use Rattle.rpy_names.specs.Resolve.{prog}
 use Rattle.rpy_front.specs.Modules.{AreModules, StopsAt as IsRefusedAt}
 use Rattle.rpy_front.specs.Names.{IsMisnamed, name_refusal}
 use Rattle.rpy_tree.specs.declared.program.Program.{Program}
 use Rattle.rpy_top.specs.declared.building.BuildWork.{BuildWork}
-use Rattle.rpy_top.specs.declared.building.BuildWork.TheVariants.{Ended, AtFile, Refused as RefusedAt, Misnamed}
+use Rattle.rpy_top.specs.declared.building.BuildWork.TheVariants.{Ended, AtFile, Refused as RefusedAt, Misnamed, Conflicts, Untypable}
 use Rattle.rpy_top.specs.Command.{Brought, Writing, Running as RunningFile, NotThere, module_name}
 use Rattle.rpy_top.specs.declared.job.Task.{Task}
-use Rattle.rpy_top.specs.declared.job.Task.TheVariants.{Build, Flow}
+use Rattle.rpy_top.specs.declared.job.Task.TheVariants.{Build, Check, Annotate, Flow}
 use Rattle.rpy_resolved.specs.Label.{class_labels, function_labels}
 use Rattle.flow_graph.specs.GraphText.{graphs_text}
 use Rattle.flow_graph.specs.Whole.{Covers}
 use Rattle.flow_graph.specs.declared.graph.Graphs.{Graphs}
 use Rattle.rpy_first.specs.declared.body.Body.{Body}
 use Rattle.rpy_top.specs.declared.status.Status.{Status}
-use Rattle.rpy_top.specs.declared.status.Status.TheVariants.{Done, Usage, NotSource, NotProgram, TooMany, NotC, Stuck, NoFile, NotRead, WriteFault, Raised, Failed, Running, NoMem, WorkSpent, TooLong, NotYet}
+use Rattle.rpy_top.specs.declared.status.Status.TheVariants.{Done, Usage, NotSource, NotProgram, Conflicting, Untyped, TooMany, NotC, Stuck, NoFile, NotRead, WriteFault, Raised, Failed, Running, NoMem, WorkSpent, TooLong, NotYet}
 
 abbrev pub code : Status → ℕ
 code Done = 0
@@ -47,6 +55,8 @@ code WorkSpent = 14
 code TooLong = 15
 code NotYet = 16
 code NotProgram = 3
+code Conflicting = 4
+code Untyped = 5
 code TooMany = 15
 
 -- how many bytes a source may have
@@ -154,9 +164,33 @@ pub record Draws (sources names : List (List ℕ)) (text : List ℕ) : Type 0 wh
   pub make : AreProgram sources names modules
   pub draws : DrawsProgram make.program text
 
+-- the text says that the program has types
+abbrev pub approval : List ℕ
+approval = codes "ok\n"
+
+pub record Approves (sources names : List (List ℕ)) (text : List ℕ) : Type 0 where
+  pub modules : List Named
+  pub make : AreProgram sources names modules
+  pub is : text ≡ approval
+
+-- the text is that of an annotation of the program, by graphs of its functions
+pub record AnnotatesProgram (program : Program) (text : List ℕ) : Type 0 where
+  pub graphs : Graphs
+  pub covers : Covers program graphs
+  pub annotation : Annotation
+  pub is : text ≡ annotation_text program graphs annotation
+
+-- and the program is what the sources are
+pub record Annotates (sources names : List (List ℕ)) (text : List ℕ) : Type 0 where
+  pub modules : List Named
+  pub make : AreProgram sources names modules
+  pub annotates : AnnotatesProgram make.program text
+
 -- what is written of the program that the sources are
 abbrev pub Writes : Task → List (List ℕ) → List (List ℕ) → List ℕ → Type 0
 Writes Build sources names text = Translates sources names text
+Writes Check sources names text = Approves sources names text
+Writes Annotate sources names text = Annotates sources names text
 Writes Flow sources names text = Draws sources names text
 
 -- the sources are a program, which is not of one module of the first path
@@ -165,52 +199,103 @@ pub record IsNotYet (sources names : List (List ℕ)) : Type 0 where
   pub make : AreProgram sources names modules
   pub is_none : only_body modules ≡ None
 
+-- whether this is asked of modules that are checked first: a C text of one module of the first path is written at once
+abbrev pub IsChecked : Task → List Named → Type 0
+IsChecked Build ms = only_body ms ≡ None
+IsChecked task ms = Unit {0}
+
+-- the sources are a program that is checked first
+pub record AreChecked (task : Task) (sources names : List (List ℕ)) : Type 0 where
+  pub modules : List Named
+  pub make : AreProgram sources names modules
+  pub checked : IsChecked task modules
+
 -- the sources are modules, which make no program
 pub record AreNoProgram (sources names : List (List ℕ)) (file line : ℕ) (kind : NameKind) : Type 0 where
   pub modules : List Named
   pub are : AreModules sources names modules
   pub misnamed : IsMisnamed modules file line kind
 
--- what functions ensure that give the only body, and write its text
-abbrev pub OnlyBody : List Named → Result Body TranslateFault → Type 0
+-- causes why nothing is written, from those of the layers below
+abbrev pub front_fault : FrontFault → TranslateFault
+front_fault (front.Source file line kind) = Refused file line kind
+front_fault (front.Name file line kind) = NoProgram file line kind
+front_fault front.NotYet = Unready
+front_fault front.NoMem = NoMemory
+
+abbrev pub check_fault : CheckFault → TranslateFault
+check_fault (check.Conflict file line words) = InConflict file line words
+check_fault (check.Typing file line kind) = NoTypes file line kind
+check_fault check.NoMem = NoMemory
+
+-- what a function ensures that gives the only body
+abbrev pub OnlyBody : List Named → Result Body FrontFault → Type 0
 OnlyBody ms found = Gives (only_body ms) found
 
-abbrev pub TranslatesBody : List ℕ → Result Body TranslateFault → Result (List ℕ) TranslateFault → Type 0
-TranslatesBody name (Ok body) (Ok text) = text ≡ text_of name body
-TranslatesBody name (Ok body) (Err NoMemory) = Unit {0}
-TranslatesBody name (Ok body) (Err fault) = ⊥
-TranslatesBody name (Err fault) result = result ≡ Err fault
+-- the program was refused by its checks, or there was no memory
+abbrev pub IsCheck : TranslateFault → Type 0
+IsCheck (InConflict file line words) = Unit {0}
+IsCheck (NoTypes file line kind) = Unit {0}
+IsCheck NoMemory = Unit {0}
+IsCheck fault = ⊥
 
--- what a call that translates modules answers
-abbrev pub TranslatesModules : List Named → Result (List ℕ) TranslateFault → Type 0
-TranslatesModules ms (Ok text) = ((p : Program) × (prog ms ≡ Some p)) × ((body : Body) × (only_body ms ≡ Some body) × Built (program_of body) text)
-TranslatesModules ms (Err (Refused file line kind)) = ⊥
-TranslatesModules ms (Err (NoProgram file line kind)) = IsMisnamed ms file line kind
-TranslatesModules ms (Err Unready) = ((p : Program) × (prog ms ≡ Some p)) × (only_body ms ≡ None)
-TranslatesModules ms (Err NoMemory) = Unit {0}
+-- what a call answers that writes the C text of a program, whose only body was asked for
+abbrev pub BuildsProgram : List ℕ → Result Body FrontFault → Result (List ℕ) TranslateFault → Type 0
+BuildsProgram name (Ok body) (Ok text) = text ≡ text_of name body
+BuildsProgram name (Ok body) (Err NoMemory) = Unit {0}
+BuildsProgram name (Ok body) (Err fault) = ⊥
+BuildsProgram name (Err front.NotYet) (Ok text) = ⊥
+BuildsProgram name (Err front.NotYet) (Err Unready) = Unit {0}
+BuildsProgram name (Err front.NotYet) (Err fault) = IsCheck fault
+BuildsProgram name (Err fault) (Ok text) = ⊥
+BuildsProgram name (Err fault) (Err NoMemory) = Unit {0}
+BuildsProgram name (Err fault) (Err other) = ⊥
 
--- what a call that draws the graphs of modules answers
-abbrev pub DrawsModules : List Named → Result (List ℕ) TranslateFault → Type 0
-DrawsModules ms (Ok text) = (p : Program) × (prog ms ≡ Some p) × DrawsProgram p text
-DrawsModules ms (Err (Refused file line kind)) = ⊥
-DrawsModules ms (Err (NoProgram file line kind)) = IsMisnamed ms file line kind
-DrawsModules ms (Err Unready) = ⊥
-DrawsModules ms (Err NoMemory) = Unit {0}
+-- and one that writes something else of a program
+abbrev pub ShowsProgram : (List ℕ → Type 0) → Result (List ℕ) TranslateFault → Type 0
+ShowsProgram Shows (Ok text) = Shows text
+ShowsProgram Shows (Err fault) = IsCheck fault
 
+abbrev pub WritesProgram : Task → List ℕ → Program → Result Body FrontFault → Result (List ℕ) TranslateFault → Type 0
+WritesProgram Build name p found result = BuildsProgram name found result
+WritesProgram Check name p found result = ShowsProgram (λ text. text ≡ approval) result
+WritesProgram Annotate name p found result = ShowsProgram (AnnotatesProgram p) result
+WritesProgram Flow name p found result = ShowsProgram (DrawsProgram p) result
+
+-- what is written of the program that modules are
+abbrev pub WritesOf : Task → List Named → Program → List ℕ → Type 0
+WritesOf Build ms p text = (body : Body) × (only_body ms ≡ Some body) × Built (program_of body) text
+WritesOf Check ms p text = text ≡ approval
+WritesOf Annotate ms p text = AnnotatesProgram p text
+WritesOf Flow ms p text = DrawsProgram p text
+
+-- whether there are modules of which this is not written yet
+abbrev pub IsNotThere : Task → List Named → Type 0
+IsNotThere Build ms = only_body ms ≡ None
+IsNotThere task ms = ⊥
+
+-- what a call answers that writes this of modules
 abbrev pub WritesModules : Task → List Named → Result (List ℕ) TranslateFault → Type 0
-WritesModules Build ms result = TranslatesModules ms result
-WritesModules Flow ms result = DrawsModules ms result
+WritesModules task ms (Ok text) = (p : Program) × (prog ms ≡ Some p) × WritesOf task ms p text
+WritesModules task ms (Err (Refused file line kind)) = ⊥
+WritesModules task ms (Err (NoProgram file line kind)) = IsMisnamed ms file line kind
+WritesModules task ms (Err (InConflict file line words)) = (p : Program) × (prog ms ≡ Some p) × IsChecked task ms
+WritesModules task ms (Err (NoTypes file line kind)) = (p : Program) × (prog ms ≡ Some p) × IsChecked task ms
+WritesModules task ms (Err Unready) = (p : Program) × (prog ms ≡ Some p) × IsNotThere task ms
+WritesModules task ms (Err NoMemory) = Unit {0}
 
 -- the sources are a program of which this is not written yet
 abbrev pub IsLeft : Task → List (List ℕ) → List (List ℕ) → Type 0
 IsLeft Build sources names = IsNotYet sources names
-IsLeft Flow sources names = ⊥
+IsLeft task sources names = ⊥
 
 -- what a call answers that writes this of the program that sources are
 abbrev pub WritesTo : Task → List (List ℕ) → List (List ℕ) → Result (List ℕ) TranslateFault → Type 0
 WritesTo task sources names (Ok text) = Writes task sources names text
 WritesTo task sources names (Err (Refused file line kind)) = IsRefusedAt sources names file line kind
 WritesTo task sources names (Err (NoProgram file line kind)) = AreNoProgram sources names file line kind
+WritesTo task sources names (Err (InConflict file line words)) = AreChecked task sources names
+WritesTo task sources names (Err (NoTypes file line kind)) = AreChecked task sources names
 WritesTo task sources names (Err Unready) = IsLeft task sources names
 WritesTo task sources names (Err NoMemory) = Unit {0}
 
@@ -237,6 +322,8 @@ BuildsTo task (Ended status) names files out = ⊥
 BuildsTo task (AtFile file NotYet) names files out = (file ≡ 0) × OfSources (IsLeft task) names files × IsQuiet out × AllRead files
 BuildsTo task (AtFile file status) names files out = StopsLoading (AtFile file status) names files × IsQuiet out
 BuildsTo task (RefusedAt file line kind) names files out = OfSources (λ sources modules. IsRefusedAt sources modules file line kind) names files × IsQuiet out × AllRead files
+BuildsTo task (Conflicts file line words) names files out = OfSources (AreChecked task) names files × IsQuiet out × AllRead files
+BuildsTo task (Untypable file line kind) names files out = OfSources (AreChecked task) names files × IsQuiet out × AllRead files
 BuildsTo task (Misnamed file line kind) names files out = OfSources (λ sources modules. AreNoProgram sources modules file line kind) names files × IsQuiet out × AllRead files
 
 -- at most 64 files make a program
@@ -285,6 +372,8 @@ Said (Ended worked) answered names err = Says worked answered (line worked []) e
 Said (AtFile file worked) answered names err = Says worked answered (line worked (file_at names file)) err
 Said (RefusedAt file at kind) answered names err = Says NotSource answered (refusal (file_at names file) at kind) err
 Said (Misnamed file at kind) answered names err = Says NotProgram answered (name_refusal (file_at names file) at kind) err
+Said (Conflicts file at words) answered names err = Says Conflicting answered (line_at (file_at names file) at (codes "conflict: " ++ words)) err
+Said (Untypable file at kind) answered names err = Says Untyped answered (line_at (file_at names file) at (type_words kind)) err
 
 -- the whole call
 abbrev pub Answers : Status → Brought → Filed → Sunk → Sunk → Type 0
@@ -332,6 +421,8 @@ stopped file status = AtFile file status
 abbrev pub untranslated : TranslateFault → BuildWork
 untranslated (Refused file line kind) = RefusedAt file line kind
 untranslated (NoProgram file line kind) = Misnamed file line kind
+untranslated (InConflict file line words) = Conflicts file line words
+untranslated (NoTypes file line kind) = Untypable file line kind
 untranslated Unready = AtFile 0 NotYet
 untranslated NoMemory = Ended NoMem
 

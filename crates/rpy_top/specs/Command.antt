@@ -290,6 +290,8 @@ run_file other words = NotThere
 
 abbrev pub brought : Option Command → Brought
 brought (Some (Build files)) = Writing task.Build files
+brought (Some (Check files)) = Writing task.Check files
+brought (Some (Annotate files)) = Writing task.Annotate files
 brought (Some (Flow files)) = Writing task.Flow files
 brought (Some (CRun words)) = run_file words.files words
 brought other = NotThere

@@ -1,16 +1,20 @@
 // The work on files: what is written of their program, or what stops it.
-ghost use Rattle.std.specs.Prelude.{◌≡◌, ◌≤◌, ◌<◌, length, nat_le, true};
+ghost use Rattle.std.specs.Prelude.{◌≡◌, ◌≤◌, ◌<◌, ◌++◌, length, nat_le, true, codes, IfOk};
+ghost use Rattle.rpy_first.specs.Source.{line_at};
+ghost use Rattle.rpy_checked.specs.Words.{words_of};
 ghost use Rattle.rpy_top.specs.Command.{are_sources};
 ghost use Rattle.rpy_front.specs.Modules.{are_short};
 ghost use Rattle.rpy_top.specs.Answer as spec;
 ghost use Rattle.rpy_top.specs.Answer.{sunk, filed, Builds, BuildsTo, LoadsNext, LoadsAll, WritesFiles, Said, SaysLine};
 
-use crate::edge::{load, put, say, say_text};
+use crate::edge::{joined, load, put, say, say_text};
+use crate::fault::TranslateFault;
 use crate::job::Task;
 use crate::sources::{names_of, write_sources};
 use crate::status::Status;
 use rpy_base::{Files, NoMem, Seq, Sink, Text};
-use rpy_first::{NameKind, SourceKind, TranslateFault, refusal};
+use rpy_checked::{TypeKind, type_words};
+use rpy_first::{NameKind, SourceKind, line_at, refusal};
 use rpy_front::{LIMIT, name_refusal};
 use std::alloc::Global;
 
@@ -18,7 +22,7 @@ use std::alloc::Global;
 pub const MOST_FILES: usize = 64;
 
 /// What came of the work on files.
-#[derive(Clone, Copy)]
+#[derive(Drop)]
 pub enum BuildWork {
     Ended(Status),
     /// The file at this place stopped it.
@@ -27,6 +31,10 @@ pub enum BuildWork {
     Refused(u32, u32, SourceKind),
     /// The modules make no program, and this file tells why.
     Misnamed(u32, u32, NameKind),
+    /// The program has no annotation without conflict.
+    Conflicts(u32, u32, Text),
+    /// The program has no types.
+    Untypable(u32, u32, TypeKind),
 }
 
 // What the status of one file is for the work on all.
@@ -83,6 +91,8 @@ fn untranslated(fault: TranslateFault) -> BuildWork
     match fault {
         TranslateFault::Source(file, line, kind) => BuildWork::Refused(file, line, kind),
         TranslateFault::Name(file, line, kind) => BuildWork::Misnamed(file, line, kind),
+        TranslateFault::Conflict(file, line, words) => BuildWork::Conflicts(file, line, words),
+        TranslateFault::Typing(file, line, kind) => BuildWork::Untypable(file, line, kind),
         TranslateFault::NotYet => BuildWork::AtFile(0, Status::NotYet),
         TranslateFault::NoMem => BuildWork::Ended(Status::NoMem),
     }
@@ -176,6 +186,21 @@ fn say_line<E: Sink>(status: Status, text: Result<Text, NoMem>, err: &mut E) -> 
     }
 }
 
+// The line for a conflict.
+fn conflict_line(alloc: Global, file: &[u8], line: u32, words: &Text) -> Result<Text, NoMem>
+    ensures { IfOk result (λ text. text ≡ line_at file.now line (codes "conflict: " ++ words.now)) }
+{
+    let words = joined(alloc, b"conflict: ", words.bytes())?;
+    line_at(alloc, file, line, words.bytes())
+}
+
+// The line for a program without types.
+fn type_line(alloc: Global, file: &[u8], line: u32, kind: TypeKind) -> Result<Text, NoMem>
+    ensures { IfOk result (λ text. text ≡ line_at file.now line (words_of kind)) }
+{
+    line_at(alloc, file, line, type_words(kind))
+}
+
 /// Writes the line for what came of the work.
 #[tactic(auto, using(crate::proofs::Translation::said_line))]
 pub fn say_work<E: Sink>(alloc: Global, work: BuildWork, names: &[Text], err: &mut E) -> Status
@@ -191,6 +216,14 @@ pub fn say_work<E: Sink>(alloc: Global, work: BuildWork, names: &[Text], err: &m
         BuildWork::Misnamed(file, line, kind) => {
             let text = name_refusal(alloc, file_at(names, file), line, kind);
             say_line(Status::NotProgram, text, err)
+        }
+        BuildWork::Conflicts(file, line, words) => {
+            let text = conflict_line(alloc, file_at(names, file), line, &words);
+            say_line(Status::Conflicting, text, err)
+        }
+        BuildWork::Untypable(file, line, kind) => {
+            let text = type_line(alloc, file_at(names, file), line, kind);
+            say_line(Status::Untyped, text, err)
         }
     }
 }

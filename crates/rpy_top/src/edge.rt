@@ -58,6 +58,8 @@ fn line_of(alloc: Global, status: Status, file: &[u8]) -> Result<Text, NoMem>
         Status::Done
         | Status::NotSource
         | Status::NotProgram
+        | Status::Conflicting
+        | Status::Untyped
         | Status::NotC
         | Status::Stuck
         | Status::WriteFault

@@ -6,10 +6,12 @@ ghost use Rattle.rpy_top.specs.Command.{JobIs, brought, command};
 use crate::words::{Asked, RunAsked, what_words_ask};
 use rpy_base::Text;
 
-/// What is written of a program: its C text, or its flow graphs.
+/// What is written of a program: its C text, that it has types, its annotation, or its flow graphs.
 #[derive(Clone, Copy)]
 pub enum Task {
     Build,
+    Check,
+    Annotate,
     Flow,
 }
 
@@ -37,8 +39,8 @@ pub fn job_of(words: &[Text]) -> Job<'_>
 {
     match what_words_ask(words) {
         Asked::Build(files) => Job::Write(Task::Build, files),
-        Asked::Check(_) => Job::Nothing,
-        Asked::Annotate(_) => Job::Nothing,
+        Asked::Check(files) => Job::Write(Task::Check, files),
+        Asked::Annotate(files) => Job::Write(Task::Annotate, files),
         Asked::Flow(files) => Job::Write(Task::Flow, files),
         Asked::Run(_) => Job::Nothing,
         Asked::LlRun(_) => Job::Nothing,

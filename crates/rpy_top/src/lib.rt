@@ -4,6 +4,7 @@
 mod building;
 mod crun;
 mod edge;
+mod fault;
 mod job;
 mod lower;
 mod names;
@@ -14,7 +15,9 @@ mod words;
 
 pub use building::MOST_FILES;
 pub use crun::C_LIMIT;
-pub use rpy_first::{NameKind, SourceKind, TranslateFault};
+pub use fault::TranslateFault;
+pub use rpy_checked::TypeKind;
+pub use rpy_first::{NameKind, SourceKind};
 pub use rpy_front::{LIMIT, are_short};
 pub use top::{rpyc, translate};
 pub use words::{Command, RunWords, WordsFault, are_module_names, read_words};

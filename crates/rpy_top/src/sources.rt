@@ -2,16 +2,18 @@
 ghost use Rattle.std.specs.Prelude.{◌≡◌, ◌≤◌, ◌<◌, ◌++◌, map, length, true, IfOk, codes};
 ghost use Rattle.rpy_front.specs.Modules.{are_short};
 ghost use Rattle.rpy_top.specs.Command.{are_module_names, is_name, are_sources, module_name};
-ghost use Rattle.rpy_top.specs.Answer.{OnlyBody, TranslatesBody, TranslatesModules, DrawsProgram, DrawsModules, WritesModules, WritesTo, text_of};
+ghost use Rattle.rpy_top.specs.Answer.{AnnotatesProgram, BuildsProgram, DrawsProgram, OnlyBody, ShowsProgram, WritesModules, WritesProgram, WritesTo, approval, text_of};
 
+use crate::fault::{TranslateFault, check_fault, front_fault};
 use crate::job::Task;
 use crate::lower::lower;
 use crate::words::module_name;
+use ann_text::annotation_text;
 use flow_graph::graphs_text;
-use flow_space::flow;
 use genc_writer::write_c;
 use rpy_base::{NoMem, Seq, Text};
-use rpy_first::{Body, TranslateFault, first_path};
+use rpy_checked::check;
+use rpy_first::{Body, TranslateFault as FrontFault, first_path};
 use rpy_front::{read_modules, refused_name};
 use rpy_names::{Named, resolve};
 use rpy_tree::Program;
@@ -35,57 +37,79 @@ fn write_program(alloc: Global, name: &[u8], body: &Body) -> Result<Text, NoMem>
 }
 
 // The body of the only module, where it is of the first path.
-fn only_body(alloc: Global, modules: &[Named]) -> Result<Body, TranslateFault>
+fn only_body(alloc: Global, modules: &[Named]) -> Result<Body, FrontFault>
     ensures { OnlyBody modules.now result }
 {
     match modules {
         [one] => first_path(alloc, &one.module),
-        _ => Err(TranslateFault::NotYet),
+        _ => Err(FrontFault::NotYet),
     }
 }
 
-fn translate_body(
+// The C text of a program, where its only body was found; else its checks come first.
+fn build(
     alloc: Global,
     name: &[u8],
-    found: Result<Body, TranslateFault>,
+    program: &Program,
+    found: Result<Body, FrontFault>,
 ) -> Result<Text, TranslateFault>
-    ensures { TranslatesBody name.now found result }
+    ensures { BuildsProgram name.now found result }
 {
-    let body = found?;
-    Ok(write_program(alloc, name, &body)?)
-}
-
-// The C text of modules, the first of which has this name.
-fn translate_modules(
-    alloc: Global,
-    name: &[u8],
-    modules: Seq<Named>,
-) -> Result<Text, TranslateFault>
-    requires { is_name name.now ≡ true }
-    ensures { TranslatesModules modules result }
-{
-    let found = only_body(alloc, modules.as_slice());
-    match resolve(alloc, modules) {
-        Ok(_) => translate_body(alloc, name, found),
-        Err(refusal) => Err(refused_name(alloc, refusal.modules.as_slice(), refusal.fault)),
+    match found {
+        Ok(body) => Ok(write_program(alloc, name, &body)?),
+        Err(FrontFault::NotYet) => match check(alloc, program) {
+            Ok(_checked) => Err(TranslateFault::NotYet),
+            Err(fault) => Err(check_fault(fault)),
+        },
+        Err(_) => Err(TranslateFault::NoMem),
     }
 }
 
 // The text of a program's graphs.
-fn draw(alloc: Global, program: &Program) -> Result<Text, NoMem>
-    ensures { IfOk result (λ text. DrawsProgram program.now text) }
+fn draw(alloc: Global, program: &Program) -> Result<Text, TranslateFault>
+    ensures { ShowsProgram (DrawsProgram program.now) result }
 {
-    let graphs = flow(alloc, program)?;
-    graphs_text(alloc, program, &graphs)
+    match check(alloc, program) {
+        Ok(checked) => Ok(graphs_text(alloc, program, &checked.graphs)?),
+        Err(fault) => Err(check_fault(fault)),
+    }
 }
 
-// The text of the graphs of modules.
-fn draw_modules(alloc: Global, modules: Seq<Named>) -> Result<Text, TranslateFault>
-    ensures { DrawsModules modules result }
+// The text of a program's annotation.
+fn annotate(alloc: Global, program: &Program) -> Result<Text, TranslateFault>
+    ensures { ShowsProgram (AnnotatesProgram program.now) result }
 {
-    match resolve(alloc, modules) {
-        Ok(program) => Ok(draw(alloc, &program)?),
-        Err(refusal) => Err(refused_name(alloc, refusal.modules.as_slice(), refusal.fault)),
+    match check(alloc, program) {
+        Ok(checked) => Ok(annotation_text(alloc, program, &checked.graphs, &checked.annotation)?),
+        Err(fault) => Err(check_fault(fault)),
+    }
+}
+
+// That a program has types.
+fn approve(alloc: Global, program: &Program) -> Result<Text, TranslateFault>
+    ensures { ShowsProgram (λ text. text ≡ approval) result }
+{
+    match check(alloc, program) {
+        Ok(_checked) => Ok(Text::from_bytes(alloc, b"ok\n")?),
+        Err(fault) => Err(check_fault(fault)),
+    }
+}
+
+// What is written of a program, whose only body was asked for.
+fn write_of(
+    alloc: Global,
+    task: Task,
+    name: &[u8],
+    program: &Program,
+    found: Result<Body, FrontFault>,
+) -> Result<Text, TranslateFault>
+    ensures { WritesProgram task name.now program.now found result }
+{
+    match task {
+        Task::Build => build(alloc, name, program, found),
+        Task::Check => approve(alloc, program),
+        Task::Annotate => annotate(alloc, program),
+        Task::Flow => draw(alloc, program),
     }
 }
 
@@ -99,9 +123,13 @@ fn write_modules(
     requires { is_name name.now ≡ true }
     ensures { WritesModules task modules result }
 {
-    match task {
-        Task::Build => translate_modules(alloc, name, modules),
-        Task::Flow => draw_modules(alloc, modules),
+    let found = only_body(alloc, modules.as_slice());
+    match resolve(alloc, modules) {
+        Ok(program) => write_of(alloc, task, name, &program, found),
+        Err(refusal) => {
+            let fault = refused_name(alloc, refusal.modules.as_slice(), refusal.fault);
+            Err(front_fault(fault))
+        }
     }
 }
 
@@ -120,8 +148,10 @@ pub fn write_sources(
     requires short { are_short sources.now ≡ true }
     ensures { WritesTo task sources.now names.now result }
 {
-    let modules = read_modules(alloc, sources, names)?;
-    write_modules(alloc, task, names[0].bytes(), modules)
+    match read_modules(alloc, sources, names) {
+        Ok(modules) => write_modules(alloc, task, names[0].bytes(), modules),
+        Err(fault) => Err(front_fault(fault)),
+    }
 }
 
 /// The names of the modules that files are.

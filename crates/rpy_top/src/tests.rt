@@ -65,15 +65,15 @@ fn words_and_sources_have_statuses(rt: HostRuntime) -> Result<(), Fail> {
         ),
         (
             "build a.py",
-            "def entry_point(x):\n    return x\n",
+            "def entry_point(x):\n    return len(x)\n",
             16,
             "a.py: not yet\n",
         ),
         (
             "build a.py",
             "def entry_point(argv):\n    return\n",
-            16,
-            "a.py: not yet\n",
+            5,
+            "a.py:1: entry point result\n",
         ),
         (
             "build a.py",
@@ -83,9 +83,9 @@ fn words_and_sources_have_statuses(rt: HostRuntime) -> Result<(), Fail> {
         ),
         (
             "build a.py",
-            "def entry_point(argv):\n    print 1\n",
-            16,
-            "a.py: not yet\n",
+            "def entry_point(argv):\n    return 1 + 'a'\n",
+            4,
+            "a.py:2: conflict: binary int+ char\n",
         ),
         (
             "build a.py",
@@ -426,20 +426,47 @@ fn files_make_one_program(rt: HostRuntime) -> Result<(), Fail> {
 const GRAPH: &str =
     "graph a.entry_point\nblock 0(v0)\n  goto 6(v0)\nblock 1(v1)\n  return v1\nblock 2(v2)\n  raise v2\nblock 3()\n  goto 3()\nblock 4(v3)\n  v4 = none\n  goto 1(v4)\nblock 5(v5 v6)\n  goto 1(v6)\nblock 6(v7)\n  v8 = word\n  caught v8\n  on any 2(v8)\n  else 5(v7 v8)\n";
 
+const BRANCHES: &str =
+    "def entry_point(argv):\n    if len(argv) > 1:\n        x = 1\n    else:\n        x = 'a'\n    print x\n    return 0\n";
+
+const BOX: &str =
+    "class Box(object):\n    def __init__(self, v):\n        self.v = v\ndef find(n):\n    if n > 3:\n        return Box(n)\n    return None\ndef entry_point(argv):\n    b = find(len(argv) + 4)\n    if b is not None:\n        print b.v\n    return 0\n";
+
+const BOXED: &str =
+    "a.Box.__init__(self: a.Box, v: int+) -> None\na.find(n: int+) -> a.Box?\na.entry_point(argv: list#0) -> int+\na.Box.v: int+\nlist#0: str\n";
+
+const FAMILY: &str =
+    "def f(a):\n    return a\ndef g(a, b):\n    return a + b\nTABLE = {'f': f, 'g': g}\ndef entry_point(argv):\n    h = TABLE['f']\n    return h(1)\n";
+
+const MODIFIED: &str = "L = [1, 2]\ndef entry_point(argv):\n    L.append(3)\n    return len(L)\n";
+
+const UNBOUND: &str =
+    "def entry_point(argv):\n    if len(argv) > 1:\n        x = 1\n    return x\n";
+
+const UNREACHED: &str = "def bad():\n    return 1 + 'a'\ndef entry_point(argv):\n    return 0\n";
+
 #[test]
-fn graphs_are_written(rt: HostRuntime) -> Result<(), Fail> {
+fn programs_are_shown(rt: HostRuntime) -> Result<(), Fail> {
     let alloc = rt.alloc();
-    for (source, status, written, said) in [
-        (RETURNS, 0, GRAPH, ""),
+    for (line, source, status, written, said) in [
+        ("flow a.py", RETURNS, 0, GRAPH, ""),
         (
+            "flow a.py",
             "def entry_point(argv):\n    return x\n",
             3,
             "",
             "a.py:2: unknown name\n",
         ),
-        ("x = 1.5\n", 2, "", "a.py:1: bad number\n"),
+        ("flow a.py", "x = 1.5\n", 2, "", "a.py:1: bad number\n"),
+        ("check a.py", RETURNS, 0, "ok\n", ""),
+        ("check a.py", UNREACHED, 0, "ok\n", ""),
+        ("check a.py", BRANCHES, 4, "", "a.py:6: conflict: name\n"),
+        ("annotate a.py", BOX, 0, BOXED, ""),
+        ("check a.py", FAMILY, 5, "", "a.py:8: family\n"),
+        ("check a.py", MODIFIED, 5, "", "a.py:3: constant modified\n"),
+        ("annotate a.py", UNBOUND, 5, "", "a.py:4: maybe unbound\n"),
     ] {
-        let words = words_of(alloc, "flow a.py")?;
+        let words = words_of(alloc, line)?;
         let mut files = files_of(alloc, "a.py", source.as_bytes())?;
         let mut out = MemSink::new(alloc);
         let mut err = MemSink::new(alloc);

@@ -10,11 +10,11 @@ ghost use Rattle.rpy_top.specs.Running.{AnswersCall, AreLeft};
 
 use crate::building::{BuildWork, say_work, write};
 use crate::crun::crun;
+use crate::fault::TranslateFault;
 use crate::job::{Job, Task, job_of};
 use crate::sources::write_sources;
 use crate::status::Status;
 use rpy_base::{Files, HeapWatch, Seq, Sink, Text};
-use rpy_first::TranslateFault;
 use std::alloc::Global;
 
 // Writes what is asked of the program of files, and the line for it.
@@ -79,7 +79,8 @@ pub fn rpyc<F: Files, K: Sink, E: Sink>(
 
 /// The C text of sources, each with its module's name: a translation of the program that they
 /// are. `Source` and `Name` tell the first source that is no module, or why the modules make no
-/// program, and `NotYet` exactly that they make one, but not of one module of the first path.
+/// program, `Conflict` and `Typing` why it is refused by its checks, and `NotYet` that it is not of one
+/// module of the first path.
 pub fn translate(
     alloc: Global,
     sources: &Seq<Text>,

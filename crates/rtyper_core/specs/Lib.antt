@@ -1,0 +1,5 @@
+pub mod Arity
+pub mod Call
+pub mod Fault
+pub mod Modify
+pub mod Typing
