@@ -1,0 +1,15 @@
+//! Low-level programs of the last stage to C files.
+#![tactic(auto)]
+
+mod blocks;
+mod file;
+mod functions;
+mod links;
+mod operations;
+mod order;
+mod types;
+
+pub use file::lower;
+
+#[cfg(test)]
+mod tests;

@@ -1,0 +1,3 @@
+mod Rows
+pub mod Walks
+pub mod Levels

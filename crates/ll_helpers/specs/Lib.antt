@@ -1,0 +1,4 @@
+pub mod Build
+pub mod Helpers
+pub mod Print
+pub mod Words
