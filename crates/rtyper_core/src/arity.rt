@@ -1,5 +1,5 @@
 // What functions take.
-ghost use Rattle.std.specs.Prelude.{◌≡◌, IfOk, OnOk};
+ghost use Rattle.std.specs.Prelude.{◌≡◌, IfOk, OnOk, is_none};
 ghost use Rattle.rpy_tree.specs.declared.syntax.Member.{out-Member};
 ghost use Rattle.rtyper_core.specs.Arity as spec;
 
@@ -16,13 +16,22 @@ pub struct Arity {
     pub star: bool,
 }
 
+fn is_required(param: &Param) -> bool
+    ensures { result ≡ is_none param.now.default }
+{
+    param.default.is_none()
+}
+
 fn required(params: &[Param]) -> usize
     ensures { result ≡ spec.required params.now }
 {
-    params
-        .iter()
-        .filter(|param| param.default.is_none())
-        .count()
+    let mut count = 0;
+    for param in params {
+        if is_required(param) {
+            count += 1;
+        }
+    }
+    count
 }
 
 fn arity_of(f: &Function) -> Arity
