@@ -102,12 +102,7 @@ fn push_bodies(
     Ok(())
 }
 
-fn way(
-    alloc: Global,
-    order: Order,
-    graph: &LlGraph,
-    link: &LlLink,
-) -> Result<Seq<CStmt>, NoMem>
+fn way(alloc: Global, order: Order, graph: &LlGraph, link: &LlLink) -> Result<Seq<CStmt>, NoMem>
     ensures { IfOk result (λ made. made ≡ spec.link_code order graph.now link.now) }
 {
     let mut made = Seq::new(alloc);

@@ -131,12 +131,7 @@ fn prototypes(alloc: Global, program: &LlProgram) -> Result<Seq<CPrototype>, NoM
     ensures { IfOk result (λ made. made ≡ spec.in_order spec.prototype program.now) }
 {
     let mut made = Seq::new(alloc);
-    push_prototypes(
-        alloc,
-        program.entry,
-        program.graphs.as_slice(),
-        &mut made,
-    )?;
+    push_prototypes(alloc, program.entry, program.graphs.as_slice(), &mut made)?;
     if let Some(entry) = program.graphs.get(program.entry as usize) {
         made.push(prototype(alloc, entry)?)?;
     }

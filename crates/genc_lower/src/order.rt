@@ -30,11 +30,8 @@ pub fn constant(order: Order, what: CConst) -> CConst
 {
     match what {
         CConst::Fun(g) => CConst::Fun(function_of(order, g)),
-        CConst::Word(_)
-        | CConst::Char(_)
-        | CConst::Bool(_)
-        | CConst::Null
-        | CConst::Static(_, _) => what,
+        CConst::Word(_) | CConst::Char(_) | CConst::Bool(_) | CConst::Null | CConst::Static(_, _) =>
+            what,
     }
 }
 

@@ -45,11 +45,20 @@ freed_twice = refl
 
 -- the inputs of a block take their values all at once: two words change places
 abbrev swapped : LlProgram
-swapped = graphs_at Raw (record { name = codes "main"; params = []; result = Signed; types = Signed ∷ Signed ∷ Flag ∷ []; blocks =
-    record { inputs = []; ops = []; exit = Goto (record { to = 1; args = word 5 ∷ word 7 ∷ [] }) }
-    ∷ record { inputs = 0 ∷ 1 ∷ []; ops = op.Binary 2 Lt (Var 0) (Var 1) ∷ [];
-      exit = If 2 (record { to = 1; args = Var 1 ∷ Var 0 ∷ [] }) (record { to = 2; args = [] }) }
-    ∷ record { inputs = []; ops = []; exit = Return (Some (Var 1)) } ∷ [] } ∷ [])
+swapped = graphs_at Raw (record {
+  name = codes "main";
+  params = [];
+  result = Signed;
+  types = Signed ∷ Signed ∷ Flag ∷ [];
+  blocks =
+      record { inputs = []; ops = []; exit = Goto (record { to = 1; args = word 5 ∷ word 7 ∷ [] }) }
+      ∷ record {
+        inputs = 0 ∷ 1 ∷ [];
+        ops = op.Binary 2 Lt (Var 0) (Var 1) ∷ [];
+        exit = If 2 (record { to = 1; args = Var 1 ∷ Var 0 ∷ [] }) (record { to = 2; args = [] });
+      }
+      ∷ record { inputs = []; ops = []; exit = Return (Some (Var 1)) } ∷ [];
+} ∷ [])
 
 swapped_typed : well_typed swapped ≡ true
 swapped_typed = refl
@@ -60,12 +69,24 @@ change_places = refl
 
 -- an exception leaves the call that raises it, and is caught by the exit behind the call
 abbrev caught : LlProgram
-caught = graphs_at Raw (record { name = codes "main"; params = []; result = Signed; types = Ptr 0 ∷ Signed ∷ []; blocks =
-    record { inputs = []; ops = op.Call None 1 [] ∷ []; exit = OnRaise 0 (Some (record { to = 1; args = [] })) (record { to = 2; args = [] }) }
-    ∷ record { inputs = []; ops = op.GetField 1 0 0 0 ∷ []; exit = Return (Some (Var 1)) }
-    ∷ record { inputs = []; ops = []; exit = Return (Some (word 1)) } ∷ [] }
-  ∷ record { name = codes "raise"; params = []; result = Void; types = Ptr 0 ∷ []; blocks =
-    record { inputs = []; ops = op.New 0 0 0 ∷ op.SetField 0 0 0 (word 7) ∷ op.Raise 0 ∷ []; exit = Return None } ∷ [] } ∷ [])
+caught = graphs_at Raw (record {
+  name = codes "main";
+  params = [];
+  result = Signed;
+  types = Ptr 0 ∷ Signed ∷ [];
+  blocks =
+      record { inputs = []; ops = op.Call None 1 [] ∷ []; exit = OnRaise 0 (Some (record { to = 1; args = [] })) (record { to = 2; args = [] }) }
+      ∷ record { inputs = []; ops = op.GetField 1 0 0 0 ∷ []; exit = Return (Some (Var 1)) }
+      ∷ record { inputs = []; ops = []; exit = Return (Some (word 1)) } ∷ [];
+}
+    ∷ record {
+      name = codes "raise";
+      params = [];
+      result = Void;
+      types = Ptr 0 ∷ [];
+      blocks =
+          record { inputs = []; ops = op.New 0 0 0 ∷ op.SetField 0 0 0 (word 7) ∷ op.Raise 0 ∷ []; exit = Return None } ∷ [];
+    } ∷ [])
 
 caught_typed : well_typed caught ≡ true
 unfolding begins_within
@@ -75,7 +96,13 @@ caught_there : within caught [] 0 20 ≡ Some (record { ending = Came (Returned 
 unfolding run shapes_from
 caught_there = refl
 
-goes_on : RunsOn 100 (graphs_at Raw (record { name = codes "main"; params = []; result = Signed; types = []; blocks =
-    record { inputs = []; ops = []; exit = Goto (record { to = 0; args = [] }) } ∷ [] } ∷ [])) [] 0
+goes_on : RunsOn 100 (graphs_at Raw (record {
+  name = codes "main";
+  params = [];
+  result = Signed;
+  types = [];
+  blocks =
+      record { inputs = []; ops = []; exit = Goto (record { to = 0; args = [] }) } ∷ [];
+} ∷ [])) [] 0
 unfolding run shapes_from
 goes_on = refl

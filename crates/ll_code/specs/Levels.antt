@@ -11,5 +11,3 @@ abbrev pub own_ok : LlProgram → ℕ → LlStruct → Option ℕ → Cells → 
 own_ok program n s None cells = fields_ok program n s.fields s.items cells
 own_ok program n s (Some m) end = false
 own_ok program n s (Some m) (then_cell first cells) = is_braced first && fields_ok program n s.fields s.items cells
-
-

@@ -69,12 +69,7 @@ fn conflict_words(
     Ok(text)
 }
 
-fn conflicting(
-    alloc: Global,
-    program: &Program,
-    spot: &Spot,
-    operands: &[Element],
-) -> CheckFault {
+fn conflicting(alloc: Global, program: &Program, spot: &Spot, operands: &[Element]) -> CheckFault {
     match conflict_words(alloc, program, spot, operands) {
         Err(NoMem) => CheckFault::NoMem,
         Ok(words) => CheckFault::Conflict(

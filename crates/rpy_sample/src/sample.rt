@@ -7,7 +7,13 @@ use rpy_base::{NoMem, Text, udecimal};
 use std::alloc::Global;
 
 // A line of its parts: before a number, the number and after it.
-fn push_line(alloc: Global, before: &[u8], i: u32, after: &[u8], into: &mut Text) -> Result<(), NoMem>
+fn push_line(
+    alloc: Global,
+    before: &[u8],
+    i: u32,
+    after: &[u8],
+    into: &mut Text,
+) -> Result<(), NoMem>
     ensures { OnOk result (into.new ≡ into.old ++ before.now ++ decimal i ++ after.now) }
 {
     into.append(before)?;

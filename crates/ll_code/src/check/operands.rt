@@ -148,12 +148,7 @@ pub fn same_pointers(program: &LlProgram, graph: &LlGraph, x: COperand, y: COper
 }
 
 /// Whether a type that is given takes the operand.
-pub fn given_takes(
-    program: &LlProgram,
-    graph: &LlGraph,
-    given: Option<LlType>,
-    x: COperand,
-) -> bool
+pub fn given_takes(program: &LlProgram, graph: &LlGraph, given: Option<LlType>, x: COperand) -> bool
     ensures { result ≡ spec.given_takes program.now graph.now.types given x }
 {
     match given {

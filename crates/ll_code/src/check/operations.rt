@@ -62,7 +62,8 @@ fn both_taken(program: &LlProgram, graph: &LlGraph, op: CBinary, x: COperand, y:
             takes(program, graph, LlType::Bool, x) && takes(program, graph, LlType::Bool, y)
         }
         CBinary::Peq => same_pointers(program, graph, x, y),
-        CBinary::Feq => takes(program, graph, LlType::Fn, x) && takes(program, graph, LlType::Fn, y),
+        CBinary::Feq => takes(program, graph, LlType::Fn, x)
+            && takes(program, graph, LlType::Fn, y),
         _ => takes(program, graph, LlType::Signed, x) && takes(program, graph, LlType::Signed, y),
     }
 }
@@ -120,7 +121,14 @@ fn unary(program: &LlProgram, graph: &LlGraph, a: u64, op: CUnary, x: COperand) 
     has_type(unary_gives(op), type_of(graph, a)) && takes(program, graph, unary_takes(op), x)
 }
 
-fn binary(program: &LlProgram, graph: &LlGraph, a: u64, op: CBinary, x: COperand, y: COperand) -> bool
+fn binary(
+    program: &LlProgram,
+    graph: &LlGraph,
+    a: u64,
+    op: CBinary,
+    x: COperand,
+    y: COperand,
+) -> bool
     ensures { result ≡ spec.operation_ok program.now graph.now.types (LlOp.Binary a op x y) }
 {
     has_type(binary_gives(op), type_of(graph, a)) && both_taken(program, graph, op, x, y)
@@ -136,7 +144,12 @@ fn set_field(program: &LlProgram, graph: &LlGraph, s: u64, b: u64, k: u64, x: CO
     ensures { result ≡ spec.operation_ok program.now graph.now.types (LlOp.SetField s b k x) }
 {
     points(type_of(graph, b))
-        && given_takes(program, graph, field_of(program.structs.as_slice(), s, k), x)
+        && given_takes(
+            program,
+            graph,
+            field_of(program.structs.as_slice(), s, k),
+            x,
+        )
 }
 
 fn get_item(program: &LlProgram, graph: &LlGraph, a: u64, s: u64, b: u64, i: COperand) -> bool

@@ -61,7 +61,13 @@ fn items_ok(program: &LlProgram, n: u64, items: Option<LlType>, cells: &[CCell])
 }
 
 // A constant for each field, and then the items.
-fn fields_ok(program: &LlProgram, n: u64, kinds: &[LlType], items: Option<LlType>, cells: &[CCell]) -> bool
+fn fields_ok(
+    program: &LlProgram,
+    n: u64,
+    kinds: &[LlType],
+    items: Option<LlType>,
+    cells: &[CCell],
+) -> bool
     ensures { result ≡ spec.fields_ok program.now n kinds.now items (plain_cells cells.now) }
 {
     for i in 0..kinds.len() {
