@@ -97,6 +97,7 @@ fn loosen(state: &mut State, around: Around<'_>, graph: usize, inputs: &[u64], p
     for (place, input) in inputs.iter().enumerate() {
         if place >= params {
             let _newly = set_mark(&mut state.loose, around.plan.variable(graph, *input));
+            state.freshen(around.plan, graph, *input);
         }
     }
 }
@@ -111,7 +112,9 @@ fn pass_params(
     for (place, input) in inputs.iter().enumerate() {
         if place < params {
             let to = around.plan.cell(function as usize, *input);
-            let _changed = state.raise_by(around, to, around.plan.param(function, place))?;
+            if state.raise_by(around, to, around.plan.param(function, place))? {
+                state.freshen(around.plan, function as usize, *input);
+            }
         }
     }
     Ok(())

@@ -1,6 +1,6 @@
 // What goes on along links.
 use crate::fault::AnnFault;
-use crate::plan::set_mark;
+use crate::plan::{is_marked, set_mark};
 use crate::reader::Place;
 use crate::state::{Around, Part, State};
 use ann_element::Element;
@@ -16,6 +16,14 @@ const EXCEPTION: ClassId = 0;
 pub struct Caught {
     pub variable: VarId,
     pub class: ClassId,
+}
+
+/// A link is passed with the exception that it takes, if any, and with all variables or only those that
+/// have changed since.
+#[derive(Clone, Copy)]
+pub struct Passage {
+    pub caught: Option<Caught>,
+    pub whole: bool,
 }
 
 // An input becomes what goes on to it.
@@ -44,20 +52,39 @@ fn pass_variable(
     Ok(changed)
 }
 
+// An input becomes what goes on to it, unless that is as it was.
+fn pass_fresh(
+    state: &mut State,
+    around: Around<'_>,
+    graph: usize,
+    input: VarId,
+    variable: VarId,
+    passage: Passage,
+) -> Result<bool, NoMem> {
+    if !passage.whole && !is_marked(&state.fresh, around.plan.variable(graph, variable)) {
+        return Ok(false);
+    }
+    let changed = pass_variable(state, around, graph, input, variable, passage.caught)?;
+    if changed {
+        state.freshen(around.plan, graph, input);
+    }
+    Ok(changed)
+}
+
 fn pass_variables(
     state: &mut State,
     around: Around<'_>,
     graph: usize,
     inputs: &[VarId],
     args: &[VarId],
-    caught: Option<Caught>,
+    passage: Passage,
 ) -> Result<bool, NoMem> {
     let mut changed = false;
     for (place, input) in inputs.iter().enumerate() {
         match args.get(place) {
             None => {}
             Some(variable) => {
-                let raised = pass_variable(state, around, graph, *input, *variable, caught)?;
+                let raised = pass_fresh(state, around, graph, *input, *variable, passage)?;
                 changed = changed || raised;
             }
         }
@@ -71,7 +98,7 @@ pub fn pass_link(
     around: Around<'_>,
     graph: usize,
     link: &Link,
-    caught: Option<Caught>,
+    passage: Passage,
 ) -> Result<(), NoMem> {
     let newly = set_mark(&mut state.blocks, around.plan.block(graph, link.to));
     match around.graphs.graphs.get(graph) {
@@ -85,7 +112,7 @@ pub fn pass_link(
                     graph,
                     block.inputs.as_slice(),
                     link.args.as_slice(),
-                    caught,
+                    passage,
                 )?;
                 if newly || changed {
                     state.wake(
@@ -108,13 +135,18 @@ fn pass_caught(
     graph: usize,
     variable: VarId,
     links: &[(ClassId, Link)],
+    whole: bool,
 ) -> Result<(), NoMem> {
     for link in links {
         let caught = Caught {
             variable,
             class: link.0,
         };
-        pass_link(state, around, graph, &link.1, Some(caught))?;
+        let passage = Passage {
+            caught: Some(caught),
+            whole,
+        };
+        pass_link(state, around, graph, &link.1, passage)?;
     }
     Ok(())
 }
@@ -125,6 +157,7 @@ fn pass_other(
     graph: usize,
     variable: VarId,
     link: &Option<Link>,
+    whole: bool,
 ) -> Result<(), NoMem> {
     match link {
         None => Ok(()),
@@ -133,7 +166,11 @@ fn pass_other(
                 variable,
                 class: EXCEPTION,
             };
-            pass_link(state, around, graph, link, Some(caught))
+            let passage = Passage {
+                caught: Some(caught),
+                whole,
+            };
+            pass_link(state, around, graph, link, passage)
         }
     }
 }
@@ -142,13 +179,15 @@ fn pass_other(
 pub fn pass_exceptions(
     state: &mut State,
     around: Around<'_>,
-    graph: usize,
+    place: Place,
     exit: &Exit,
 ) -> Result<(), NoMem> {
     match exit {
         Exit::OnRaise(variable, links, other, _) => {
-            pass_caught(state, around, graph, *variable, links.as_slice())?;
-            pass_other(state, around, graph, *variable, other)
+            let graph = place.graph;
+            let whole = set_mark(&mut state.thrown, around.plan.block(graph, place.block));
+            pass_caught(state, around, graph, *variable, links.as_slice(), whole)?;
+            pass_other(state, around, graph, *variable, other, whole)
         }
         _ => Ok(()),
     }
@@ -165,20 +204,56 @@ fn goes(state: &State, cell: usize, truth: bool) -> bool {
     }
 }
 
+// The first link of a block that no exception takes.
+fn pass_onward(
+    state: &mut State,
+    around: Around<'_>,
+    place: Place,
+    link: &Link,
+) -> Result<(), NoMem> {
+    let whole = set_mark(
+        &mut state.onward,
+        around.plan.block(place.graph, place.block),
+    );
+    let passage = Passage {
+        caught: None,
+        whole,
+    };
+    pass_link(state, around, place.graph, link, passage)
+}
+
+// The second one.
+fn pass_aside(
+    state: &mut State,
+    around: Around<'_>,
+    place: Place,
+    link: &Link,
+) -> Result<(), NoMem> {
+    let whole = set_mark(
+        &mut state.aside,
+        around.plan.block(place.graph, place.block),
+    );
+    let passage = Passage {
+        caught: None,
+        whole,
+    };
+    pass_link(state, around, place.graph, link, passage)
+}
+
 fn pass_fork(
     state: &mut State,
     around: Around<'_>,
-    graph: usize,
+    place: Place,
     test: VarId,
     yes: &Link,
     no: &Link,
 ) -> Result<(), NoMem> {
-    let cell = around.plan.cell(graph, test);
+    let cell = around.plan.cell(place.graph, test);
     if goes(state, cell, true) {
-        pass_link(state, around, graph, yes, None)?;
+        pass_onward(state, around, place, yes)?;
     }
     if goes(state, cell, false) {
-        pass_link(state, around, graph, no, None)?;
+        pass_aside(state, around, place, no)?;
     }
     Ok(())
 }
@@ -200,15 +275,15 @@ fn pass_return(
 pub fn pass_exit(
     state: &mut State,
     around: Around<'_>,
-    graph: usize,
+    place: Place,
     function: FunId,
     exit: &Exit,
 ) -> Result<(), AnnFault> {
     match exit {
-        Exit::Goto(link) => Ok(pass_link(state, around, graph, link, None)?),
-        Exit::If(test, yes, no) => Ok(pass_fork(state, around, graph, *test, yes, no)?),
-        Exit::OnRaise(_, _, _, norm) => Ok(pass_link(state, around, graph, norm, None)?),
-        Exit::Return(variable) => pass_return(state, around, graph, function, *variable),
+        Exit::Goto(link) => Ok(pass_onward(state, around, place, link)?),
+        Exit::If(test, yes, no) => Ok(pass_fork(state, around, place, *test, yes, no)?),
+        Exit::OnRaise(_, _, _, norm) => Ok(pass_onward(state, around, place, norm)?),
+        Exit::Return(variable) => pass_return(state, around, place.graph, function, *variable),
         Exit::Raise(_) => Ok(()),
     }
 }

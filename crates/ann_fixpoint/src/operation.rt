@@ -844,6 +844,7 @@ pub fn pass_op(
     if !some_unreached(xs) {
         let e = fitted(state, around, reader, op, xs)?;
         put_result(state, around, reader, op, &e, xs)?;
+        state.freshen(around.plan, reader.graph, op.result);
     }
     Ok(is_narrowing(&op.op) || !result_is_unreached(state, around, reader.graph, op))
 }

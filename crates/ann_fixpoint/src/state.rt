@@ -38,6 +38,12 @@ pub struct State {
     pub loaded: Seq<bool>,
     pub same: Sites,
     pub dirty: Seq<bool>,
+    /// For each variable whether it has changed since its block was gone through.
+    pub fresh: Seq<bool>,
+    /// For each block which of its links were passed: those by exception, the first other, the second.
+    pub thrown: Seq<bool>,
+    pub onward: Seq<bool>,
+    pub aside: Seq<bool>,
     pub waiting: Seq<bool>,
     pub cell_readers: Readers,
     pub class_readers: Readers,
@@ -70,6 +76,10 @@ impl State {
             loaded: marks(alloc, around.program.sites.len(), false)?,
             same: Sites::new(alloc, around.program)?,
             dirty: marks(alloc, plan.block_count, false)?,
+            fresh: marks(alloc, plan.cells.len(), false)?,
+            thrown: marks(alloc, plan.block_count, false)?,
+            onward: marks(alloc, plan.block_count, false)?,
+            aside: marks(alloc, plan.block_count, false)?,
             waiting: marks(alloc, graphs, false)?,
             cell_readers: Readers::new(alloc, plan.shared)?,
             class_readers: Readers::new(alloc, classes)?,
@@ -269,6 +279,11 @@ impl State {
     ) -> Result<Element, NoMem> {
         self.cell_readers.add(cell, reader)?;
         self.copy_cell(around.alloc, cell)
+    }
+
+    /// A variable has changed.
+    pub fn freshen(&mut self, plan: &Plan, graph: usize, variable: u64) {
+        let _was_stale = set_mark(&mut self.fresh, plan.variable(graph, variable));
     }
 
     /// Whether the variable may be unbound.

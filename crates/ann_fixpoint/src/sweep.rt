@@ -46,11 +46,19 @@ fn pass_block(
     function: FunId,
     block: &Block,
 ) -> Result<(), AnnFault> {
-    pass_exceptions(state, around, place.graph, &block.exit)?;
+    pass_exceptions(state, around, place, &block.exit)?;
     if pass_ops(state, around, place, block.ops.as_slice())? {
-        pass_exit(state, around, place.graph, function, &block.exit)?;
+        pass_exit(state, around, place, function, &block.exit)?;
+        stale(state, around, place.graph, block);
     }
     Ok(())
+}
+
+// What was passed on has not changed since.
+fn stale(state: &mut State, around: Around<'_>, graph: usize, block: &Block) {
+    for input in block.inputs.as_slice() {
+        clear(&mut state.fresh, around.plan.variable(graph, *input));
+    }
 }
 
 fn pass_if_awake(

@@ -5,21 +5,28 @@ ghost use Rattle.rpy_top.specs.Answer as spec;
 use rpy_base::{NoMem, Text};
 use rpy_checked::{CheckFault, TypeKind};
 use rpy_first::{NameKind, SourceKind};
+use thiserror::Error;
 
 /// Why nothing is written of sources. Each place is a source, counted from 0, and a line, counted from 1.
-#[derive(Drop)]
+#[derive(Debug, Drop, Error)]
 pub enum TranslateFault {
     /// A source is no module.
+    #[error("source {0}, line {1}: {2:?}")]
     Source(u32, u32, SourceKind),
     /// The sources are modules that make no program.
+    #[error("source {0}, line {1}: {2:?}")]
     Name(u32, u32, NameKind),
     /// No annotation of the program is free of conflict: the word for a conflict, and the elements of its
     /// operands, each after a space.
+    #[error("source {0}, line {1}: conflict")]
     Conflict(u32, u32, Text),
     /// The program has an annotation, but no types.
+    #[error("source {0}, line {1}: {2:?}")]
     Typing(u32, u32, TypeKind),
     /// The program is not among those that are translated so far.
+    #[error("not yet")]
     NotYet,
+    #[error("out of memory")]
     NoMem,
 }
 
