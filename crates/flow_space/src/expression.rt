@@ -72,7 +72,8 @@ fn put_copy(
     code.put_op(alloc, scope, op_at(node, true, RowOp::Copy), args, m, jump)
 }
 
-// The meeting of the ways of `and` and `or`: the value is the last of m + 1 variables.
+// The meeting of the ways of `and` and `or`, and the end of a dict's display and of a comprehension: the
+// value is the last of m + 1 variables.
 fn put_meeting(
     alloc: Global,
     code: &mut Code,
@@ -563,7 +564,7 @@ fn put_sides(
     put_exprs(alloc, code, scope, es, m, block)
 }
 
-// ---- displays of dicts
+// ---- displays of dicts: an empty dict, the stores to it, and then the value of the display
 
 #[cycle(expr)]
 fn put_display(
@@ -576,12 +577,13 @@ fn put_display(
     m: usize,
     norm: u64,
 ) -> Result<u64, NoMem> {
-    let next = put_pairs(alloc, code, scope, node, pairs, m, norm)?;
+    let whole = put_meeting(alloc, code, scope, node, m, norm)?;
+    let next = put_pairs(alloc, code, scope, node, pairs, m, whole)?;
     put_leaf(
         alloc,
         code,
         scope,
-        op_at(node, true, RowOp::Dict(site)),
+        op_at(node, false, RowOp::Dict(site)),
         m,
         next,
     )
@@ -832,10 +834,11 @@ fn put_comprehension(
     let gather = put_gather(alloc, code, scope, item, condition, m, walk, advance)?;
     let more = plus(walk.all, 1)?;
     let bind = put_bind(alloc, code, scope, target, walk.all, more, walk.all, gather)?;
-    let done = jump_first(alloc, norm, over)?;
+    let whole = put_meeting(alloc, code, scope, node, m, norm)?;
+    let done = jump_first(alloc, whole, over)?;
     put_turn(alloc, code, scope, walk, head, bind, done)?;
     let begin = put_subject(alloc, code, scope, subject, node, over, head.number)?;
-    let of = op_at(node, true, RowOp::Comprehension(site));
+    let of = op_at(node, false, RowOp::Comprehension(site));
     put_leaf(alloc, code, scope, of, m, begin)
 }
 
