@@ -105,7 +105,7 @@ def corpus():
             files = tuple(w for w in words if w.endswith('.py') and os.path.exists(folder + w))
             if files and (folder, files) not in seen:
                 seen.add((folder, files))
-                yield os.path.basename(folder[:-1]), [(f, read(folder + f)) for f in files]
+                yield os.path.basename(folder[:-1]), [(os.path.basename(f), read(folder + f)) for f in files]
 
 
 def generated(generate, seeds):
@@ -204,10 +204,10 @@ def main():
                     tester.both(name, files)
         return 0
 
-    orafix.run_with_stack(work)
+    ended = orafix.run_with_stack(work)
     print('annotate: programs by status: %r' % (sorted(tester.statuses.items()),))
     print('%d passed, %d failed' % (tester.passed, tester.failed))
-    return 1 if tester.failed else 0
+    return 1 if ended or tester.failed else 0
 
 
 if __name__ == '__main__':
