@@ -4,7 +4,9 @@ independent annotator.
 
 The programs are all of those in ../shared/programs, as many random ones as the first word says (600 without one), and
 as many with a wrong type as the second says (600). Of a conflict the status is compared alone: which of several is shown
-is free. Where ../shared is missing the check is skipped. The last line is 'N passed, M failed'."""
+is free. The reference gives each pass of a `finally` body elements of its own; here the passes share those of a node, so
+the reference is made to share them too. Where ../shared is missing the check is skipped. The last line is 'N passed, M
+failed'."""
 import glob
 import os
 import random
@@ -136,6 +138,25 @@ def agree(got, want):
     return got == want
 
 
+def share_nodes(annotate):
+    """Makes the reference go on with the element that all passes of a node have together."""
+    def done(self, node, elem, operands):
+        known = self.a.node_elem
+        if elem[0] == 'conflict':
+            self.conflict(node, operands)
+        old = known.get(node.id)
+        both = elem if old is None else self.a.join(old, elem)
+        if both[0] == 'conflict':
+            self.conflict(node, operands)
+        if old is None or self.a.norm(both) != self.a.norm(old):
+            self.a.version += 1
+        known[node.id] = self.cur[node.id] = both
+        if both == annotate.UNREACHED:
+            raise annotate.Stop()
+        return both
+    annotate.FunctionPass.done = done
+
+
 class Tester:
     def __init__(self, folder, oracle):
         self.folder = folder
@@ -178,9 +199,11 @@ def main():
         print('annotate: the program is not built')
         return 1
     sys.path[:0] = [os.path.join(SHARED, 'oracle'), os.path.join(SHARED, 'fuzz')]
+    import annotate
     import gen
     import mutate
     import orafix
+    share_nodes(annotate)
     random_count = int(sys.argv[1]) if len(sys.argv) > 1 else 600
     mutant_count = int(sys.argv[2]) if len(sys.argv) > 2 else 600
     seconds = SECONDS if len(sys.argv) < 2 else 100000
