@@ -7,7 +7,5 @@ mod names;
 mod own;
 mod range;
 mod stores;
-#[cfg(test)]
-mod tests;
 
 pub use classes::{Classes, Initial};
