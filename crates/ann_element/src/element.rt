@@ -146,25 +146,3 @@ fn deepest(parts: &[Element]) -> u64 {
     }
     most
 }
-
-/// The word for an element that is no tuple, site, class or function, in the text of an annotation.
-pub fn element_word(e: &Element) -> &'static [u8] {
-    match e {
-        Element::Unreached => b"unreached",
-        Element::NoneOnly => b"None",
-        Element::KnownTrue => b"True",
-        Element::KnownFalse => b"False",
-        Element::Bool => b"bool",
-        Element::IntPos => b"int+",
-        Element::Int => b"int",
-        Element::Char => b"char",
-        Element::Str => b"str",
-        Element::StrOrNone => b"str?",
-        Element::Tuple(_) => b"tuple",
-        Element::List(_, _) => b"list",
-        Element::Dict(_, _) => b"dict",
-        Element::Instance(_, _) => b"instance",
-        Element::Func(_, _) => b"func",
-        Element::Conflict(_, _) => b"conflict",
-    }
-}

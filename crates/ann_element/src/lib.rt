@@ -8,7 +8,7 @@ mod sites;
 
 pub use annotation::{Annotation, Spot, SpotKind};
 pub use element::{
-    Element, copy_element, copy_elements, copy_functions, depth_of, element_word, is_bool,
-    is_conflict, is_int, is_str, is_unreached,
+    Element, copy_element, copy_elements, copy_functions, depth_of, is_bool, is_conflict, is_int,
+    is_str, is_unreached,
 };
 pub use sites::Sites;

@@ -169,11 +169,7 @@ fn join_none(
 
 // ---- functions
 
-// The next of two lists of functions in rising order.
-fn push_rising(functions: &mut Seq<FunId>, function: FunId) -> Result<(), NoMem> {
-    functions.push(function)
-}
-
+// The functions of two lists in rising order.
 fn union(a: &[FunId], b: &[FunId], joined: &mut Seq<FunId>) -> Result<(), NoMem> {
     match a {
         [] => push_all(b, joined),
@@ -181,13 +177,13 @@ fn union(a: &[FunId], b: &[FunId], joined: &mut Seq<FunId>) -> Result<(), NoMem>
             [] => push_all(a, joined),
             [other, others @ ..] => {
                 if *first < *other {
-                    push_rising(joined, *first)?;
+                    joined.push(*first)?;
                     union(further, b, joined)
                 } else if *other < *first {
-                    push_rising(joined, *other)?;
+                    joined.push(*other)?;
                     union(a, others, joined)
                 } else {
-                    push_rising(joined, *first)?;
+                    joined.push(*first)?;
                     union(further, others, joined)
                 }
             }
