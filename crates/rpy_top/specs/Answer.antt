@@ -8,6 +8,9 @@ use Rattle.rpy_top.specs.Lower.{lowered}
 use Rattle.rpy_first.specs.Gives.{Gives}
 use Rattle.rpy_first.specs.Program.{program_of}
 use Rattle.rpy_top.specs.Built.{Built}
+use Rattle.rpy_compiled.specs.Compile.{IsFile}
+use Rattle.csub_tree.specs.declared.tree.CFile.{CFile}
+use Rattle.ll_code.specs.declared.program.LlProgram.{LlProgram}
 use Rattle.rpy_first.specs.declared.fault.TranslateFault.{TranslateFault as FrontFault}
 use Rattle.rpy_first.specs.declared.fault.TranslateFault.TheVariants as front
 use Rattle.rpy_checked.specs.declared.fault.CheckFault.{CheckFault}
@@ -27,7 +30,7 @@ use Rattle.rpy_front.specs.Names.{IsMisnamed, name_refusal}
 use Rattle.rpy_tree.specs.declared.program.Program.{Program}
 use Rattle.rpy_top.specs.declared.building.BuildWork.{BuildWork}
 use Rattle.rpy_top.specs.declared.building.BuildWork.TheVariants.{Ended, AtFile, Refused as RefusedAt, Misnamed, Conflicts, Untypable}
-use Rattle.rpy_top.specs.Command.{Brought, Writing, Running as RunningFile, NotThere, module_name}
+use Rattle.rpy_top.specs.Command.{Brought, Writing, Running as RunningFile, RunningProgram, RunningLow, Sampling, NotThere, module_name}
 use Rattle.rpy_top.specs.declared.job.Task.{Task}
 use Rattle.rpy_top.specs.declared.job.Task.TheVariants.{Build, Check, Annotate, Flow}
 use Rattle.rpy_resolved.specs.Label.{class_labels, function_labels}
@@ -144,13 +147,32 @@ pub record AreProgram (sources names : List (List ℕ)) (modules : List Named) :
   pub program : Program
   pub is : prog modules ≡ Some program
 
--- the text is a translation of the program that the sources are
-pub record Translates (sources names : List (List ℕ)) (text : List ℕ) : Type 0 where
+-- there is such a program
+pub record HasProgram (sources names : List (List ℕ)) : Type 0 where
   pub modules : List Named
   pub make : AreProgram sources names modules
+
+-- the text does what the only body of the modules means
+pub record OfBody (modules : List Named) (text : List ℕ) : Type 0 where
   pub body : Body
   pub is : only_body modules ≡ Some body
   pub built : Built (program_of body) text
+
+-- the text is the spelling of a C file that keeps the rules, which the passes make of a low-level program
+pub record Emits (text : List ℕ) : Type 0 where
+  pub file : CFile
+  pub is_file : IsFile file
+  pub spells : text ≡ file_text file
+
+-- the text is a translation of modules: where they are one of the first path, it does what its body means
+abbrev pub TranslatesModules : List Named → List ℕ → Type 0
+TranslatesModules modules text = OfBody modules text ⊎ ((only_body modules ≡ None) × Emits text)
+
+-- and the modules are the program that the sources are
+pub record Translates (sources names : List (List ℕ)) (text : List ℕ) : Type 0 where
+  pub modules : List Named
+  pub make : AreProgram sources names modules
+  pub is : TranslatesModules modules text
 
 -- the text is that of graphs of the program's functions, one for each in their order
 pub record DrawsProgram (program : Program) (text : List ℕ) : Type 0 where
@@ -239,14 +261,24 @@ IsCheck (NoTypes file line kind) = Unit {0}
 IsCheck NoMemory = Unit {0}
 IsCheck fault = ⊥
 
+-- what a call answers that writes the C text of a program by its low-level program
+abbrev pub CompilesProgram : Result (List ℕ) TranslateFault → Type 0
+CompilesProgram (Ok text) = Emits text
+CompilesProgram (Err Unready) = Unit {0}
+CompilesProgram (Err fault) = IsCheck fault
+
+-- and one that gives its low-level program
+abbrev pub LowersProgram : Result LlProgram TranslateFault → Type 0
+LowersProgram (Ok typed) = Unit {0}
+LowersProgram (Err Unready) = Unit {0}
+LowersProgram (Err fault) = IsCheck fault
+
 -- what a call answers that writes the C text of a program, whose only body was asked for
 abbrev pub BuildsProgram : List ℕ → Result Body FrontFault → Result (List ℕ) TranslateFault → Type 0
 BuildsProgram name (Ok body) (Ok text) = text ≡ text_of name body
 BuildsProgram name (Ok body) (Err NoMemory) = Unit {0}
 BuildsProgram name (Ok body) (Err fault) = ⊥
-BuildsProgram name (Err front.NotYet) (Ok text) = ⊥
-BuildsProgram name (Err front.NotYet) (Err Unready) = Unit {0}
-BuildsProgram name (Err front.NotYet) (Err fault) = IsCheck fault
+BuildsProgram name (Err front.NotYet) result = CompilesProgram result
 BuildsProgram name (Err fault) (Ok text) = ⊥
 BuildsProgram name (Err fault) (Err NoMemory) = Unit {0}
 BuildsProgram name (Err fault) (Err other) = ⊥
@@ -264,7 +296,7 @@ WritesProgram Flow name p found result = ShowsProgram (DrawsProgram p) result
 
 -- what is written of the program that modules are
 abbrev pub WritesOf : Task → List Named → Program → List ℕ → Type 0
-WritesOf Build ms p text = (body : Body) × (only_body ms ≡ Some body) × Built (program_of body) text
+WritesOf Build ms p text = TranslatesModules ms text
 WritesOf Check ms p text = text ≡ approval
 WritesOf Annotate ms p text = AnnotatesProgram p text
 WritesOf Flow ms p text = DrawsProgram p text
@@ -299,6 +331,22 @@ WritesTo task sources names (Err (NoTypes file line kind)) = AreChecked task sou
 WritesTo task sources names (Err Unready) = IsLeft task sources names
 WritesTo task sources names (Err NoMemory) = Unit {0}
 
+-- what a call answers that gives the low-level program of modules
+abbrev pub LowersModules : List Named → Result LlProgram TranslateFault → Type 0
+LowersModules ms (Ok typed) = (p : Program) × (prog ms ≡ Some p)
+LowersModules ms (Err (Refused file line kind)) = ⊥
+LowersModules ms (Err (NoProgram file line kind)) = IsMisnamed ms file line kind
+LowersModules ms (Err NoMemory) = Unit {0}
+LowersModules ms (Err fault) = (p : Program) × (prog ms ≡ Some p)
+
+-- and of sources
+abbrev pub LowersTo : List (List ℕ) → List (List ℕ) → Result LlProgram TranslateFault → Type 0
+LowersTo sources names (Ok typed) = HasProgram sources names
+LowersTo sources names (Err (Refused file line kind)) = IsRefusedAt sources names file line kind
+LowersTo sources names (Err (NoProgram file line kind)) = AreNoProgram sources names file line kind
+LowersTo sources names (Err NoMemory) = Unit {0}
+LowersTo sources names (Err fault) = HasProgram sources names
+
 -- ---- the work
 
 -- the files were read, and this holds of their bytes and the names of their modules
@@ -313,18 +361,33 @@ StopsLoading (AtFile file TooLong) names files = StopsAt (IsTooLong limit files)
 StopsLoading (Ended NoMem) names files = AllRead files
 StopsLoading work names files = ⊥
 
+-- the work on files that stops before something is made: what is known of sources for which it is not there yet, and of those that are checked
+abbrev pub Stops : (List (List ℕ) → List (List ℕ) → Type 0) → (List (List ℕ) → List (List ℕ) → Type 0) → BuildWork → List (List ℕ) → Filed → Type 0
+Stops Left Checked (Ended status) names files = StopsLoading (Ended status) names files
+Stops Left Checked (AtFile file NotYet) names files = (file ≡ 0) × OfSources Left names files × AllRead files
+Stops Left Checked (AtFile file status) names files = StopsLoading (AtFile file status) names files
+Stops Left Checked (RefusedAt file line kind) names files = OfSources (λ sources modules. IsRefusedAt sources modules file line kind) names files × AllRead files
+Stops Left Checked (Conflicts file line words) names files = OfSources Checked names files × AllRead files
+Stops Left Checked (Untypable file line kind) names files = OfSources Checked names files × AllRead files
+Stops Left Checked (Misnamed file line kind) names files = OfSources (λ sources modules. AreNoProgram sources modules file line kind) names files × AllRead files
+
+-- the text that is made of files, of which there are at most 64
+abbrev pub MakesText : Task → Bool → Result (List ℕ) BuildWork → List (List ℕ) → Filed → Type 0
+MakesText task true (Ok text) names files = OfSources (λ sources modules. Writes task sources modules text) names files × AllRead files
+MakesText task true (Err work) names files = Stops (IsLeft task) (AreChecked task) work names files
+MakesText task false result names files = (result ≡ Err (Ended TooMany)) × AllRead files
+
+-- the low-level program
+abbrev pub MakesCode : Bool → Result LlProgram BuildWork → List (List ℕ) → Filed → Type 0
+MakesCode true (Ok typed) names files = OfSources HasProgram names files × AllRead files
+MakesCode true (Err work) names files = Stops HasProgram HasProgram work names files
+MakesCode false result names files = (result ≡ Err (Ended TooMany)) × AllRead files
+
 -- when the work on files ends in each way
 abbrev pub BuildsTo : Task → BuildWork → List (List ℕ) → Filed → Sunk → Type 0
 BuildsTo task (Ended Done) names files out = OfSources (λ sources modules. (text : List ℕ) × Writes task sources modules text × Took out text) names files × AllRead files
 BuildsTo task (Ended WriteFault) names files out = OfSources (λ sources modules. (text : List ℕ) × Writes task sources modules text × TookPart out text) names files × AllRead files
-BuildsTo task (Ended NoMem) names files out = StopsLoading (Ended NoMem) names files × IsQuiet out
-BuildsTo task (Ended status) names files out = ⊥
-BuildsTo task (AtFile file NotYet) names files out = (file ≡ 0) × OfSources (IsLeft task) names files × IsQuiet out × AllRead files
-BuildsTo task (AtFile file status) names files out = StopsLoading (AtFile file status) names files × IsQuiet out
-BuildsTo task (RefusedAt file line kind) names files out = OfSources (λ sources modules. IsRefusedAt sources modules file line kind) names files × IsQuiet out × AllRead files
-BuildsTo task (Conflicts file line words) names files out = OfSources (AreChecked task) names files × IsQuiet out × AllRead files
-BuildsTo task (Untypable file line kind) names files out = OfSources (AreChecked task) names files × IsQuiet out × AllRead files
-BuildsTo task (Misnamed file line kind) names files out = OfSources (λ sources modules. AreNoProgram sources modules file line kind) names files × IsQuiet out × AllRead files
+BuildsTo task work names files out = Stops (IsLeft task) (AreChecked task) work names files × IsQuiet out
 
 -- at most 64 files make a program
 abbrev pub Builds : Task → Bool → BuildWork → List (List ℕ) → Filed → Sunk → Type 0
@@ -335,13 +398,16 @@ Builds task false work names files out = (work ≡ Ended TooMany) × IsQuiet out
 abbrev pub Works : BuildWork → Brought → Filed → Sunk → Type 0
 Works work NotThere files out = (work ≡ Ended Usage) × IsQuiet out × AllRead files
 Works work (Writing task names) files out = Builds task (nat_le (length names) 64) work names files out
-Works work (RunningFile file words) files out = ⊥
+Works work other files out = ⊥
 
 -- the files that the words name
 abbrev pub files_of : Brought → List (List ℕ)
 files_of NotThere = []
 files_of (Writing task names) = names
 files_of (RunningFile file words) = file ∷ []
+files_of (RunningProgram words) = words.files
+files_of (RunningLow words) = words.files
+files_of (Sampling k) = codes "sample" ∷ []
 
 -- the file at a place
 abbrev pub file_at : List (List ℕ) → ℕ → List ℕ
@@ -429,6 +495,10 @@ untranslated NoMemory = Ended NoMem
 abbrev pub WritesFiles : Task → List (List ℕ) → List (List ℕ) → Result (List ℕ) BuildWork → Type 0
 WritesFiles task sources names (Ok text) = Writes task sources (map module_name names) text
 WritesFiles task sources names (Err work) = (work ≡ Ended NoMem) ⊎ ((fault : TranslateFault) × (work ≡ untranslated fault) × WritesTo task sources (map module_name names) (Err fault))
+
+abbrev pub LowersFiles : List (List ℕ) → List (List ℕ) → Result LlProgram BuildWork → Type 0
+LowersFiles sources names (Ok typed) = HasProgram sources (map module_name names)
+LowersFiles sources names (Err work) = (work ≡ Ended NoMem) ⊎ ((fault : TranslateFault) × (work ≡ untranslated fault) × LowersTo sources (map module_name names) (Err fault))
 
 -- a line is said, if there was memory for it
 abbrev pub SaysLine : {N : Type 0} → Status → Status → Result (List ℕ) N → Sunk → Type 0

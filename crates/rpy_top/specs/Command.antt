@@ -8,7 +8,7 @@ use Rattle.rpy_top.specs.declared.words.RunWords.{RunWords}
 use Rattle.rpy_top.specs.declared.words.RunAsked.{RunAsked}
 use Rattle.rpy_top.specs.declared.words.Opted.{Opted as CodeOpted}
 use Rattle.rpy_top.specs.declared.job.Job.{Job}
-use Rattle.rpy_top.specs.declared.job.Job.TheVariants.{Write as JobWrite, CRun as JobCRun, Nothing as NoJob}
+use Rattle.rpy_top.specs.declared.job.Job.TheVariants.{Write as JobWrite, Run as JobRun, LlRun as JobLlRun, CRun as JobCRun, Sample as JobSample, Nothing as NoJob}
 use Rattle.rpy_top.specs.declared.job.Task.{Task}
 use Rattle.rpy_top.specs.declared.job.Task.TheVariants as task
 use Rattle.rpy_top.specs.declared.words.Options.{Options as CodeOptions}
@@ -256,8 +256,8 @@ AskedIs (AskedBuild files) what = (what ≡ Some (Build files.now)) × (are_sour
 AskedIs (AskedCheck files) what = (what ≡ Some (Check files.now)) × (are_sources files.now ≡ true)
 AskedIs (AskedAnnotate files) what = (what ≡ Some (Annotate files.now)) × (are_sources files.now ≡ true)
 AskedIs (AskedFlow files) what = (what ≡ Some (Flow files.now)) × (are_sources files.now ≡ true)
-AskedIs (AskedRun r) what = what ≡ Some (Run (words_of r))
-AskedIs (AskedLlRun r) what = what ≡ Some (LlRun (words_of r))
+AskedIs (AskedRun r) what = (what ≡ Some (Run (words_of r))) × (are_sources r.files.now ≡ true)
+AskedIs (AskedLlRun r) what = (what ≡ Some (LlRun (words_of r))) × (are_sources r.files.now ≡ true)
 AskedIs (AskedCRun r) what = what ≡ Some (CRun (words_of r))
 AskedIs (AskedSample k) what = what ≡ Some (Sample k)
 AskedIs Nothing what = what ≡ None
@@ -272,15 +272,18 @@ abbrev pub OptionsAre : CodeOptions → Option Opted → Type 0
 OptionsAre (OptionsRead o) what = what ≡ Some (opted_of o)
 OptionsAre OptionsBad what = what ≡ None
 
-abbrev pub RunIs : RunOf → Option RunWords → Type 0
-RunIs (RunGood r) what = what ≡ Some (words_of r)
-RunIs RunBad what = what ≡ None
+abbrev pub RunIs : (List (List ℕ) → Bool) → RunOf → Option RunWords → Type 0
+RunIs test (RunGood r) what = (what ≡ Some (words_of r)) × (test r.files.now ≡ true)
+RunIs test RunBad what = what ≡ None
 
--- ---- the commands that are there so far; other words are as words that fit no command
+-- ---- what there is to do
 
 pub data Brought : Type 0 where
   Writing : (what : Task) → (files : List (List ℕ)) → Brought
   Running : (file : List ℕ) → (words : RunWords) → Brought
+  RunningProgram : (words : RunWords) → Brought
+  RunningLow : (words : RunWords) → Brought
+  Sampling : (k : ℕ) → Brought
   NotThere : Brought
 
 -- a run of the one C file that its words name
@@ -293,10 +296,16 @@ brought (Some (Build files)) = Writing task.Build files
 brought (Some (Check files)) = Writing task.Check files
 brought (Some (Annotate files)) = Writing task.Annotate files
 brought (Some (Flow files)) = Writing task.Flow files
+brought (Some (Run words)) = RunningProgram words
+brought (Some (LlRun words)) = RunningLow words
 brought (Some (CRun words)) = run_file words.files words
-brought other = NotThere
+brought (Some (Sample k)) = Sampling k
+brought None = NotThere
 
 abbrev pub JobIs : Job → Brought → Type 0
 JobIs (JobWrite t files) what = (what ≡ Writing t files.now) × (are_sources files.now ≡ true)
+JobIs (JobRun asked) what = (what ≡ RunningProgram (words_of asked)) × (are_sources asked.files.now ≡ true)
+JobIs (JobLlRun asked) what = (what ≡ RunningLow (words_of asked)) × (are_sources asked.files.now ≡ true)
 JobIs (JobCRun file asked) what = what ≡ Running file.now (words_of asked)
+JobIs (JobSample k) what = what ≡ Sampling k
 JobIs NoJob what = what ≡ NotThere

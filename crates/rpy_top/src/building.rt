@@ -5,13 +5,14 @@ ghost use Rattle.rpy_checked.specs.Words.{words_of};
 ghost use Rattle.rpy_top.specs.Command.{are_sources};
 ghost use Rattle.rpy_front.specs.Modules.{are_short};
 ghost use Rattle.rpy_top.specs.Answer as spec;
-ghost use Rattle.rpy_top.specs.Answer.{sunk, filed, Builds, BuildsTo, LoadsNext, LoadsAll, WritesFiles, Said, SaysLine};
+ghost use Rattle.rpy_top.specs.Answer.{sunk, filed, Builds, MakesText, MakesCode, LoadsNext, LoadsAll, LowersFiles, WritesFiles, Said, SaysLine};
 
 use crate::edge::{joined, load, put, say, say_text};
 use crate::fault::TranslateFault;
 use crate::job::Task;
-use crate::sources::{names_of, write_sources};
+use crate::sources::{lower_sources, names_of, write_sources};
 use crate::status::Status;
+use ll_code::LlProgram;
 use rpy_base::{Files, NoMem, Seq, Sink, Text};
 use rpy_checked::{TypeKind, type_words};
 use rpy_first::{NameKind, SourceKind, line_at, refusal};
@@ -84,8 +85,8 @@ fn load_all<F: Files>(alloc: Global, files: &mut F, names: &[Text]) -> Result<Se
     Ok(sources)
 }
 
-// What came of sources that have no text.
-fn untranslated(fault: TranslateFault) -> BuildWork
+/// What came of sources that have no text.
+pub fn untranslated(fault: TranslateFault) -> BuildWork
     ensures { result ≡ spec.untranslated fault }
 {
     match fault {
@@ -122,32 +123,96 @@ fn write_files(
     }
 }
 
-fn write_few<F: Files, K: Sink>(
+// The low-level program of the program that sources are, which the names of their files name.
+#[tactic(auto, using(crate::proofs::Translation::sources_named, crate::proofs::Translation::some_sources))]
+fn lower_files(alloc: Global, files: &[Text], sources: &[Text]) -> Result<LlProgram, BuildWork>
+    requires named { are_sources files.now ≡ true }
+    requires few { length files.now ≤ 64 }
+    requires same { length sources.now ≡ length files.now }
+    requires short { are_short sources.now ≡ true }
+    ensures { LowersFiles sources.now files.now result }
+{
+    let names = match names_of(alloc, files) {
+        Ok(names) => names,
+        Err(NoMem) => return Err(BuildWork::Ended(Status::NoMem)),
+    };
+    match lower_sources(alloc, sources, &names) {
+        Ok(typed) => Ok(typed),
+        Err(fault) => Err(untranslated(fault)),
+    }
+}
+
+fn make_few<F: Files>(
     alloc: Global,
     task: Task,
     names: &[Text],
     files: &mut F,
-    out: &mut K,
-) -> BuildWork
+) -> Result<Text, BuildWork>
     requires named { are_sources names.now ≡ true }
     requires few { length names.now ≤ 64 }
     ensures held { F.held files.new ≡ F.held files.old }
-    ensures builds { BuildsTo task result names.now (filed F.held F.faults files.old files.new) (sunk K.faults K.taken out.old out.new) }
+    ensures makes { MakesText task true result names.now (filed F.held F.faults files.old files.new) }
 {
     let sources = match load_all(alloc, files, names) {
         Ok(sources) => sources,
-        Err(work) => return work,
+        Err(work) => return Err(work),
     };
-    match write_files(alloc, task, names, sources.as_slice()) {
-        Ok(text) => match put(out, text.bytes()) {
-            Ok(()) => BuildWork::Ended(Status::Done),
-            Err(status) => BuildWork::Ended(status),
-        },
-        Err(work) => work,
+    write_files(alloc, task, names, sources.as_slice())
+}
+
+/// What is written of the program of files, of which there may be 64.
+pub fn make<F: Files>(
+    alloc: Global,
+    task: Task,
+    names: &[Text],
+    files: &mut F,
+) -> Result<Text, BuildWork>
+    requires { are_sources names.now ≡ true }
+    ensures held { F.held files.new ≡ F.held files.old }
+    ensures makes { MakesText task (nat_le (length names.now) 64) result names.now (filed F.held F.faults files.old files.new) }
+{
+    if names.len() <= MOST_FILES {
+        make_few(alloc, task, names, files)
+    } else {
+        Err(BuildWork::Ended(Status::TooMany))
     }
 }
 
-/// The work on files, of which there may be 64.
+fn make_few_low<F: Files>(
+    alloc: Global,
+    names: &[Text],
+    files: &mut F,
+) -> Result<LlProgram, BuildWork>
+    requires named { are_sources names.now ≡ true }
+    requires few { length names.now ≤ 64 }
+    ensures held { F.held files.new ≡ F.held files.old }
+    ensures makes { MakesCode true result names.now (filed F.held F.faults files.old files.new) }
+{
+    let sources = match load_all(alloc, files, names) {
+        Ok(sources) => sources,
+        Err(work) => return Err(work),
+    };
+    lower_files(alloc, names, sources.as_slice())
+}
+
+/// The low-level program of the program of files, of which there may be 64.
+pub fn make_low<F: Files>(
+    alloc: Global,
+    names: &[Text],
+    files: &mut F,
+) -> Result<LlProgram, BuildWork>
+    requires { are_sources names.now ≡ true }
+    ensures held { F.held files.new ≡ F.held files.old }
+    ensures makes { MakesCode (nat_le (length names.now) 64) result names.now (filed F.held F.faults files.old files.new) }
+{
+    if names.len() <= MOST_FILES {
+        make_few_low(alloc, names, files)
+    } else {
+        Err(BuildWork::Ended(Status::TooMany))
+    }
+}
+
+/// The work on files: what is made of them is written.
 pub fn write<F: Files, K: Sink>(
     alloc: Global,
     task: Task,
@@ -159,15 +224,17 @@ pub fn write<F: Files, K: Sink>(
     ensures held { F.held files.new ≡ F.held files.old }
     ensures builds { Builds task (nat_le (length names.now) 64) result names.now (filed F.held F.faults files.old files.new) (sunk K.faults K.taken out.old out.new) }
 {
-    if names.len() <= MOST_FILES {
-        write_few(alloc, task, names, files, out)
-    } else {
-        BuildWork::Ended(Status::TooMany)
+    match make(alloc, task, names, files) {
+        Ok(text) => match put(out, text.bytes()) {
+            Ok(()) => BuildWork::Ended(Status::Done),
+            Err(status) => BuildWork::Ended(status),
+        },
+        Err(work) => work,
     }
 }
 
-// The name of the file at a place.
-fn file_at(names: &[Text], file: u32) -> &[u8]
+/// The name of the file at a place.
+pub fn file_at(names: &[Text], file: u32) -> &[u8]
     ensures { result.now ≡ spec.file_at names.now file }
 {
     match names.get(file as usize) {

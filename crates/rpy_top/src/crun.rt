@@ -70,7 +70,7 @@ fn line_with(alloc: Global, start: &[u8], end: &[u8]) -> Result<Text, NoMem>
     Ok(text)
 }
 
-fn outcome_line(alloc: Global, outcome: &Outcome) -> Result<Text, NoMem>
+pub fn outcome_line(alloc: Global, outcome: &Outcome) -> Result<Text, NoMem>
     ensures { IfOk result (λ text. text ≡ spec.outcome_line outcome.now) }
 {
     match outcome {
@@ -83,7 +83,7 @@ fn outcome_line(alloc: Global, outcome: &Outcome) -> Result<Text, NoMem>
     }
 }
 
-fn outcome_status(outcome: &Outcome) -> Status
+pub fn outcome_status(outcome: &Outcome) -> Status
     ensures { result ≡ spec.outcome_status outcome.now }
 {
     match outcome {
@@ -223,7 +223,7 @@ fn spent_line(alloc: Global) -> Result<Text, NoMem>
     Text::from_bytes(alloc, b"work spent\n")
 }
 
-fn say_spent<E: Sink>(alloc: Global, err: &mut E) -> Status
+pub fn say_spent<E: Sink>(alloc: Global, err: &mut E) -> Status
     ensures { Says status.WorkSpent result spec.spent_line (sunk E.faults E.taken err.old err.new) }
 {
     match spent_line(alloc) {
@@ -232,7 +232,7 @@ fn say_spent<E: Sink>(alloc: Global, err: &mut E) -> Status
     }
 }
 
-fn say_ran<E: Sink>(
+pub fn say_ran<E: Sink>(
     alloc: Global,
     ran: &Result<CRan, RunFault>,
     asked: &RunAsked<'_>,
@@ -299,7 +299,7 @@ fn say_work<E: Sink>(
 // ---- the work
 
 // The words that a program is given: its name, and the arguments.
-fn arguments(alloc: Global, args: &[Text]) -> Result<Vec<Text>, NoMem>
+pub fn arguments(alloc: Global, args: &[Text]) -> Result<Vec<Text>, NoMem>
     ensures { IfOk result (λ made. made.items ≡ codes "program" ∷ args.now) }
 {
     let mut made = Vec::new(alloc);
@@ -326,7 +326,7 @@ fn run_file<K: Sink>(
     }
 }
 
-fn run_text<K: Sink>(
+pub fn run_text<K: Sink>(
     alloc: Global,
     text: &Text,
     asked: &RunAsked<'_>,

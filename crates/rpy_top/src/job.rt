@@ -1,4 +1,4 @@
-// The commands that are there so far.
+// What there is to do for each command.
 ghost use Rattle.std.specs.Prelude.{◌≡◌, ◌∷◌, [], true, Some};
 ghost use Rattle.rpy_top.specs.Command as spec;
 ghost use Rattle.rpy_top.specs.Command.{JobIs, brought, command};
@@ -15,12 +15,18 @@ pub enum Task {
     Flow,
 }
 
-/// What there is to do for a command that is there.
+/// What there is to do for words.
 #[derive(Clone, Copy)]
 pub enum Job<'a> {
     Write(Task, &'a [Text]),
+    /// The program of the files is run by its C text.
+    Run(RunAsked<'a>),
+    /// It is run by its low-level program.
+    LlRun(RunAsked<'a>),
     /// The C file, and the words of its run.
     CRun(&'a Text, RunAsked<'a>),
+    /// The sample program with so many functions is run.
+    Sample(u32),
     Nothing,
 }
 
@@ -42,10 +48,10 @@ pub fn job_of(words: &[Text]) -> Job<'_>
         Asked::Check(files) => Job::Write(Task::Check, files),
         Asked::Annotate(files) => Job::Write(Task::Annotate, files),
         Asked::Flow(files) => Job::Write(Task::Flow, files),
-        Asked::Run(_) => Job::Nothing,
-        Asked::LlRun(_) => Job::Nothing,
+        Asked::Run(asked) => Job::Run(asked),
+        Asked::LlRun(asked) => Job::LlRun(asked),
         Asked::CRun(asked) => c_run_of(asked),
-        Asked::Sample(_) => Job::Nothing,
+        Asked::Sample(k) => Job::Sample(k),
         Asked::Nothing => Job::Nothing,
     }
 }

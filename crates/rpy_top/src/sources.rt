@@ -2,7 +2,7 @@
 ghost use Rattle.std.specs.Prelude.{◌≡◌, ◌≤◌, ◌<◌, ◌++◌, map, length, true, IfOk, codes};
 ghost use Rattle.rpy_front.specs.Modules.{are_short};
 ghost use Rattle.rpy_top.specs.Command.{are_module_names, is_name, are_sources, module_name};
-ghost use Rattle.rpy_top.specs.Answer.{AnnotatesProgram, BuildsProgram, DrawsProgram, OnlyBody, ShowsProgram, WritesModules, WritesProgram, WritesTo, approval, text_of};
+ghost use Rattle.rpy_top.specs.Answer.{AnnotatesProgram, BuildsProgram, CompilesProgram, DrawsProgram, LowersModules, LowersProgram, LowersTo, OnlyBody, ShowsProgram, WritesModules, WritesProgram, WritesTo, approval, text_of};
 
 use crate::fault::{TranslateFault, check_fault, front_fault};
 use crate::job::Task;
@@ -11,8 +11,10 @@ use crate::words::module_name;
 use ann_text::annotation_text;
 use flow_graph::graphs_text;
 use genc_writer::write_c;
+use ll_code::LlProgram;
 use rpy_base::{NoMem, Seq, Text};
 use rpy_checked::check;
+use rpy_compiled::{compile, low_level};
 use rpy_first::{Body, TranslateFault as FrontFault, first_path};
 use rpy_front::{read_modules, refused_name};
 use rpy_names::{Named, resolve};
@@ -46,7 +48,20 @@ fn only_body(alloc: Global, modules: &[Named]) -> Result<Body, FrontFault>
     }
 }
 
-// The C text of a program, where its only body was found; else its checks come first.
+// The C text of a program by its low-level program, once it has passed its checks.
+fn compiled(alloc: Global, program: &Program) -> Result<Text, TranslateFault>
+    ensures { CompilesProgram result }
+{
+    match check(alloc, program) {
+        Ok(checked) => match compile(alloc, program, &checked)? {
+            Some(file) => Ok(write_c(alloc, &file)?),
+            None => Err(TranslateFault::NotYet),
+        },
+        Err(fault) => Err(check_fault(fault)),
+    }
+}
+
+// The C text of a program, where its only body was found; else by the passes for all programs.
 fn build(
     alloc: Global,
     name: &[u8],
@@ -57,10 +72,7 @@ fn build(
 {
     match found {
         Ok(body) => Ok(write_program(alloc, name, &body)?),
-        Err(FrontFault::NotYet) => match check(alloc, program) {
-            Ok(_checked) => Err(TranslateFault::NotYet),
-            Err(fault) => Err(check_fault(fault)),
-        },
+        Err(FrontFault::NotYet) => compiled(alloc, program),
         Err(_) => Err(TranslateFault::NoMem),
     }
 }
@@ -150,6 +162,52 @@ pub fn write_sources(
 {
     match read_modules(alloc, sources, names) {
         Ok(modules) => write_modules(alloc, task, names[0].bytes(), modules),
+        Err(fault) => Err(front_fault(fault)),
+    }
+}
+
+// The low-level program of a program, once it has passed its checks.
+fn lower_program(alloc: Global, program: &Program) -> Result<LlProgram, TranslateFault>
+    ensures { LowersProgram result }
+{
+    match check(alloc, program) {
+        Ok(checked) => match low_level(alloc, program, &checked)? {
+            Some(typed) => Ok(typed),
+            None => Err(TranslateFault::NotYet),
+        },
+        Err(fault) => Err(check_fault(fault)),
+    }
+}
+
+// The low-level program of modules.
+fn lower_modules(alloc: Global, modules: Seq<Named>) -> Result<LlProgram, TranslateFault>
+    ensures { LowersModules modules result }
+{
+    match resolve(alloc, modules) {
+        Ok(program) => lower_program(alloc, &program),
+        Err(refusal) => {
+            let fault = refused_name(alloc, refusal.modules.as_slice(), refusal.fault);
+            Err(front_fault(fault))
+        }
+    }
+}
+
+/// The low-level program of sources, each with its module's name.
+#[tactic(auto, using(crate::proofs::Translation::lowered))]
+pub fn lower_sources(
+    alloc: Global,
+    sources: &[Text],
+    names: &[Text],
+) -> Result<LlProgram, TranslateFault>
+    requires some { 0 < length sources.now }
+    requires few { length sources.now ≤ 64 }
+    requires same { length names.now ≡ length sources.now }
+    requires named { are_module_names names.now ≡ true }
+    requires short { are_short sources.now ≡ true }
+    ensures { LowersTo sources.now names.now result }
+{
+    match read_modules(alloc, sources, names) {
+        Ok(modules) => lower_modules(alloc, modules),
         Err(fault) => Err(front_fault(fault)),
     }
 }

@@ -12,6 +12,9 @@ use crate::building::{BuildWork, say_work, write};
 use crate::crun::crun;
 use crate::fault::TranslateFault;
 use crate::job::{Job, Task, job_of};
+use crate::llrun::llrun;
+use crate::run::run;
+use crate::sample::sample;
 use crate::sources::write_sources;
 use crate::status::Status;
 use rpy_base::{Files, HeapWatch, Seq, Sink, Text};
@@ -52,7 +55,10 @@ fn work<F: Files, K: Sink, E: Sink>(
 {
     match job_of(words) {
         Job::Write(task, names) => write_and_say(alloc, task, names, files, out, err),
+        Job::Run(asked) => run(alloc, &asked, files, out, err, watch),
+        Job::LlRun(asked) => llrun(alloc, &asked, files, out, err),
         Job::CRun(file, asked) => crun(alloc, file, &asked, files, out, err, watch),
+        Job::Sample(k) => sample(alloc, k, out, err, watch),
         Job::Nothing => say_work(alloc, BuildWork::Ended(Status::Usage), &[], err),
     }
 }

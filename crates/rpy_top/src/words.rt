@@ -13,7 +13,7 @@ const MOST_STEPS: u64 = 4611686018427387903;
 
 const MOST_FUNCTIONS: u64 = 10000;
 
-const DEFAULT_STEPS: u64 = 1000000000;
+pub const DEFAULT_STEPS: u64 = 1000000000;
 
 /// A run: the bound on its steps, which reports it asks for, its files, and its arguments.
 #[derive(Drop)]
@@ -451,7 +451,7 @@ fn options_of(reports: bool, words: &[Text]) -> Options<'_>
 }
 
 fn run_of(reports: bool, words: &[Text]) -> RunOf<'_>
-    ensures { spec.RunIs result (spec.run_of reports spec.are_sources words.now) }
+    ensures { spec.RunIs spec.are_sources result (spec.run_of reports spec.are_sources words.now) }
 {
     match options_of(reports, words) {
         Options::Read(o) => {
@@ -467,7 +467,7 @@ fn run_of(reports: bool, words: &[Text]) -> RunOf<'_>
 }
 
 fn c_run_of(words: &[Text]) -> RunOf<'_>
-    ensures { spec.RunIs result (spec.run_of true spec.is_c_file words.now) }
+    ensures { spec.RunIs spec.is_c_file result (spec.run_of true spec.is_c_file words.now) }
 {
     match options_of(true, words) {
         Options::Read(o) => {

@@ -62,7 +62,8 @@ fn is_exit_of_words(annotation: &Annotation, number: usize, graph: &Graph, exit:
         Exit::If(v, _, _) => is_plain(variable_kind(annotation, number, *v)),
         Exit::OnRaise(_, hands, by, _) => hands.is_empty() && is_uncaught(graph, by),
         Exit::Return(v) => is_plain(variable_kind(annotation, number, *v)),
-        Exit::Raise(_) => false,
+        // an operation that raises is not of words, so nothing comes here
+        Exit::Raise(_) => true,
     }
 }
 

@@ -1,0 +1,57 @@
+// The passes behind the checks, in a row. Where a pass has no place for a program, it is not compiled.
+ghost use Rattle.std.specs.Prelude.{IfOk, IfSome};
+ghost use Rattle.rpy_compiled.specs.Compile.{IsFile, IsFileOf};
+
+use csub_tree::{CFile, checked};
+use exc_transform::{is_without_exceptions, make_explicit};
+use genc_lower::lower;
+use ll_code::LlProgram;
+use refcount_transform::{count, is_without_pointers};
+use rpy_base::NoMem;
+use rpy_checked::Checked;
+use rpy_resolved::resolved;
+use rpy_tree::Program;
+use rtyper_program::{is_words, rtype_words};
+use std::alloc::Global;
+
+/// The low-level program of a program that has passed its checks; `None` where it has one that is
+/// not of words, truth values and strings of length one.
+pub fn low_level(
+    alloc: Global,
+    program: &Program,
+    checked: &Checked,
+) -> Result<Option<LlProgram>, NoMem> {
+    let resolved = resolved(alloc, program)?;
+    if !is_words(alloc, &resolved, &checked.graphs, &checked.annotation)? {
+        return Ok(None);
+    }
+    let typed = rtype_words(alloc, &resolved, &checked.graphs, &checked.annotation)?;
+    Ok(Some(typed))
+}
+
+// The C file of a low-level program; `None` where one of the passes does not take it.
+fn file_of(alloc: Global, typed: LlProgram) -> Result<Option<CFile>, NoMem>
+    ensures { IfOk result (λ made. IfSome made (λ file. IsFileOf typed file)) }
+{
+    if !is_without_exceptions(&typed) || !is_without_pointers(&typed) {
+        return Ok(None);
+    }
+    let explicit = make_explicit(alloc, typed)?;
+    let counted = count(alloc, explicit)?;
+    let file = lower(alloc, &counted)?;
+    match checked(&file) {
+        Ok(()) => Ok(Some(file)),
+        Err(_) => Ok(None),
+    }
+}
+
+/// The C file of a program that has passed its checks, which keeps every rule of C files; `None` where
+/// the program has no low-level program, or that no such file.
+pub fn compile(alloc: Global, program: &Program, checked: &Checked) -> Result<Option<CFile>, NoMem>
+    ensures { IfOk result (λ made. IfSome made IsFile) }
+{
+    match low_level(alloc, program, checked)? {
+        None => Ok(None),
+        Some(typed) => file_of(alloc, typed),
+    }
+}
