@@ -1,66 +1,138 @@
-// The transform.
-ghost use Rattle.std.specs.Prelude.{◌≡◌, ◌↔◌, IsTrue, IfOk};
-ghost use Rattle.refcount_transform.specs.Counted as spec;
-
-use ll_code::{LlGraph, LlProgram, LlStage, LlType};
-use rpy_base::NoMem;
+// Whole programs.
+use crate::copies::copy_struct;
+use crate::made::push_all_made;
+use crate::plan::{Plan, base_of, counted_structs, counts_of_structs, has_count};
+use crate::releases::graph_of;
+use csub_tree::{CCell, CConst, CStatic};
+use ll_code::{LlGraph, LlProgram, LlStage, LlStatic, LlStruct, LlType};
+use rpy_base::{NoMem, Seq};
 use std::alloc::Global;
 
-fn is_plain(kind: LlType) -> bool
-    ensures { result ≡ spec.is_plain kind }
-{
-    match kind {
-        LlType::Ptr(_) => false,
-        LlType::Signed | LlType::Char | LlType::Bool | LlType::Void | LlType::Fn => true,
-    }
-}
+// ---- structs
 
-fn are_plain(kinds: &[LlType]) -> bool
-    ensures { result ≡ spec.are_plain kinds.now }
-{
+fn push_types(kinds: &[LlType], into: &mut Seq<LlType>) -> Result<(), NoMem> {
     for kind in kinds {
-        if !is_plain(*kind) {
-            return false;
-        }
+        into.push(*kind)?;
     }
-    true
+    Ok(())
 }
 
-fn graph_plain(graph: &LlGraph) -> bool
-    ensures { result ≡ spec.graph_plain graph.now }
-{
-    is_plain(graph.result) && are_plain(graph.types.as_slice())
+fn with_count(alloc: Global, s: &LlStruct) -> Result<LlStruct, NoMem> {
+    let mut fields = Seq::new(alloc);
+    fields.push(LlType::Signed)?;
+    fields.push(LlType::Fn)?;
+    push_types(s.fields.as_slice(), &mut fields)?;
+    Ok(LlStruct {
+        base: s.base,
+        fields,
+        items: s.items,
+    })
 }
 
-fn graphs_plain(graphs: &[LlGraph]) -> bool
-    ensures { result ≡ spec.graphs_plain graphs.now }
-{
+fn struct_of(alloc: Global, plan: Plan<'_>, n: u64, s: &LlStruct) -> Result<LlStruct, NoMem> {
+    if has_count(plan, n) {
+        with_count(alloc, s)
+    } else {
+        copy_struct(alloc, s)
+    }
+}
+
+fn structs_of(alloc: Global, plan: Plan<'_>) -> Result<Seq<LlStruct>, NoMem> {
+    let mut made = Seq::new(alloc);
+    for n in 0..plan.structs.len() {
+        made.push(struct_of(alloc, plan, n as u64, &plan.structs[n])?)?;
+    }
+    Ok(made)
+}
+
+// ---- graphs
+
+fn graphs_of(alloc: Global, plan: Plan<'_>, graphs: &[LlGraph]) -> Result<Seq<LlGraph>, NoMem> {
+    let mut made = Seq::new(alloc);
     for graph in graphs {
-        if !graph_plain(graph) {
-            return false;
-        }
+        made.push(graph_of(alloc, plan, graph)?)?;
     }
-    true
+    push_all_made(alloc, plan, &mut made)?;
+    Ok(made)
 }
 
-/// Whether no variable and no result of a program is a pointer.
-pub fn is_without_pointers(program: &LlProgram) -> bool
-    ensures { IsTrue result ↔ spec.IsWithoutPointers program.now }
-{
-    graphs_plain(program.graphs.as_slice())
+// ---- statics
+
+fn copy_cell(alloc: Global, cell: &CCell) -> Result<CCell, NoMem> {
+    match cell {
+        CCell::Const(what) => Ok(CCell::Const(*what)),
+        CCell::Braces(cells) => Ok(CCell::Braces(copy_cells(alloc, cells.as_slice())?)),
+    }
 }
 
-/// A program of the stage `Counted` that means what a program of the stage `Explicit` does. The
-/// program is one whose variables and results are no pointers.
-pub fn count(_alloc: Global, program: LlProgram) -> Result<LlProgram, NoMem>
-    requires { spec.IsWithoutPointers program }
-    ensures { IfOk result (λ made. made ≡ spec.counted program) }
-{
+fn copy_cells(alloc: Global, cells: &[CCell]) -> Result<Seq<CCell>, NoMem> {
+    let mut made = Seq::new(alloc);
+    push_cells(alloc, cells, &mut made)?;
+    Ok(made)
+}
+
+fn push_cells(alloc: Global, cells: &[CCell], into: &mut Seq<CCell>) -> Result<(), NoMem> {
+    for cell in cells {
+        into.push(copy_cell(alloc, cell)?)?;
+    }
+    Ok(())
+}
+
+// A static has a reference of its own, so it is never released.
+fn with_first(alloc: Global, plan: Plan<'_>, n: u64, cells: &[CCell]) -> Result<Seq<CCell>, NoMem> {
+    let mut made = Seq::new(alloc);
+    if has_count(plan, n) {
+        made.push(CCell::Const(CConst::Word(1)))?;
+        made.push(CCell::Const(CConst::Null))?;
+    }
+    push_cells(alloc, cells, &mut made)?;
+    Ok(made)
+}
+
+// The cells of a block of this struct; those of the base stand within the first.
+fn cells_of(alloc: Global, plan: Plan<'_>, n: u64, cells: &[CCell]) -> Result<Seq<CCell>, NoMem> {
+    match base_of(plan.structs, n) {
+        None => with_first(alloc, plan, n, cells),
+        Some(m) => match cells {
+            [CCell::Braces(inner), rest @ ..] => {
+                let mut made = Seq::new(alloc);
+                made.push(CCell::Braces(cells_of(alloc, plan, m, inner.as_slice())?))?;
+                push_cells(alloc, rest, &mut made)?;
+                Ok(made)
+            }
+            _ => copy_cells(alloc, cells),
+        },
+    }
+}
+
+fn statics_of(alloc: Global, plan: Plan<'_>, statics: &[LlStatic]) -> Result<Seq<LlStatic>, NoMem> {
+    let mut made = Seq::new(alloc);
+    for item in statics {
+        made.push(CStatic {
+            kind: item.kind,
+            cells: cells_of(alloc, plan, item.kind, item.cells.as_slice())?,
+        })?;
+    }
+    Ok(made)
+}
+
+/// A program of the stage `Counted` that means what a program of the stage `Explicit` does, and frees
+/// each block once no reference leads to it.
+pub fn count(alloc: Global, program: &LlProgram) -> Result<LlProgram, NoMem> {
+    let structs = program.structs.as_slice();
+    let graphs = program.graphs.as_slice();
+    let counted = counted_structs(alloc, structs, graphs)?;
+    let counts = counts_of_structs(alloc, structs, counted.as_slice(), graphs.len() as u64)?;
+    let plan = Plan {
+        structs,
+        counted: counted.as_slice(),
+        counts: counts.as_slice(),
+    };
     Ok(LlProgram {
         stage: LlStage::Counted,
-        structs: program.structs,
-        statics: program.statics,
-        graphs: program.graphs,
+        structs: structs_of(alloc, plan)?,
+        statics: statics_of(alloc, plan, program.statics.as_slice())?,
+        graphs: graphs_of(alloc, plan, graphs)?,
         entry: program.entry,
     })
 }

@@ -1,7 +1,20 @@
-//! Counts of references: blocks of memory of low-level programs are freed when nothing refers to
-//! them.
+//! Counts for low-level programs: each block of memory holds how many references lead to it, and is
+//! freed once there are none.
+//!
+//! A variable that is a reference owns one from where it is set until it is last read. An
+//! operation that copies a reference takes one more, a call gives those of its operands to the graph
+//! that it calls, and an exit gives those that it reads on. In a root struct the count is field 0, and
+//! the function that releases the block field 1. In a struct with items field 0 of its own is their
+//! number where items are references. References lead to root structs, and no operation sets a
+//! reference that it reads.
 #![tactic(auto)]
 
+mod changes;
+mod copies;
 mod counted;
+mod live;
+mod made;
+mod plan;
+mod releases;
 
-pub use counted::{count, is_without_pointers};
+pub use counted::count;

@@ -1,12 +1,12 @@
 // The passes behind the checks, in a row. Where a pass has no place for a program, it is not compiled.
 ghost use Rattle.std.specs.Prelude.{IfOk, IfSome};
-ghost use Rattle.rpy_compiled.specs.Compile.{IsFile, IsFileOf};
+ghost use Rattle.rpy_compiled.specs.Compile.{IsFile};
 
 use csub_tree::{CFile, checked};
 use exc_transform::{is_without_exceptions, make_explicit};
 use genc_lower::lower;
 use ll_code::LlProgram;
-use refcount_transform::{count, is_without_pointers};
+use refcount_transform::count;
 use rpy_base::NoMem;
 use rpy_checked::Checked;
 use rpy_resolved::resolved;
@@ -31,13 +31,13 @@ pub fn low_level(
 
 // The C file of a low-level program; `None` where one of the passes does not take it.
 fn file_of(alloc: Global, typed: LlProgram) -> Result<Option<CFile>, NoMem>
-    ensures { IfOk result (λ made. IfSome made (λ file. IsFileOf typed file)) }
+    ensures { IfOk result (λ made. IfSome made IsFile) }
 {
-    if !is_without_exceptions(&typed) || !is_without_pointers(&typed) {
+    if !is_without_exceptions(&typed) {
         return Ok(None);
     }
     let explicit = make_explicit(alloc, typed)?;
-    let counted = count(alloc, explicit)?;
+    let counted = count(alloc, &explicit)?;
     let file = lower(alloc, &counted)?;
     match checked(&file) {
         Ok(()) => Ok(Some(file)),

@@ -11,6 +11,8 @@ const WRAPS: &str = "def entry_point(argv):\n    print 9223372036854775807 + 1\n
 const SUMS: &str =
     "def entry_point(argv):\n    x = 2 * 3 - 10\n    y = x * x\n    print y\n    x = y - x\n    return x\n";
 
+const STRINGS: &str = "def entry_point(argv):\n    print 'ab'\n    return 0\n";
+
 pub fn words_of(alloc: Global, line: &str) -> Result<Vec<Text>, NoMem> {
     let mut words = Vec::new(alloc);
     for word in line.split_whitespace() {
@@ -65,7 +67,7 @@ fn words_and_sources_have_statuses(rt: HostRuntime) -> Result<(), Fail> {
         ),
         (
             "build a.py",
-            "def entry_point(x):\n    return len(x)\n",
+            "def entry_point(x):\n    print 'ab'\n    return len(x)\n",
             16,
             "a.py: not yet\n",
         ),
@@ -228,13 +230,13 @@ fn translate_answers_the_text_of_build(rt: HostRuntime) -> Result<(), Fail> {
 }
 
 #[test]
-fn two_sources_are_not_translated_yet(rt: HostRuntime) -> Result<(), Fail> {
+fn strings_are_not_translated_yet(rt: HostRuntime) -> Result<(), Fail> {
     let alloc = rt.alloc();
     let mut names = Seq::new(alloc);
     let mut sources = Seq::new(alloc);
-    for name in ["a", "b"] {
+    for (name, source) in [("a", STRINGS), ("b", RETURNS)] {
         names.push(Text::from_bytes(alloc, name.as_bytes())?)?;
-        sources.push(Text::from_bytes(alloc, RETURNS.as_bytes())?)?;
+        sources.push(Text::from_bytes(alloc, source.as_bytes())?)?;
     }
     assert!(rt; are_module_names(names.as_slice()));
     assert!(rt; are_short(sources.as_slice()));
@@ -359,13 +361,7 @@ fn files_make_one_program(rt: HostRuntime) -> Result<(), Fail> {
             3,
             "b.py:2: bad constant\n",
         ),
-        (
-            "build a.py b.py",
-            IMPORTS,
-            "X = 1\nY = X << 62\n",
-            16,
-            "a.py: not yet\n",
-        ),
+        ("build a.py b.py", IMPORTS, "X = 1\nY = X << 62\n", 0, ""),
         ("build a.py", IMPORTS, "", 3, "a.py:1: no module\n"),
         (
             "build b.py a.py",
