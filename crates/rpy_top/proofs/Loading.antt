@@ -1,5 +1,5 @@
 -- One more file after the first ones.
-use Rattle.std.proofs.Common.{◌≡◌, ℕ, zero, suc, ◌+◌, ◌≤◌, List, [], ◌∷◌, ◌++◌, length, get_or, Option, Some, None, Result, Ok, Err, refl, sym, ap, subst, ◌∙◌, arith, true, false, inl, inr}
+use Rattle.std.proofs.Common.{◌≡◌, ℕ, zero, suc, ◌+◌, ◌≤◌, Bool, List, [], ◌∷◌, ◌++◌, length, get_or, Option, Some, None, Result, Ok, Err, refl, sym, ap, subst, ◌∙◌, arith, true, false, inl, inr}
 use Rattle.std.specs.Prelude.{slice_get, nat_lt, nat_le, map, IfSome}
 use Rattle.rpy_top.specs.declared.fault.TranslateFault.{TranslateFault}
 use Rattle.rpy_top.specs.declared.fault.TranslateFault.TheVariants as fault
@@ -7,7 +7,8 @@ use Rattle.rpy_top.specs.Command.{module_name}
 use Rattle.std.proofs.lemmas.Bool.Decides.{nat_tests}
 use Rattle.rpy_base.specs.Reading.{Disk}
 use Rattle.rpy_front.specs.Modules.{are_short}
-use Rattle.rpy_top.specs.Answer.{Filed, filed, Sunk, AllRead, AreBytes, AreFirst, AreSources, OfSources, Writes, WritesTo, WritesFiles, untranslated, Took, IsQuiet, PutEnds, BuildsTo, StopsAt, StopsAtNext, StopsLoading, limit}
+use Rattle.ll_code.specs.declared.program.LlProgram.{LlProgram}
+use Rattle.rpy_top.specs.Answer.{Filed, filed, Sunk, AllRead, AreBytes, AreFirst, AreSources, AreChecked, HasProgram, IsLeft, OfSources, WritesTo, WritesFiles, LowersTo, LowersFiles, MakesText, MakesCode, Stops, untranslated, Took, IsQuiet, PutEnds, Builds, StopsAt, StopsAtNext, StopsLoading, limit}
 use Rattle.rpy_top.proofs.Rules.{and_both}
 use Rattle.rpy_top.specs.declared.building.BuildWork.{BuildWork}
 use Rattle.rpy_top.specs.declared.building.BuildWork.TheVariants.{Ended, AtFile, Refused, Misnamed}
@@ -73,29 +74,80 @@ shorts files names [] first = refl
 shorts files [] (b ∷ sources) first = absurd first
 shorts files (n ∷ names) (b ∷ sources) first = and_both _ _ (le_true (length b) 1048576 first.0.0) (shorts files names sources first.1)
 
+-- ---- what is made of the files
+
+text_by_fault : (task : Task) (names sources : List (List ℕ)) (files : Filed) (f : TranslateFault) → AreSources files names sources → WritesTo task sources (map module_name names) (Err f) → AllRead files → Stops (IsLeft task) (AreChecked task) (untranslated f) names files
+text_by_fault task names sources files (fault.Source file line kind) are t read = ((sources, are, t), read)
+text_by_fault task names sources files (fault.Name file line kind) are t read = ((sources, are, t), read)
+text_by_fault task names sources files (fault.Conflict file line words) are t read = ((sources, are, t), read)
+text_by_fault task names sources files (fault.Typing file line kind) are t read = ((sources, are, t), read)
+text_by_fault task names sources files fault.NotYet are t read = (refl, (sources, are, t), read)
+text_by_fault task names sources files fault.NoMem are t read = read
+
+pub text_made : (task : Task) (names sources : List (List ℕ)) (files : Filed) (r : Result (List ℕ) BuildWork) → AreSources files names sources → WritesFiles task sources names r → AllRead files → MakesText task true r names files
+text_made task names sources files (Ok text) are w read = ((sources, are, w), read)
+text_made task names sources files (Err work) are w read = elim w [
+  | inl e ↦ subst (λ x. Stops (IsLeft task) (AreChecked task) x names files) (sym e) read
+  | inr f ↦ subst (λ x. Stops (IsLeft task) (AreChecked task) x names files) (sym f.1) (text_by_fault task names sources files f.0 are f.2 read)
+]
+
+code_by_fault : (names sources : List (List ℕ)) (files : Filed) (f : TranslateFault) → AreSources files names sources → LowersTo sources (map module_name names) (Err f) → AllRead files → Stops HasProgram HasProgram (untranslated f) names files
+code_by_fault names sources files (fault.Source file line kind) are t read = ((sources, are, t), read)
+code_by_fault names sources files (fault.Name file line kind) are t read = ((sources, are, t), read)
+code_by_fault names sources files (fault.Conflict file line words) are t read = ((sources, are, t), read)
+code_by_fault names sources files (fault.Typing file line kind) are t read = ((sources, are, t), read)
+code_by_fault names sources files fault.NotYet are t read = (refl, (sources, are, t), read)
+code_by_fault names sources files fault.NoMem are t read = read
+
+pub code_made : (names sources : List (List ℕ)) (files : Filed) (r : Result LlProgram BuildWork) → AreSources files names sources → LowersFiles sources names r → AllRead files → MakesCode true r names files
+code_made names sources files (Ok typed) are w read = ((sources, are, w), read)
+code_made names sources files (Err work) are w read = elim w [
+  | inl e ↦ subst (λ x. Stops HasProgram HasProgram x names files) (sym e) read
+  | inr f ↦ subst (λ x. Stops HasProgram HasProgram x names files) (sym f.1) (code_by_fault names sources files f.0 are f.2 read)
+]
+
+-- a file that is not read stops the work
+pub load_stops : (Left Checked : List (List ℕ) → List (List ℕ) → Type 0) (work : BuildWork) (names : List (List ℕ)) (files : Filed) → StopsLoading work names files → Stops Left Checked work names files
+load_stops Left Checked (Ended s) names files w = w
+load_stops Left Checked (AtFile file status.NotYet) names files w = absurd w
+load_stops Left Checked (AtFile file s) names files w = w
+load_stops Left Checked work names files w = absurd w
+
+pub too_many_text : (task : Task) (names : List (List ℕ)) (files : Filed) (few : Bool) → few ≡ false → AllRead files → MakesText task few (Err (Ended status.TooMany)) names files
+too_many_text task names files true e read = absurd cc
+too_many_text task names files false e read = (refl, read)
+
+pub too_many_code : (names : List (List ℕ)) (files : Filed) (few : Bool) → few ≡ false → AllRead files → MakesCode few (Err (Ended status.TooMany)) names files
+too_many_code names files true e read = absurd cc
+too_many_code names files false e read = (refl, read)
+
 -- ---- the text is put, or not
 
-pub put_fails : (task : Task) (names : List (List ℕ)) (files : Filed) (text : List ℕ) (out : Sunk) (s : Status) → OfSources (λ sources modules. Writes task sources modules text) names files → AllRead files → PutEnds (Err s) text out → BuildsTo task (Ended s) names files out
-put_fails task names files text out status.WriteFault of read ends = ((of.0, of.1, (text, of.2, ends)), read)
-put_fails task names files text out status.NoMem of read ends = (read, ends)
-put_fails task names files text out s of read ends = absurd ends
+no_text : (text : List ℕ) (work : BuildWork) → Ok text ≡ Err work → ⊥
+no_text text work e = cc
+
+wrong : BuildWork → Result (List ℕ) BuildWork
+wrong work = Err work
+
+same_work : (a b : BuildWork) → wrong a ≡ wrong b → a ≡ b
+unfolding wrong
+same_work a b e = cc
+
+pub put_fails : (task : Task) (few : Bool) (names : List (List ℕ)) (files : Filed) (text : List ℕ) (out : Sunk) (s : Status) → MakesText task few (Ok text) names files → PutEnds (Err s) text out → Builds task few (Ended s) names files out
+put_fails task true names files text out status.WriteFault of ends = ((of.0.0, of.0.1, (text, of.0.2, ends)), of.1)
+put_fails task true names files text out status.NoMem of ends = (of.1, ends)
+put_fails task true names files text out s of ends = absurd ends
+put_fails task false names files text out s of ends = absurd (no_text text (Ended status.TooMany) of.0)
 
 -- or it is whole
-pub put_ends : (task : Task) (names : List (List ℕ)) (files : Filed) (text : List ℕ) (out : Sunk) → OfSources (λ sources modules. Writes task sources modules text) names files → AllRead files → Took out text → BuildsTo task (Ended status.Done) names files out
-put_ends task names files text out of read took = ((of.0, of.1, (text, of.2, took)), read)
+pub put_ends : (task : Task) (few : Bool) (names : List (List ℕ)) (files : Filed) (text : List ℕ) (out : Sunk) → MakesText task few (Ok text) names files → Took out text → Builds task few (Ended status.Done) names files out
+put_ends task true names files text out of took = ((of.0.0, of.0.1, (text, of.0.2, took)), of.1)
+put_ends task false names files text out of took = absurd (no_text text (Ended status.TooMany) of.0)
 
--- ---- nothing is written
-
-by_fault : (task : Task) (names sources : List (List ℕ)) (files : Filed) (out : Sunk) (f : TranslateFault) → AreSources files names sources → WritesTo task sources (map module_name names) (Err f) → AllRead files → IsQuiet out → BuildsTo task (untranslated f) names files out
-by_fault task names sources files out (fault.Source file line kind) are t read quiet = ((sources, are, t), quiet, read)
-by_fault task names sources files out (fault.Name file line kind) are t read quiet = ((sources, are, t), quiet, read)
-by_fault task names sources files out (fault.Conflict file line words) are t read quiet = ((sources, are, t), quiet, read)
-by_fault task names sources files out (fault.Typing file line kind) are t read quiet = ((sources, are, t), quiet, read)
-by_fault task names sources files out fault.NotYet are t read quiet = (refl, (sources, are, t), quiet, read)
-by_fault task names sources files out fault.NoMem are t read quiet = (read, quiet)
-
-pub writes_fail : (task : Task) (names sources : List (List ℕ)) (files : Filed) (out : Sunk) (work : BuildWork) → AreSources files names sources → WritesFiles task sources names (Err work) → AllRead files → IsQuiet out → BuildsTo task work names files out
-writes_fail task names sources files out work are w read quiet = elim w [
-  | inl e ↦ subst (λ x. BuildsTo task x names files out) (sym e) (read, quiet)
-  | inr f ↦ subst (λ x. BuildsTo task x names files out) (sym f.1) (by_fault task names sources files out f.0 are f.2 read quiet)
-]
+-- or there is none
+pub not_made : (task : Task) (few : Bool) (names : List (List ℕ)) (files : Filed) (work : BuildWork) (out : Sunk) → MakesText task few (Err work) names files → IsQuiet out → Builds task few work names files out
+not_made task true names files (Ended status.Done) out w quiet = absurd w
+not_made task true names files (Ended status.WriteFault) out w quiet = absurd w
+not_made task true names files (Ended s) out w quiet = (w, quiet)
+not_made task true names files work out w quiet = (w, quiet)
+not_made task false names files work out w quiet = (same_work work (Ended status.TooMany) w.0, quiet, w.1)

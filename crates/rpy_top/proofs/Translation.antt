@@ -20,7 +20,8 @@ use Rattle.rpy_top.specs.declared.fault.TranslateFault.TheVariants.{Source, Name
 use Rattle.rpy_first.specs.Gives.{Gives}
 use Rattle.rpy_names.specs.Resolve.{prog}
 use Rattle.rpy_tree.specs.declared.program.Program.{Program}
-use Rattle.rpy_top.specs.Answer.{IsCheck, IsChecked, WritesProgram, Sunk, Says, SaysLine, text_of, only_body, WritesModules, WritesTo}
+use Rattle.ll_code.specs.declared.program.LlProgram.{LlProgram}
+use Rattle.rpy_top.specs.Answer.{IsCheck, IsChecked, LowersProgram, LowersModules, LowersTo, WritesProgram, Sunk, Says, SaysLine, text_of, only_body, WritesModules, WritesTo}
 use Rattle.rpy_top.specs.declared.job.Task.{Task}
 use Rattle.rpy_top.specs.declared.job.Task.TheVariants.{Build, Check, Annotate, Flow}
 use Rattle.rpy_top.specs.declared.status.Status.{Status}
@@ -77,7 +78,7 @@ built_only name (m ∷ n ∷ ms) body text named is_path is = absurd (none_some 
 
 -- what becomes of sources is what becomes of their modules
 pub written : (task : Task) (sources names : List (List ℕ)) (ms : List Named) (r : Result (List ℕ) TranslateFault) → AreModules sources names ms → WritesModules task ms r → WritesTo task sources names r
-written Build sources names ms (Ok text) are t = record { modules = ms; make = record { are = are; program = t.0; is = t.1 }; body = t.2.0; is = t.2.1; built = t.2.2 }
+written Build sources names ms (Ok text) are t = record { modules = ms; make = record { are = are; program = t.0; is = t.1 }; is = t.2 }
 written Check sources names ms (Ok text) are t = record { modules = ms; make = record { are = are; program = t.0; is = t.1 }; is = t.2 }
 written Annotate sources names ms (Ok text) are t = record { modules = ms; make = record { are = are; program = t.0; is = t.1 }; annotates = t.2 }
 written Flow sources names ms (Ok text) are t = record { modules = ms; make = record { are = are; program = t.0; is = t.1 }; draws = t.2 }
@@ -131,14 +132,14 @@ of_check task ms p NoMem is checked t = tt
 
 -- what becomes of modules that make a program is what becomes of the program
 pub of_program : (task : Task) (name : List ℕ) (ms : List Named) (p : Program) (found : Result Body FrontFault) (r : Result (List ℕ) TranslateFault) → is_name name ≡ true → prog ms ≡ Some p → Gives (only_body ms) found → WritesProgram task name p found r → WritesModules task ms r
-of_program Build name ms p (Ok body) (Ok text) named is gives t = (p, is, (body, gives, built_only name ms body text named gives t))
+of_program Build name ms p (Ok body) (Ok text) named is gives t = (p, is, inl (record { body = body; is = gives; built = built_only name ms body text named gives t }))
 of_program Build name ms p (Ok body) (Err NoMem) named is gives t = tt
 of_program Build name ms p (Ok body) (Err (Source file line kind)) named is gives t = absurd t
 of_program Build name ms p (Ok body) (Err (Name file line kind)) named is gives t = absurd t
 of_program Build name ms p (Ok body) (Err (Conflict file line words)) named is gives t = absurd t
 of_program Build name ms p (Ok body) (Err (Typing file line kind)) named is gives t = absurd t
 of_program Build name ms p (Ok body) (Err NotYet) named is gives t = absurd t
-of_program Build name ms p (Err front.NotYet) (Ok text) named is gives t = absurd t
+of_program Build name ms p (Err front.NotYet) (Ok text) named is gives t = (p, is, inr (gives, t))
 of_program Build name ms p (Err front.NotYet) (Err (Source file line kind)) named is gives t = absurd t
 of_program Build name ms p (Err front.NotYet) (Err (Name file line kind)) named is gives t = absurd t
 of_program Build name ms p (Err front.NotYet) (Err (Conflict file line words)) named is gives t = (p, is, gives)
@@ -160,3 +161,23 @@ of_program Annotate name ms p found (Ok text) named is gives t = (p, is, t)
 of_program Annotate name ms p found (Err fault) named is gives t = of_check Annotate ms p fault is tt t
 of_program Flow name ms p found (Ok text) named is gives t = (p, is, t)
 of_program Flow name ms p found (Err fault) named is gives t = of_check Flow ms p fault is tt t
+
+-- the low-level program of modules that make a program
+pub of_lowered : (ms : List Named) (p : Program) (r : Result LlProgram TranslateFault) → prog ms ≡ Some p → LowersProgram r → LowersModules ms r
+of_lowered ms p (Ok typed) is t = (p, is)
+of_lowered ms p (Err (Source file line kind)) is t = absurd t
+of_lowered ms p (Err (Name file line kind)) is t = absurd t
+of_lowered ms p (Err (Conflict file line words)) is t = (p, is)
+of_lowered ms p (Err (Typing file line kind)) is t = (p, is)
+of_lowered ms p (Err NotYet) is t = (p, is)
+of_lowered ms p (Err NoMem) is t = tt
+
+-- and of sources
+pub lowered_of : (sources names : List (List ℕ)) (ms : List Named) (r : Result LlProgram TranslateFault) → AreModules sources names ms → LowersModules ms r → LowersTo sources names r
+lowered_of sources names ms (Ok typed) are t = record { modules = ms; make = record { are = are; program = t.0; is = t.1 } }
+lowered_of sources names ms (Err (Source file line kind)) are t = absurd t
+lowered_of sources names ms (Err (Name file line kind)) are t = record { modules = ms; are = are; misnamed = t }
+lowered_of sources names ms (Err (Conflict file line words)) are t = record { modules = ms; make = record { are = are; program = t.0; is = t.1 } }
+lowered_of sources names ms (Err (Typing file line kind)) are t = record { modules = ms; make = record { are = are; program = t.0; is = t.1 } }
+lowered_of sources names ms (Err NotYet) are t = record { modules = ms; make = record { are = are; program = t.0; is = t.1 } }
+lowered_of sources names ms (Err NoMem) are t = tt

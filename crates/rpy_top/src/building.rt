@@ -142,6 +142,7 @@ fn lower_files(alloc: Global, files: &[Text], sources: &[Text]) -> Result<LlProg
     }
 }
 
+#[tactic(auto, using(crate::proofs::Loading::load_stops, crate::proofs::Loading::shorts, crate::proofs::Loading::text_made))]
 fn make_few<F: Files>(
     alloc: Global,
     task: Task,
@@ -161,6 +162,7 @@ fn make_few<F: Files>(
 }
 
 /// What is written of the program of files, of which there may be 64.
+#[tactic(auto, using(crate::proofs::Loading::too_many_text))]
 pub fn make<F: Files>(
     alloc: Global,
     task: Task,
@@ -178,6 +180,7 @@ pub fn make<F: Files>(
     }
 }
 
+#[tactic(auto, using(crate::proofs::Loading::load_stops, crate::proofs::Loading::shorts, crate::proofs::Loading::code_made))]
 fn make_few_low<F: Files>(
     alloc: Global,
     names: &[Text],
@@ -196,6 +199,7 @@ fn make_few_low<F: Files>(
 }
 
 /// The low-level program of the program of files, of which there may be 64.
+#[tactic(auto, using(crate::proofs::Loading::too_many_code))]
 pub fn make_low<F: Files>(
     alloc: Global,
     names: &[Text],
@@ -213,6 +217,7 @@ pub fn make_low<F: Files>(
 }
 
 /// The work on files: what is made of them is written.
+#[tactic(auto, using(crate::proofs::Loading::put_fails, crate::proofs::Loading::put_ends, crate::proofs::Loading::not_made))]
 pub fn write<F: Files, K: Sink>(
     alloc: Global,
     task: Task,

@@ -180,6 +180,7 @@ fn lower_program(alloc: Global, program: &Program) -> Result<LlProgram, Translat
 }
 
 // The low-level program of modules.
+#[tactic(auto, using(crate::proofs::Translation::of_lowered))]
 fn lower_modules(alloc: Global, modules: Seq<Named>) -> Result<LlProgram, TranslateFault>
     ensures { LowersModules modules result }
 {
@@ -193,7 +194,7 @@ fn lower_modules(alloc: Global, modules: Seq<Named>) -> Result<LlProgram, Transl
 }
 
 /// The low-level program of sources, each with its module's name.
-#[tactic(auto, using(crate::proofs::Translation::lowered))]
+#[tactic(auto, using(crate::proofs::Translation::lowered_of))]
 pub fn lower_sources(
     alloc: Global,
     sources: &[Text],

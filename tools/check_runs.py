@@ -1,0 +1,142 @@
+#!/usr/bin/env python3
+"""Runs random programs by `run`, `llrun` and `build` with `crun`, and compares with an independent interpreter.
+
+What is printed, how the run ends and the status have to agree, at a large bound on steps and at smaller ones. The
+blocks that are left are at most three for each value that the program still holds. The texts of the first programs are
+compiled by gcc as well, where it is there. Words: how many programs of each level (60 without one), and the levels
+(1). Where ../shared is missing the check is skipped. The last line is 'N passed, M failed'."""
+import os
+import re
+import shutil
+import subprocess
+import sys
+import tempfile
+import time
+
+TOP = os.path.dirname(os.path.dirname(os.path.abspath(__file__)))
+SHARED = os.path.join(os.path.dirname(TOP), 'shared')
+PROGRAM = os.path.join(TOP, 'crates', 'rpy', 'out', 'rpy')
+CBUILD = os.path.join(SHARED, 'csub', 'cbuild.sh')
+MOST = 300000
+SECONDS = 240
+COMPILED = 5
+LEVELS = [1]
+TALLY = re.compile(rb'tally: made (\d+), gone (\d+), left (\d+)\n')
+
+
+def run(words, **more):
+    done = subprocess.run(words, capture_output=True, timeout=600, **more)
+    return done.returncode, done.stdout, done.stderr
+
+
+class Runs:
+    def __init__(self, orafix, folder):
+        self.orafix = orafix
+        self.folder = folder
+        self.passed = self.failed = self.programs = self.compiled = 0
+        self.start = time.time()
+
+    def told(self, what, good, got, want):
+        if good:
+            self.passed += 1
+        else:
+            self.failed += 1
+            print('%s: %r, and not %r' % (what, got, want))
+
+    def wanted(self, names, args, bound):
+        """Status, output and ending, the steps paid, and the number of values held."""
+        words = ['run', '--steps', str(bound), '--steps-used', '--held'] + names + args
+        status, out, err = self.orafix.run(words)
+        lines = err.split(b'\n')
+        if status not in (0, 10, 11, 12):
+            return (status, out, err), 0, None
+        held = int(lines[2].split()[1]) if lines[2:] and lines[2].startswith(b'held ') else None
+        return (status, out, lines[0] + b'\n'), int(lines[1].split()[1]), held
+
+    def tallied(self, what, got, want, held):
+        found = TALLY.search(got[2])
+        plain = got[0], got[1], TALLY.sub(b'', got[2])
+        left = int(found.group(3)) if found else None
+        good = plain == want and left is not None and (held is None or left <= 3 * held)
+        self.told(what, good, got, (want, held))
+
+    def at(self, name, names, args, bound, want, held):
+        steps = ['--steps', str(bound)]
+        for command in ('run', 'crun'):
+            files = names if command == 'run' else ['text.c']
+            got = run([PROGRAM, command, '--tally'] + steps + files + args)
+            self.tallied('%s, %s at %d steps' % (name, command, bound), got, want, held)
+        got = run([PROGRAM, 'llrun'] + steps + names + args)
+        self.told('%s, llrun at %d steps' % (name, bound), got == want, got, want)
+
+    def compiles(self, name, args, want):
+        """The text as gcc compiles it prints and ends the same."""
+        if shutil.which('gcc') is None or want[0] != 0:
+            return
+        self.compiled += 1
+        status, _, err = run(['sh', CBUILD, 'text.c', 'text', '-O0'])
+        if status != 0:
+            self.told(name + ', gcc', False, err, '')
+            return
+        got = run([os.path.join('.', 'text')] + args[1:], env=dict(os.environ, RPY_STEPS=str(MOST)))
+        self.told(name + ', as gcc compiles it', got[1] == want[1] and want[2].strip() in got[2], got, want)
+
+    def add(self, name, made, bounds):
+        for file, text in made.files:
+            with open(file, 'w', encoding='latin-1', newline='') as f:
+                f.write(text)
+        names = [file for file, _ in made.files]
+        args = ['--'] + list(made.args)
+        want, steps, held = self.wanted(names, args, MOST)
+        if want[0] not in (0, 10, 11, 12):
+            return
+        status, text, err = run([PROGRAM, 'build'] + names)
+        self.told(name + ', build', status == 0, (status, err), 0)
+        if status != 0:
+            return
+        with open('text.c', 'wb') as f:
+            f.write(text)
+        self.at(name, names, args, MOST, want, held)
+        for k in range(bounds):
+            bound = steps * k // bounds
+            less, _, held = self.wanted(names, args, bound)
+            self.at(name, names, args, bound, less, held)
+        self.programs += 1
+        if self.compiled < COMPILED:
+            self.compiles(name, args, want)
+
+
+def main():
+    if not os.path.isdir(os.path.join(SHARED, 'fuzz')):
+        print('runs: skipped, the references in ../shared are not here')
+        return 0
+    if not os.path.exists(PROGRAM):
+        print('runs: the program is not built')
+        return 1
+    sys.path[:0] = [os.path.join(SHARED, 'fuzz')]
+    import gen
+    import orafix
+    count = int(sys.argv[1]) if len(sys.argv) > 1 else 60
+    levels = [int(word) for word in sys.argv[2:]] or LEVELS
+    with tempfile.TemporaryDirectory() as folder:
+        os.chdir(folder)
+        runs = Runs(orafix, folder)
+
+        def work():
+            for seed in range(count):
+                for level in levels:
+                    if len(sys.argv) < 2 and time.time() - runs.start > SECONDS:
+                        print('runs: stopped after %d seconds' % SECONDS)
+                        return 0
+                    runs.add('level %d, seed %d' % (level, seed), gen.generate(seed, level), 3)
+            return 0
+
+        orafix.run_with_stack(work)
+        os.chdir(TOP)
+    print('%d programs, %d compiled by gcc' % (runs.programs, runs.compiled))
+    print('%d passed, %d failed' % (runs.passed, runs.failed))
+    return 0 if runs.failed == 0 and runs.passed > 0 else 1
+
+
+if __name__ == '__main__':
+    sys.exit(main())
