@@ -58,6 +58,7 @@ fn graphs_of(alloc: Global, plan: Plan<'_>, graphs: &[LlGraph]) -> Result<Seq<Ll
 
 // ---- statics
 
+#[cycle(cell)]
 fn copy_cell(alloc: Global, cell: &CCell) -> Result<CCell, NoMem> {
     match cell {
         CCell::Const(what) => Ok(CCell::Const(*what)),
@@ -65,12 +66,14 @@ fn copy_cell(alloc: Global, cell: &CCell) -> Result<CCell, NoMem> {
     }
 }
 
+#[cycle(cell)]
 fn copy_cells(alloc: Global, cells: &[CCell]) -> Result<Seq<CCell>, NoMem> {
     let mut made = Seq::new(alloc);
     push_cells(alloc, cells, &mut made)?;
     Ok(made)
 }
 
+#[cycle(cell)]
 fn push_cells(alloc: Global, cells: &[CCell], into: &mut Seq<CCell>) -> Result<(), NoMem> {
     for cell in cells {
         into.push(copy_cell(alloc, cell)?)?;
