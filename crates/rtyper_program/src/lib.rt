@@ -2,6 +2,7 @@
 //! bytes.
 #![tactic(auto)]
 
+mod arguments;
 mod blocks;
 mod entry;
 mod graph;

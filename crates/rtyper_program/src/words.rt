@@ -1,4 +1,5 @@
 // Whether a program is one of words, truth values and bytes.
+use crate::arguments::are_arguments_in_place;
 use crate::known::{Known, is_block_reached, is_reached, variable_kind, variable_kinds};
 use ann_element::Annotation;
 use flow_graph::{Block, Exit, Graph, Graphs, Link, Op};
@@ -110,6 +111,9 @@ pub fn is_words(
     annotation: &Annotation,
 ) -> Result<bool, NoMem> {
     let known = Known::new(program, graphs, annotation);
+    if !are_arguments_in_place(annotation, known.graphs, program.entry) {
+        return Ok(false);
+    }
     for i in 0..known.graphs.len() {
         let graph = &known.graphs[i];
         if is_reached(annotation, graph.function)
