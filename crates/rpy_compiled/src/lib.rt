@@ -1,6 +1,6 @@
 //! A checked program to its low-level program, and that to its C file.
 #![tactic(auto)]
 
-mod compile;
+mod passes;
 
-pub use compile::{compile, low_level};
+pub use passes::{compile, low_level};
