@@ -1,4 +1,7 @@
 // Whole programs.
+ghost use Rattle.std.specs.Prelude.{◌≡◌, IfOk};
+ghost use Rattle.ll_code.specs.declared.program.LlStage.TheVariants.{Counted};
+
 use crate::copies::copy_struct;
 use crate::made::push_all_made;
 use crate::plan::{Plan, base_of, counted_structs, counts_of_structs, has_count};
@@ -121,7 +124,10 @@ fn statics_of(alloc: Global, plan: Plan<'_>, statics: &[LlStatic]) -> Result<Seq
 
 /// A program of the stage `Counted` that means what a program of the stage `Explicit` does, and frees
 /// each block once no reference leads to it.
-pub fn count(alloc: Global, program: &LlProgram) -> Result<LlProgram, NoMem> {
+pub fn count(alloc: Global, program: &LlProgram) -> Result<LlProgram, NoMem>
+    ensures stage { IfOk result (λ made. made.stage ≡ Counted) }
+    ensures entry { IfOk result (λ made. made.entry ≡ program.now.entry) }
+{
     let structs = program.structs.as_slice();
     let graphs = program.graphs.as_slice();
     let counted = counted_structs(alloc, structs, graphs)?;
