@@ -1,8 +1,8 @@
 // Where the arguments of the program stand. The first variables of a block are the locals of its
-// function, as many as the first block has.
+// function, as many as the first block has; but for the blocks that leave the function.
 use crate::known::{is_block_reached, is_reached, variable_kind};
 use ann_element::Annotation;
-use flow_graph::{Block, Graph};
+use flow_graph::{Block, Exit, Graph};
 use rpy_tree::FunId;
 use rtyper_words::Kind;
 
@@ -13,6 +13,13 @@ fn may_stand(kind: Kind, is_parameter: bool) -> bool {
         Kind::Count => is_parameter,
         Kind::Never => true,
         Kind::Word | Kind::Flag | Kind::Byte | Kind::Nothing | Kind::Other => !is_parameter,
+    }
+}
+
+fn leaves(exit: &Exit) -> bool {
+    match exit {
+        Exit::Return(_) | Exit::Raise(_) => true,
+        Exit::Goto(_) | Exit::If(_, _, _) | Exit::OnRaise(_, _, _, _) => false,
     }
 }
 
@@ -50,6 +57,7 @@ fn is_graph_in_place(
     let blocks = graph.blocks.as_slice();
     for i in 0..blocks.len() {
         if is_block_reached(annotation, number, i)
+            && !leaves(&blocks[i].exit)
             && !are_locals_in_place(annotation, number, &blocks[i], locals, is_entry)
         {
             return false;
