@@ -255,15 +255,15 @@ summary source ran printed =
     ++ codes "\nsteps " ++ decimal ran.steps_used ++ codes "\n"
 
 -- the lines are written to out; where the run came to no ending, what is said of any run is said
-abbrev pub SaidSample : RunWork → Status → List (List ℕ) → Option (List ℕ) → List Seen → Sunk → Sunk → Type 0
+abbrev pub SaidSample : RunWork → Status → List (List ℕ) → ℕ → List Seen → Sunk → Sunk → Type 0
 SaidSample (OfText (Ran (Ok ran))) answered sources printed seen out err =
-    Says (outcome_status ran.outcome) answered (summary (first_length sources) ran (taken_length printed)) out × IsQuiet err
+    Says (outcome_status ran.outcome) answered (summary (first_length sources) ran printed) out × IsQuiet err
 SaidSample work answered sources printed seen out err = SaidRun work answered sample_words seen err × IsQuiet out
 
 abbrev pub AnswersSource : Status → List (List ℕ) → Sunk → Sunk → List Seen → List Seen → Type 0
 AnswersSource answered sources out err seen seen_now =
     (work : RunWork) × (printed : Sunk) × (printed.taken_before ≡ Some []) × WorksSample work sources printed seen seen_now
-    × SaidSample work answered sources printed.taken seen_now out err
+    × SaidSample work answered sources (taken_length printed.taken) seen_now out err
 
 abbrev pub AnswersSample : Status → ℕ → Sunk → Sunk → List Seen → List Seen → Type 0
 AnswersSample answered k out err seen seen_now = AnswersSource answered (sample k ∷ []) out err seen seen_now

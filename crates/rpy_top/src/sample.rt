@@ -64,31 +64,31 @@ fn put_summary<K: Sink>(
     alloc: Global,
     source: &[Text],
     ran: &CRan,
-    printed: &MemSink,
+    printed: u64,
     out: &mut K,
 ) -> Status
-    ensures { Says (spec.outcome_status ran.now.outcome) result (spec.summary (spec.first_length source.now) ran.now (spec.taken_length (MemSink.Sink.taken printed.now))) (sunk K.faults K.taken out.old out.new) }
+    ensures { Says (spec.outcome_status ran.now.outcome) result (spec.summary (spec.first_length source.now) ran.now printed) (sunk K.faults K.taken out.old out.new) }
 {
     let length = match source {
         [] => 0,
         [text, ..] => text.bytes().len() as u64,
     };
-    match summary(alloc, length, ran, printed.taken().len() as u64) {
+    match summary(alloc, length, ran, printed) {
         Ok(text) => say_text(outcome_status(&ran.outcome), &text, out),
         Err(NoMem) => Status::NoMem,
     }
 }
 
-fn run_source(
+fn run_source<P: Sink>(
     alloc: Global,
     source: &[Text],
     asked: &RunAsked<'_>,
-    printed: &mut MemSink,
+    printed: &mut P,
     watch: &mut Vec<Box<dyn HeapWatch>>,
 ) -> RunWork
     requires fresh { All IsFresh (map (λ w. seen w) watch.old.items) }
     requires named { words_of asked.now ≡ spec.sample_words }
-    ensures { spec.WorksSample result source.now (sunk MemSink.Sink.faults MemSink.Sink.taken printed.old printed.new) (map (λ w. seen w) watch.old.items) (map (λ w. seen w) watch.new.items) }
+    ensures { spec.WorksSample result source.now (sunk P.faults P.taken printed.old printed.new) (map (λ w. seen w) watch.old.items) (map (λ w. seen w) watch.new.items) }
 {
     match translated(alloc, source, asked.files) {
         Ok(text) => RunWork::OfText(run_text(alloc, &text, asked, printed, watch)),
@@ -101,13 +101,13 @@ fn say_sample<K: Sink, E: Sink>(
     work: RunWork,
     source: &[Text],
     asked: &RunAsked<'_>,
-    printed: &MemSink,
+    printed: u64,
     watch: &Vec<Box<dyn HeapWatch>>,
     out: &mut K,
     err: &mut E,
 ) -> Status
     requires { words_of asked.now ≡ spec.sample_words }
-    ensures { spec.SaidSample work result source.now (MemSink.Sink.taken printed.now) (map (λ w. seen w) watch.now.items)
+    ensures { spec.SaidSample work result source.now printed (map (λ w. seen w) watch.now.items)
         (sunk K.faults K.taken out.old out.new) (sunk E.faults E.taken err.old err.new) }
 {
     match work {
@@ -138,7 +138,8 @@ fn sample_of<K: Sink, E: Sink>(
     };
     let mut printed = MemSink::new(alloc);
     let work = run_source(alloc, source, &asked, &mut printed, watch);
-    say_sample(alloc, work, source, &asked, &printed, watch, out, err)
+    let length = printed.taken().len() as u64;
+    say_sample(alloc, work, source, &asked, length, watch, out, err)
 }
 
 // The sample program, and the name of its module.
