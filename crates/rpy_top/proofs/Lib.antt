@@ -10,5 +10,6 @@ mod Quotients
 mod Read
 mod Reports
 mod Rules
+mod Samples
 mod Translation
 mod Whole

@@ -116,6 +116,11 @@ pub some_sources : (files : List (List ℕ)) → are_sources files ≡ true → 
 some_sources [] h = absurd cc
 some_sources (f ∷ files) h = omega arith
 
+-- the module of the sample program
+pub sample_named : (names : List (List ℕ)) → names ≡ codes "sample" ∷ [] → are_module_names names ≡ true
+unfolding name_len
+sample_named names e = ap are_module_names e
+
 -- a line that is said, where its text is known
 pub said_line : {N : Type 0} (status answered : Status) (text : Result (List ℕ) N) (wanted : List ℕ) (err : Sunk) → IfOk text (λ t. t ≡ wanted) → SaysLine status answered text err → Says status answered wanted err
 said_line status answered (Ok t) wanted err e s = subst (λ x. Says status answered x err) e s

@@ -1,5 +1,5 @@
 // The command that runs the sample program.
-ghost use Rattle.std.specs.Prelude.{◌≡◌, ◌++◌, ◌∷◌, [], map, All, IfOk, codes};
+ghost use Rattle.std.specs.Prelude.{◌≡◌, ◌++◌, ◌∷◌, [], length, map, All, IfOk, codes};
 ghost use Rattle.rpy_base.specs.Watching.{IsFresh};
 ghost use Rattle.rpy_sample.specs.Sample as text;
 ghost use Rattle.rpy_top.specs.Answer.{sunk, Says};
@@ -30,11 +30,13 @@ fn one(alloc: Global, text: Text) -> Result<Vec<Text>, NoMem>
 }
 
 // The C text of a source of the module of this name.
+#[tactic(auto, using(crate::proofs::Translation::sample_named))]
 fn translated(alloc: Global, source: &[Text], names: &[Text]) -> Result<Text, BuildWork>
-    requires { names.now ≡ codes "sample" ∷ [] }
+    requires one { length source.now ≡ 1 }
+    requires named { names.now ≡ codes "sample" ∷ [] }
     ensures { spec.MakesSample source.now result }
 {
-    if source.len() != 1 || !are_short(source) {
+    if !are_short(source) {
         return Err(BuildWork::AtFile(0, Status::TooLong));
     }
     match write_sources(alloc, Task::Build, source, names) {
@@ -87,6 +89,7 @@ fn run_source<P: Sink>(
     watch: &mut Vec<Box<dyn HeapWatch>>,
 ) -> RunWork
     requires fresh { All IsFresh (map (λ w. seen w) watch.old.items) }
+    requires one { length source.now ≡ 1 }
     requires named { words_of asked.now ≡ spec.sample_words }
     ensures { spec.WorksSample result source.now (sunk P.faults P.taken printed.old printed.new) (map (λ w. seen w) watch.old.items) (map (λ w. seen w) watch.new.items) }
 {
@@ -125,6 +128,7 @@ fn sample_of<K: Sink, E: Sink>(
     watch: &mut Vec<Box<dyn HeapWatch>>,
 ) -> Status
     requires fresh { All IsFresh (map (λ w. seen w) watch.old.items) }
+    requires one { length source.now ≡ 1 }
     requires named { names.now ≡ codes "sample" ∷ [] }
     ensures { spec.AnswersSource result source.now (sunk K.faults K.taken out.old out.new) (sunk E.faults E.taken err.old err.new)
         (map (λ w. seen w) watch.old.items) (map (λ w. seen w) watch.new.items) }
