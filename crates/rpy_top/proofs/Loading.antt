@@ -126,12 +126,8 @@ too_many_code names files false e read = (refl, read)
 no_text : (text : List ℕ) (work : BuildWork) → Ok text ≡ Err work → ⊥
 no_text text work e = cc
 
-wrong : BuildWork → Result (List ℕ) BuildWork
-wrong work = Err work
-
-same_work : (a b : BuildWork) → wrong a ≡ wrong b → a ≡ b
-unfolding wrong
-same_work a b e = cc
+same_work : (a b : BuildWork) (r : Result (List ℕ) BuildWork) → r ≡ Err a → r ≡ Err b → a ≡ b
+same_work a b r e f = cc
 
 pub put_fails : (task : Task) (few : Bool) (names : List (List ℕ)) (files : Filed) (text : List ℕ) (out : Sunk) (s : Status) → MakesText task few (Ok text) names files → PutEnds (Err s) text out → Builds task few (Ended s) names files out
 put_fails task true names files text out status.WriteFault of ends = ((of.0.0, of.0.1, (text, of.0.2, ends)), of.1)
@@ -150,4 +146,4 @@ not_made task true names files (Ended status.Done) out w quiet = absurd w
 not_made task true names files (Ended status.WriteFault) out w quiet = absurd w
 not_made task true names files (Ended s) out w quiet = (w, quiet)
 not_made task true names files work out w quiet = (w, quiet)
-not_made task false names files work out w quiet = (same_work work (Ended status.TooMany) w.0, quiet, w.1)
+not_made task false names files work out w quiet = (same_work work (Ended status.TooMany) (Err work) refl w.0, quiet, w.1)
