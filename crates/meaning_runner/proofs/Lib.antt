@@ -1,1 +1,10 @@
+pub mod Calls
+pub mod Ended
+pub mod Endings
+pub mod Levels
+pub mod Operate
 pub mod Starts
+pub mod Targets
+pub mod Trees
+pub mod Tries
+pub mod Walks

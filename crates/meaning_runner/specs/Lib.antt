@@ -1,1 +1,5 @@
+pub mod Endings
+pub mod Evaluates
+pub mod Runs
 pub mod Starts
+pub mod Trees

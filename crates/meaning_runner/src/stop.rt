@@ -1,11 +1,14 @@
 // How an evaluation ends without a result, and what follows a statement.
-ghost use Rattle.std.specs.Prelude.{◌<◌, IfOk};
+ghost use Rattle.std.specs.Prelude.{◌≡◌, ◌++◌, ◌<◌, map, reverse, slice_get, Some, IfOk, Ok, Err};
+ghost use Rattle.meaning_runner.specs.Endings.{Holds, IsRunning, Ends, state_of};
+ghost use Rattle.rpy_meaning.specs.Evaluation as eval;
+ghost use Rattle.rpy_meaning.specs.Meaning as meaning;
 
 use rpy_base::{FailName, NoMem, Seq};
+use rpy_operate::truth;
 use rpy_tree::ClassId;
 use rpy_value::{Object, Shape, Val, World, copy_value};
 use std::alloc::Global;
-use std::slice;
 
 /// An evaluation that has no result ended by an exception, by a failure, running on, where its
 /// steps are spent while these values are held, in no way that Python has, or for want of memory.
@@ -19,6 +22,10 @@ pub enum Stop {
 }
 
 impl From<NoMem> for Stop {
+    ghost use Rattle.meaning_runner.specs.declared.stop.Stop.TheVariants.{NoMem};
+
+    ghost from_gives = { λ _ stop. stop ≡ NoMem };
+
     fn from(_: NoMem) -> Self {
         Stop::NoMem
     }
@@ -42,17 +49,19 @@ pub struct State {
 }
 
 /// One level deeper, where there is room for it.
-pub fn deeper(depth: u32) -> Result<u32, Stop>
+pub fn deeper(depth: u32) -> Result<u32, NoMem>
     ensures { IfOk result (λ d. d < depth) }
 {
     if depth == 0 {
-        Err(Stop::NoMem)
+        Err(NoMem)
     } else {
         Ok(depth - 1)
     }
 }
 
-fn add_held(alloc: Global, mut held: Seq<Val>, values: &[Val]) -> Stop {
+fn add_held(alloc: Global, mut held: Seq<Val>, values: &[Val]) -> Stop
+    ensures { IsRunning (held ++ values.now) result }
+{
     for v in values {
         let Ok(copy) = copy_value(alloc, v) else {
             return Stop::NoMem;
@@ -65,33 +74,89 @@ fn add_held(alloc: Global, mut held: Seq<Val>, values: &[Val]) -> Stop {
 }
 
 /// The end of a part that holds these values while it is evaluated.
-pub fn holding(alloc: Global, stop: Stop, values: &[Val]) -> Stop {
+pub fn holding(alloc: Global, stop: Stop, values: &[Val]) -> Stop
+    ensures { Holds values.now stop result }
+{
     match stop {
         Stop::Running(held) => add_held(alloc, held, values),
-        other => other,
+        Stop::Raised(r) => Stop::Raised(r),
+        Stop::Failed(name) => Stop::Failed(name),
+        Stop::Wrong => Stop::Wrong,
+        Stop::NoMem => Stop::NoMem,
     }
+}
+
+fn add_held_backwards(alloc: Global, mut held: Seq<Val>, values: &[Val]) -> Stop
+    ensures { IsRunning (held ++ reverse values.now) result }
+{
+    let mut rest = values;
+    while let [before @ .., last] = rest {
+        let Ok(copy) = copy_value(alloc, last) else {
+            return Stop::NoMem;
+        };
+        if held.push(copy).is_err() {
+            return Stop::NoMem;
+        }
+        rest = before;
+    }
+    Stop::Running(held)
 }
 
 /// The same, where each value was held from its own evaluation on: the last one comes first.
-pub fn holding_all(alloc: Global, stop: Stop, values: &[Val]) -> Stop {
-    let mut stop = stop;
-    let mut rest = values;
-    while let [before @ .., last] = rest {
-        stop = holding(alloc, stop, slice::from_ref(last));
-        rest = before;
+pub fn holding_all(alloc: Global, stop: Stop, values: &[Val]) -> Stop
+    ensures { Holds (reverse values.now) stop result }
+{
+    match stop {
+        Stop::Running(held) => add_held_backwards(alloc, held, values),
+        Stop::Raised(r) => Stop::Raised(r),
+        Stop::Failed(name) => Stop::Failed(name),
+        Stop::Wrong => Stop::Wrong,
+        Stop::NoMem => Stop::NoMem,
     }
-    stop
+}
+
+/// Whether a value is true.
+pub fn is_so(state: &State, v: &Val) -> Result<bool, Stop>
+    ensures { Ends (eval.is_so v.now (state_of state.now)) result (state_of state.now) }
+{
+    match truth(v, &state.world) {
+        None => Err(Stop::Wrong),
+        Some(flag) => Ok(flag),
+    }
+}
+
+/// The value of a local.
+pub fn local(state: &State, at: u32) -> Result<Val, Stop>
+    ensures { Ends (eval.local at (state_of state.now)) result (state_of state.now) }
+{
+    match state.locals.get(at as usize) {
+        Some(Some(v)) => Ok(copy_value(state.alloc, v)?),
+        _ => Err(Stop::Wrong),
+    }
+}
+
+/// Binds a local.
+pub fn set_local(state: &mut State, at: u32, v: Val)
+    ensures { Ends (eval.set_local at v (state_of state.old)) (Ok tt) (state_of state.new) }
+{
+    if (at as usize) < state.locals.as_slice().len() {
+        state.locals.set(at as usize, Some(v));
+    }
 }
 
 /// The class of an exception.
-pub fn class_in(world: &World, exception: usize) -> ClassId {
+pub fn class_in(world: &World, exception: usize) -> ClassId
+    ensures { result ≡ meaning.class_in world.now exception }
+{
     match world.object(exception) {
         None => 0,
         Some(object) => class_of(object),
     }
 }
 
-fn class_of(object: &Object) -> ClassId {
+fn class_of(object: &Object) -> ClassId
+    ensures { result ≡ meaning.class_of (Some object.now) }
+{
     match &object.shape {
         Shape::Instance(class, _) => *class,
         _ => 0,
