@@ -1,7 +1,7 @@
 -- Plain statements in words of the erased state.
-use Rattle.std.proofs.Common.{◌≡◌, ℕ, ◌+◌, get_or, Option, Some, None, Bool, true, false, cond, Ok, Err, Result, sym, ap, ◌∙◌, subst}
+use Rattle.std.proofs.Common.{◌≡◌, ℕ, ◌+◌, get_or, Option, Some, None, true, false, cond, Ok, Err, Result, sym, ap, ◌∙◌, subst}
 use Rattle.std.specs.Prelude.{List, ℤ, option_map, slice_set, slice_get}
-use Rattle.csub_tree.specs.State.{Value, Unset, Word, Byte, Flag, Fun, Null, Ptr, Static, Block, Core, After, Onward, Stuck}
+use Rattle.csub_tree.specs.State.{Value, Unset, Word, Byte, Flag, Fun, Null, Ptr, Static, Block, Core, Onward, Stuck}
 use Rattle.csub_tree.specs.Layout.{Shape, shape_at, place, begins_with}
 use Rattle.csub_tree.specs.Operation.{is_unset, word_of, binary_of}
 use Rattle.csub_tree.specs.Statement.{read, answered, set as set_var, binary, as_struct, reached, on_block, stored, get_field, set_field}

@@ -1,5 +1,4 @@
 use Rattle.std.proofs.Common.{refl, sym, ap, ◌∙◌, subst, get_or, None}
-use Rattle.csub_tree.specs.Operation.{is_unset}
 use Rattle.csub_tree.specs.Statement.{read, set_field}
 use Rattle.csub_runner.specs.Core.{core_of}
 use Rattle.csub_runner.specs.Erased.{erase, erase_all}
