@@ -1,7 +1,9 @@
 #!/usr/bin/env python3
 """Measures the command crun as it is built: statements a second of a plain loop, a chain of blocks that
-is released, and the memory that a text of the largest size takes. Prints one line for each, and judges none."""
+is released, calls and braces that nest on a small stack, and the memory that a text of the largest size
+takes. Prints one line for each, and judges none."""
 import os
+import resource
 import subprocess
 import sys
 import tempfile
@@ -11,6 +13,7 @@ TOP = os.path.dirname(os.path.dirname(os.path.abspath(__file__)))
 PROGRAM = os.path.join(TOP, 'crates', 'rpy', 'out', 'rpy')
 HEAD = '/* C-sub 1 */\n#include "rpy_prim.h"\n'
 LARGEST = 64 << 20
+SMALL_STACK = 256 << 10
 
 LOOP = HEAD + '''struct s0 {
     Signed a0;
@@ -86,6 +89,43 @@ b3:
 '''
 
 
+DEEP = HEAD + '''static Signed f0(Signed v0);
+static Signed f1(void);
+/* down */
+static Signed f0(Signed v0)
+{
+    Bool v1;
+    Signed v2;
+b0:
+    v1 = RPY_EQ(v0, 0L);
+    if (v1) goto b1; else goto b2;
+b1:
+    return 0L;
+b2:
+    v2 = RPY_SUB(v0, 1L);
+    v2 = f0(v2);
+    return v2;
+}
+/* deep */
+static Signed f1(void)
+{
+    Signed v0;
+b0:
+    v0 = f0(%dL);
+    return v0;
+}
+'''
+
+
+def nested_text(depth):
+    """A static with so many open braces: each struct begins with the one before it."""
+    structs = ['struct s0 {\n    Signed a0;\n};\n']
+    structs += ['struct s%d {\n    struct s%d a0;\n};\n' % (i, i - 1) for i in range(1, depth)]
+    static = 'static struct s%d g0 = %s0L%s;\n' % (depth - 1, '{ ' * depth, ' }' * depth)
+    main = 'static Signed f0(void);\n%s/* nested */\nstatic Signed f0(void)\n{\nb0:\n    return 0L;\n}\n'
+    return HEAD + ''.join(structs) + main % static
+
+
 def long_text():
     start = HEAD + 'static Signed f0(void);\n/* long */\nstatic Signed f0(void)\n{\n    Signed v0;\nb0:\n    v0 = 0L;\n'
     line = '    v0 = RPY_ADD(v0, 1L);\n'
@@ -93,13 +133,17 @@ def long_text():
     return start + line * ((LARGEST - len(start) - len(end)) // len(line)) + end
 
 
-def run(text, expected):
+def on_small_stack():
+    resource.setrlimit(resource.RLIMIT_STACK, (SMALL_STACK, SMALL_STACK))
+
+
+def run(text, expected, before=None):
     """The seconds and the most bytes of memory that the run of a text takes."""
     with tempfile.NamedTemporaryFile('w', suffix='.c') as f:
         f.write(text)
         f.flush()
         begin = time.time()
-        child = subprocess.Popen([PROGRAM, 'crun', f.name], stderr=subprocess.PIPE)
+        child = subprocess.Popen([PROGRAM, 'crun', f.name], stderr=subprocess.PIPE, preexec_fn=before)
         said = child.stderr.read()
         _, status, used = os.wait4(child.pid, 0)
         seconds = time.time() - begin
@@ -114,8 +158,14 @@ def main():
     rounds = 10 * 1000 * 1000
     seconds, _ = run(LOOP % rounds, b'returned 0\n')
     print('loop: %.1f million statements a second' % (5 * rounds / seconds / 1e6))
-    seconds, peak = run(CHAIN % 50000, b'returned 0\n')
-    print('chain of 50,000 blocks: %.1f s, %d MB' % (seconds, peak >> 20))
+    blocks = 1000 * 1000
+    seconds, peak = run(CHAIN % blocks, b'returned 0\n')
+    print('chain of %d blocks: %.1f s, %d MB' % (blocks, seconds, peak >> 20))
+    seconds, peak = run(DEEP % blocks, b'returned 0\n', on_small_stack)
+    print('%d calls in one another on a stack of %d KiB: %.1f s, %d MB' % (blocks, SMALL_STACK >> 10, seconds, peak >> 20))
+    depth = 1900
+    seconds, _ = run(nested_text(depth), b'returned 0\n', on_small_stack)
+    print('%d braces in one another on that stack: %.1f s' % (depth, seconds))
     text = long_text()
     seconds, peak = run(text, b'returned 0\n')
     print('text of %d bytes: %.1f s, %.1f bytes of memory a byte' % (len(text), seconds, peak / len(text)))

@@ -7,7 +7,7 @@ mod Facts
 mod InStep
 mod Law
 mod Output
-mod Plain
+mod PlainSteps
 mod Reached
 mod Runs
 mod Shapes

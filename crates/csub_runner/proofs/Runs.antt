@@ -13,7 +13,7 @@ use Rattle.csub_runner.specs.declared.run.RunFault.{RunFault}
 use Rattle.csub_runner.specs.declared.run.Stop.{Stop}
 use Rattle.csub_runner.specs.declared.run.Stop.TheVariants.{Spent}
 use Rattle.csub_runner.specs.Synced.{Synced}
-use Rattle.csub_runner.specs.Run.{told, told_all, told_by, put_by, GoesOn, Stops, HasTaken, HasTakenSome, Advances, WatchersAfter, RanTo, Finished, Broken}
+use Rattle.csub_runner.specs.Run.{told, told_all, told_by, put_by, GoesOn, Stops, HasTaken, HasTakenSome, Advances, WatchersAfter, LeadsOn, RanTo, Finished, Broken}
 use Rattle.csub_runner.proofs.Law.{Good, step_good}
 use Rattle.csub_runner.proofs.Output.{taken_more, taken_nothing, some_behind}
 
@@ -80,6 +80,32 @@ follow_on file go old new text events (Puts b c) is = ap (λ d. go d (text ++ b 
 follow_on file go old new text events (Told e c) is = ap (λ d. go d text (events ++ e ∷ [])) (sym is) ∙ ap (λ t. go new t (events ++ e ∷ [])) (sym (append-nil text))
 follow_on file go old new text events (Over o c) is = absurd is
 follow_on file go old new text events (Stuck r) is = absurd is
+
+-- statements that put nothing and tell nobody
+module _ (file : CFile) (args : List (List ℕ)) (old : Core) where
+  pub leads_none : LeadsOn file args 0 old old
+  leads_none = record { runs = λ m text events. ap (λ n. run file args n old text events) (omega arith); synced = λ seen ok. ok }
+
+  pub leads_more : (mid new : Core) (k : ℕ) → LeadsOn file args k old mid → step file args mid ≡ Onward new → LeadsOn file args (k + 1) old new
+  leads_more mid new k leads e = record {
+    runs = λ m text events. ap (λ n. run file args n old text events) (omega arith) ∙ leads.runs (suc m) text events ∙ run_suc file args m mid text events ∙ ap (follow file (run file args m) mid text events) e;
+    synced = λ seen ok. All-weaker (Synced mid.blocks) (Synced new.blocks) (subst (Good mid) e (step_good mid file args)) seen (leads.synced seen ok);
+  }
+
+pub led : (file : CFile) (args : List (List ℕ)) (start core new : Core) (before mid : Option (List ℕ)) (held : List ℕ) (seen_before seen : List Seen) (made gone i k : ℕ) (text : List ℕ) (events : List Event)
+    → LeadsOn file args k core new → IsAt file args start before mid held seen_before seen made gone i core text events → IsAt file args start before mid held seen_before seen made gone (i + k) new text events
+led file args start core new before mid held seen_before seen made gone i k text events leads at = let m = at.few_made in let g = at.few_gone in record {
+  sent = at.sent;
+  text_is = at.text_is;
+  taken = at.taken;
+  seen_is = at.seen_is;
+  synced = leads.synced seen at.synced;
+  made_is = at.made_is;
+  gone_is = at.gone_is;
+  few_made = omega (arith, m);
+  few_gone = omega (arith, g);
+  goes_on = λ n. ap (λ j. run file args j start [] []) (omega arith) ∙ at.goes_on (k + n) ∙ leads.runs n text events;
+}
 
 module _ (file : CFile) (args : List (List ℕ)) (start core : Core) (before mid : Option (List ℕ)) (held : List ℕ) (seen_before seen : List Seen) (made gone i : ℕ) (text : List ℕ) (events : List Event)
     (at : IsAt file args start before mid held seen_before seen made gone i core text events) where

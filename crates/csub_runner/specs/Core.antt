@@ -1,5 +1,5 @@
 -- The machine's state as its definition sees it.
-use Rattle.std.specs.Prelude.{◌≡◌, ℕ, Bool, true, false, List, [], map, replicate}
+use Rattle.std.specs.Prelude.{◌≡◌, ℕ, List, [], map, replicate}
 use Rattle.std.specs.List.{All}
 use Rattle.csub_tree.specs.State.{Unset, Null, Block, Core, Event, Made, Freed, After, Onward, Puts, Told, Over, Stuck}
 use Rattle.csub_runner.specs.Erased.{erase, erase_all, erase_cells, erase_caller}
@@ -10,6 +10,8 @@ use Rattle.csub_runner.specs.declared.val.Cells.{Cells}
 use Rattle.csub_runner.specs.declared.heap.Heap.{Heap}
 use Rattle.csub_runner.specs.declared.machine.Machine.{Machine}
 use Rattle.csub_runner.specs.declared.machine.Next.{Next}
+use Rattle.csub_runner.specs.declared.plain.Went.{Went}
+use Rattle.csub_runner.specs.declared.plain.Went.TheVariants.{On, Jumped, Undone}
 use Rattle.csub_runner.specs.declared.machine.Next.TheVariants.{Goes, Puts as NextPuts, Made as NextMade, Freed as NextFreed, Ends, Stuck as NextStuck}
 
 abbrev pub core_of : Machine → Core
@@ -51,14 +53,11 @@ IsStep old (Told event core) next new = (next ≡ named event) × (new ≡ core)
 IsStep old (Over outcome core) next new = (next ≡ Ends outcome) × (new ≡ core)
 IsStep old (Stuck reason) next new = (next ≡ NextStuck reason) × (new ≡ old)
 
-abbrev pub is_goes : Next → Bool
-is_goes Goes = true
-is_goes other = false
-
--- whether the statement was done and the run goes on with nothing else; if not, nothing was done
-abbrev pub Plainly : After → Bool → Core → Core → Type 0
-Plainly after true old new = after ≡ Onward new
-Plainly after false old new = new ≡ old
+-- how a plain statement went: it leads on, behind itself or at a label; or it is not done
+abbrev pub Plainly : After → Went → Core → Core → Type 0
+Plainly after On old new = (after ≡ Onward new) × (new.function ≡ old.function) × (new.block ≡ old.block)
+Plainly after Jumped old new = after ≡ Onward new
+Plainly after Undone old new = new ≡ old
 
 -- at the start of a function of so many variables, with no block
 abbrev pub new_core : ℕ → ℕ → List Block → ℕ → Core

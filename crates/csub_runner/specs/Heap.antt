@@ -71,6 +71,11 @@ abbrev pub IsLive : Bool → Heap → Ptr → Type 0
 IsLive true heap ptr = (e : Entry) × StandsAt heap ptr.key ptr.number e
 IsLive false heap ptr = (e : Entry) → StandsAt heap ptr.key ptr.number e → ⊥
 
+-- where true, there is a block, and it is of this very struct
+abbrev pub HasKind : Bool → ℕ → Option Block → Type 0
+HasKind true kind block = (there : Block) × (block ≡ Some there) × (there.kind ≡ kind)
+HasKind false kind block = Unit {0}
+
 -- f was done to the static of this number, where there is one
 abbrev pub at_static : (Block → Block) → ℕ → List Block → List Block
 at_static f number [] = []

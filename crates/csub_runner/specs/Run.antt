@@ -1,11 +1,13 @@
 -- A whole run: what one statement does to the output and to the watchers, and what stands after the run.
 use Rattle.std.specs.Prelude.{◌≡◌, ℕ, ◌+◌, ◌-◌, ◌<◌, ◌≤◌, ◌^◌, List, [], ◌∷◌, ◌++◌, length, map, Option, option_map, Result, Ok, Err}
+use Rattle.std.specs.List.{All}
 use Rattle.rpy_base.specs.Causes.{Rose}
 use Rattle.rpy_base.specs.Watching.{Seen, Block, after_made, after_gone, first_told}
 use Rattle.csub_tree.specs.State.{Core, Event, Made, Freed, After, Onward, Puts, Told, Over, Stuck}
 use Rattle.csub_tree.specs.Machine.{step, start, statement_number}
 use Rattle.csub_tree.specs.Meaning.{run, Ran, Ended, Unfinished, Ending, Came, StuckAt, Meant, MeansWithin, RunsOn, made_in, gone_in}
 use Rattle.csub_tree.specs.declared.tree.CFile.{CFile}
+use Rattle.csub_runner.specs.Synced.{Synced}
 use Rattle.csub_runner.specs.declared.run.CRan.{CRan}
 use Rattle.csub_runner.specs.declared.run.RunFault.{RunFault}
 use Rattle.csub_runner.specs.declared.run.RunFault.TheVariants.{Stuck as FaultStuck, WriteFault, WorkSpent, NoMem}
@@ -29,6 +31,11 @@ put_by other = []
 abbrev pub told_by : After → List Event
 told_by (Told event core) = event ∷ []
 told_by other = []
+
+-- so many statements lead from one state to another, where nothing was put and nobody told
+pub record LeadsOn (file : CFile) (args : List (List ℕ)) (k : ℕ) (old new : Core) : Type 0 where
+  pub runs : (m : ℕ) (text : List ℕ) (events : List Event) → run file args (k + m) old text events ≡ run file args m new text events
+  pub synced : (seen : List Seen) → All (Synced old.blocks) seen → All (Synced new.blocks) seen
 
 -- the run goes on in this state
 abbrev pub GoesOn : After → Core → Type 0

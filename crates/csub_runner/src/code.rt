@@ -1,10 +1,11 @@
 // Reading the file that runs.
-ghost use Rattle.std.specs.Prelude.{◌≡◌, ◌+◌, ◌<◌, ◌^◌, ◌++◌, slice_get, OnSome};
+ghost use Rattle.std.specs.Prelude.{◌≡◌, ◌+◌, ◌<◌, ◌^◌, ◌++◌, slice_get, OnSome, ℕ};
 ghost use Rattle.std.specs.Option.{option_copied};
 ghost use Rattle.csub_tree.specs.Machine.{stmt_in, block_in, locals_of as locals_in};
 ghost use Rattle.csub_tree.specs.Statement.{same_type as same_kind, same_types as same_kinds, same_result as same_given, type_in as type_of_var};
 
 use csub_tree::{CFile, CFunction, CStmt, CType};
+use rpy_base::Seq;
 
 pub fn function_at(file: &CFile, number: u64) -> Option<&CFunction>
     ensures { option_copied result ≡ slice_get file.now.functions number }
@@ -23,6 +24,40 @@ pub fn statement(file: &CFile, function: u64, block: u64, at: u64) -> Option<&CS
         .get(function as usize)?
         .blocks
         .get(block as usize)?;
+    if at < stmts.len() as u64 {
+        stmts.get(at as usize)
+    } else {
+        None
+    }
+}
+
+/// The statements of a block, none where there is no such block.
+#[inline(always)]
+pub fn statements_at(file: &CFile, function: u64, block: u64) -> &[CStmt]
+    ensures { (at : ℕ) → slice_get result.now at ≡ stmt_in (block_in (slice_get file.now.functions function) block) at }
+{
+    match block_at(file, function, block) {
+        Some(stmts) => stmts.as_slice(),
+        None => &[],
+    }
+}
+
+#[inline(always)]
+fn block_at(file: &CFile, function: u64, block: u64) -> Option<&Seq<CStmt>>
+    ensures { option_copied result ≡ block_in (slice_get file.now.functions function) block }
+{
+    file.functions
+        .get(function as usize)?
+        .blocks
+        .get(block as usize)
+}
+
+/// The statement at a place of a block.
+#[inline(always)]
+pub fn statement_among(stmts: &[CStmt], at: u64) -> Option<&CStmt>
+    ensures is { option_copied result ≡ slice_get stmts.now at }
+    ensures within { OnSome result (at + 1 < 2 ^ 64) }
+{
     if at < stmts.len() as u64 {
         stmts.get(at as usize)
     } else {

@@ -3,7 +3,7 @@ ghost use Rattle.std.specs.Prelude.{◌≡◌, ◌<◌, ◌^◌, ◌++◌, ◌�
 ghost use Rattle.std.specs.Option.{option_copied};
 ghost use Rattle.csub_tree.specs.State.{Value};
 ghost use Rattle.csub_runner.specs.Erased.{erase, erase_cells};
-ghost use Rattle.csub_runner.specs.Heap.{IsSound, PtrOk, ValOk, CellsOk, blocks_of, Frees, IsLive, with_field, with_item};
+ghost use Rattle.csub_runner.specs.Heap.{IsSound, PtrOk, ValOk, CellsOk, blocks_of, Frees, IsLive, HasKind, with_field, with_item};
 ghost use Rattle.csub_runner.specs.declared.val.Ptr.{Ptr};
 ghost use Rattle.csub_runner.specs.declared.val.Val.{Val};
 
@@ -88,6 +88,19 @@ impl Heap {
                 }
             }
             None => None,
+        }
+    }
+
+    /// Whether the block is there still and is of this very struct.
+    #[inline(always)]
+    pub fn has_kind(&self, ptr: Ptr, kind: u64) -> bool
+        requires sound { IsSound self.now }
+        requires ptr { PtrOk self.now ptr }
+        ensures { HasKind result kind (slice_index_or (blocks_of self.now) ptr.number Option.None) }
+    {
+        match self.block(ptr) {
+            Some(cells) => cells.kind == kind,
+            None => false,
         }
     }
 

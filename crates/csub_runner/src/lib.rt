@@ -12,6 +12,7 @@ mod memory;
 mod number;
 mod operation;
 mod outside;
+mod plain;
 mod run;
 mod shape;
 mod start;

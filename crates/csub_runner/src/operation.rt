@@ -138,19 +138,22 @@ fn shift_overflows(a: i64, k: i64) -> Result<Val, StuckReason>
     Ok(Val::Flag(word::shl_ovf(a, k)))
 }
 
-fn add_overflows(a: i64, b: i64) -> bool
+#[inline(always)]
+pub fn add_overflows(a: i64, b: i64) -> bool
     ensures { result ≡ not (fits (a +ℤ b)) }
 {
     word::add_ovf(a, b)
 }
 
-fn sub_overflows(a: i64, b: i64) -> bool
+#[inline(always)]
+pub fn sub_overflows(a: i64, b: i64) -> bool
     ensures { result ≡ not (fits (a -ℤ b)) }
 {
     word::sub_ovf(a, b)
 }
 
-fn mul_overflows(a: i64, b: i64) -> bool
+#[inline(always)]
+pub fn mul_overflows(a: i64, b: i64) -> bool
     ensures { result ≡ not (fits (a *ℤ b)) }
 {
     word::mul_ovf(a, b)

@@ -193,12 +193,18 @@ fn run_on<K: Sink>(
     ensures fault { IfErr result (λ fault. CauseOf fault (K.faults out.old) (K.faults out.new)) }
     ensures causes { IfErr result IsOwnFault }
 {
-    for _ in 0..most {
+    let mut done = 0;
+    while done < most {
+        done += machine.run_plain(file, shapes, args, most - done);
+        if done >= most {
+            return Ok(Stop::Spent);
+        }
         match advance(alloc, file, shapes, args, machine, log, out, watch) {
             Ok(None) => {}
             Ok(Some(stop)) => return Ok(stop),
             Err(fault) => return Err(fault),
         }
+        done += 1;
     }
     Ok(Stop::Spent)
 }

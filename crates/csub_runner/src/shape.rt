@@ -1,5 +1,5 @@
 // Where the fields of structs stand.
-ghost use Rattle.std.specs.Prelude.{◌≡◌, min, length, slice_get, slice_index_or, Option, Some, None, option_map, IfOk};
+ghost use Rattle.std.specs.Prelude.{◌≡◌, ◌<◌, min, length, slice_get, slice_index_or, Option, Some, None, option_map, IfOk, IfSome, OnSome};
 ghost use Rattle.std.specs.Option.{option_copied};
 ghost use Rattle.csub_tree.specs.Layout.{Shape as ShapeOf, no_shape, shape_at as shape_in, shape_over, base_of, next_shape as shape_after, shapes_from, shapes_of as all_shapes, is_among as among, begins_with as begins, place as place_of};
 
@@ -69,6 +69,14 @@ impl Shape {
         ensures { result ≡ (self.now).size }
     {
         self.size
+    }
+
+    // The place of a field, where a word can tell it.
+    #[inline(always)]
+    fn place_of(&self, k: u64) -> Option<u64>
+        ensures { IfSome result (λ at. at ≡ place_of self.now k) }
+    {
+        self.own.checked_add(k.saturating_sub(self.first))
     }
 
     // The place of a field among these values, or behind them.
@@ -159,5 +167,17 @@ pub fn place(shapes: &Vec<Shape>, kind: u64, k: u64, values: &Vec<Val>) -> u64
     match shapes.get(kind as usize) {
         Some(shape) => shape.place(k, values),
         None => k.min(values.len() as u64),
+    }
+}
+
+/// The place of a field of a struct, where there is one of this number and a word can tell it.
+#[inline(always)]
+pub fn place_in(shapes: &Vec<Shape>, kind: u64, k: u64) -> Option<u64>
+    ensures is { IfSome result (λ at. at ≡ place_of (shape_in shapes.now.items kind) k) }
+    ensures within { OnSome result (kind < length shapes.now.items) }
+{
+    match shapes.get(kind as usize) {
+        Some(shape) => shape.place_of(k),
+        None => None,
     }
 }

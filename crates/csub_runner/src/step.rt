@@ -2,7 +2,7 @@
 ghost use Rattle.std.specs.Prelude.{◌≡◌, ◌+◌, ◌<◌, ◌^◌, IfOk};
 ghost use Rattle.csub_tree.specs.Layout.{shapes_of};
 ghost use Rattle.csub_tree.specs.Machine.{step as steps_to, does};
-ghost use Rattle.csub_runner.specs.Core.{core_of, MachineOk, IsStep, Plainly, is_goes};
+ghost use Rattle.csub_runner.specs.Core.{core_of, MachineOk, IsStep};
 
 use crate::code::{statement, type_in};
 use crate::machine::{Machine, Next};
@@ -11,17 +11,6 @@ use crate::val::Val;
 use csub_tree::{CFile, CStmt, StuckReason};
 use rpy_base::{NoMem, Text};
 use std::alloc::Global;
-
-// Whether the run goes on with nothing else.
-#[inline(always)]
-fn went(next: Next) -> bool
-    ensures { result ≡ is_goes next }
-{
-    match next {
-        Next::Goes => true,
-        _ => false,
-    }
-}
 
 impl Machine {
     /// One statement.
@@ -38,45 +27,12 @@ impl Machine {
         ensures step { IfOk result (λ next. IsStep (core_of self.old) (steps_to file.now args.now (core_of self.old)) next (core_of self.new)) }
     {
         match statement(file, self.function, self.block, self.at) {
-            Some(stmt) => {
-                if self.plain(file, shapes, args, stmt) {
-                    return Ok(Next::Goes);
-                }
-                self.carry_out(alloc, file, shapes, args, stmt)
-            }
+            Some(stmt) => self.carry_out(alloc, file, shapes, args, stmt),
             None => Ok(Next::Stuck(StuckReason::Outside)),
         }
     }
 
-    // The statement, where it is a plain one after which the run goes on; whether it is. Else nothing is
-    // done. So the statements that are most run take no room for what others lead to.
-    #[inline(always)]
-    fn plain(&mut self, file: &CFile, shapes: &Vec<Shape>, args: &[Text], stmt: &CStmt) -> bool
-        requires at { self.old.at + 1 < 2 ^ 64 }
-        requires ok { MachineOk self.old }
-        requires shapes { shapes.now.items ≡ shapes_of file.now.structs }
-        ensures ok { MachineOk self.new }
-        ensures step { Plainly (does file.now args.now (core_of self.old) stmt.now) result (core_of self.old) (core_of self.new) }
-    {
-        match stmt {
-            CStmt::Set(a, x) => went(self.set(*a, self.value(x))),
-            CStmt::Binary(a, op, x, y) => went(self.binary(*a, *op, self.value(x), self.value(y))),
-            CStmt::GetField(a, kind, b, k) => {
-                went(self.get_field(shapes, *a, *kind, self.variable(*b), *k))
-            }
-            CStmt::SetField(kind, b, k, x) => {
-                went(self.set_field(shapes, *kind, self.variable(*b), *k, self.value(x)))
-            }
-            CStmt::Goto(block) => went(self.goes_to(*block)),
-            CStmt::If(a, there, elsewhere) => {
-                went(self.branch(self.variable(*a), *there, *elsewhere))
-            }
-            _ => false,
-        }
-    }
-
     // The statement at the machine's place.
-    #[inline(never)]
     fn carry_out(
         &mut self,
         alloc: Global,

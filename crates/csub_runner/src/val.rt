@@ -1,8 +1,9 @@
 // What the machine works on.
 ghost use Rattle.std.specs.Prelude.{◌≡◌, slice_index_or, Option};
 ghost use Rattle.csub_tree.specs.Operation.{word_of, flag_of, byte_of, is_unset as is_unset_value};
-ghost use Rattle.csub_tree.specs.Statement.{fun_of};
-ghost use Rattle.csub_runner.specs.Erased.{erase, raw_constant, raw_operand};
+ghost use Rattle.csub_tree.specs.Statement.{fun_of, operand as operand_value};
+ghost use Rattle.csub_tree.specs.Layout.{constant as constant_value};
+ghost use Rattle.csub_runner.specs.Erased.{erase, erase_all, raw_constant, raw_operand};
 
 use csub_tree::{CConst, COperand};
 use std::marker::Model;
@@ -153,6 +154,28 @@ pub fn read(values: &Vec<Val>, at: u64) -> Val
     match values.get(at as usize) {
         Some(value) => *value,
         None => Val::Unset,
+    }
+}
+
+#[inline(always)]
+fn constant_word(what: &CConst) -> Option<i64>
+    ensures { result ≡ word_of (constant_value what.now) }
+{
+    match what {
+        CConst::Word(word) => Some(*word),
+        CConst::Char(_) | CConst::Bool(_) | CConst::Null | CConst::Static(_, _) | CConst::Fun(_) =>
+            None,
+    }
+}
+
+/// The word that an operand is, where it is one.
+#[inline(always)]
+pub fn word_operand(vars: &Vec<Val>, what: &COperand) -> Option<i64>
+    ensures { result ≡ word_of (operand_value (erase_all vars.now.items) what.now) }
+{
+    match what {
+        COperand::Var(var) => word_in(read(vars, *var)),
+        COperand::Const(value) => constant_word(value),
     }
 }
 
