@@ -1,5 +1,4 @@
-ghost use Rattle.std.specs.Prelude.{◌≡◌, ◌≤◌, map, All, IfOk};
-ghost use Rattle.rpy_base.specs.Watching.{IsFresh};
+ghost use Rattle.std.specs.Prelude.{◌≡◌, ◌≤◌};
 
 use super::*;
 use csub_tree::{CBinary, CConst, CFile, CFunction, COperand, CPrototype, CStmt, CStruct, CType};
@@ -175,10 +174,7 @@ impl HeapWatch for Choosy {
     }
 
     fn report(&self, alloc: Global) -> Result<Text, NoMem> {
-        let mut report = Text::from_bytes(alloc, b"choosy: ")?;
-        report.push(b'0' + self.made.min(9) as u8)?;
-        report.push(b'\n')?;
-        Ok(report)
+        Ok(Text::new(alloc))
     }
 }
 
@@ -221,74 +217,23 @@ fn watchers_see_each_block(rt: HostRuntime) -> Result<(), Fail> {
     Ok(())
 }
 
-fn three_of(
-    alloc: Global,
-    first: Box<dyn HeapWatch>,
-    second: Box<dyn HeapWatch>,
-    third: Box<dyn HeapWatch>,
-) -> Result<Vec<Box<dyn HeapWatch>>, NoMem>
-    requires first { IsFresh (seen first) }
-    requires second { IsFresh (seen second) }
-    requires third { IsFresh (seen third) }
-    ensures { IfOk result (λ all. All IsFresh (map (λ w. seen w) all.items)) }
-{
-    let mut all = Vec::new(alloc);
-    all.push(first)?;
-    all.push(second)?;
-    all.push(third)?;
-    Ok(all)
-}
-
-// A list in which the watcher that refuses stands at this place.
-fn refusing_at(alloc: Global, place: u64) -> Result<Vec<Box<dyn HeapWatch>>, NoMem>
-    ensures { IfOk result (λ all. All IsFresh (map (λ w. seen w) all.items)) }
-{
-    let choosy = Box::new(alloc, Choosy::new())?;
+#[test]
+fn a_watcher_refuses(rt: HostRuntime) -> Result<(), Fail> {
+    let alloc = rt.alloc();
     let tally = Box::new(alloc, Tally::new())?;
-    let leaks = Box::new(alloc, Leaks::new(alloc))?;
-    match place {
-        0 => three_of(alloc, choosy, tally, leaks),
-        1 => three_of(alloc, tally, choosy, leaks),
-        _ => three_of(alloc, tally, leaks, choosy),
-    }
-}
-
-// The reports of the watchers in order, after a run that one of them ends.
-fn reports_of_refused(alloc: Global, watch: Vec<Box<dyn HeapWatch>>) -> Result<Text, Fail>
-    requires { All IsFresh (map (λ w. seen w) watch.items) }
-{
-    let mut watch = watch;
+    let choosy = Box::new(alloc, Choosy::new())?;
+    let mut watch = pair_of(alloc, tally, choosy)?;
     let file = three_blocks(alloc)?;
     let args = no_args(alloc)?;
     let mut out = MemSink::new(alloc);
     let ran = run_c(alloc, &file, args.as_slice(), 5, &mut out, &mut watch);
-    let mut reports = Text::new(alloc);
-    if !matches!(ran, Err(RunFault::NoMem)) || !b"hi".starts_with(out.taken()) {
-        return Ok(reports);
-    }
-    for i in 0..watch.len() {
-        let report = watch[i].report(alloc)?;
-        reports.append(report.bytes())?;
-    }
-    Ok(reports)
-}
-
-// The watchers before the one that refuses its third block have seen that block, the others not.
-#[test]
-fn a_watcher_refuses(rt: HostRuntime) -> Result<(), Fail> {
-    let alloc = rt.alloc();
-    for (place, reports) in [
-        (0, "choosy: 2\ntally: made 2, gone 1, left 1\nleak 0 s0 1\n"),
-        (1, "tally: made 3, gone 1, left 2\nchoosy: 2\nleak 0 s0 1\n"),
-        (
-            2,
-            "tally: made 3, gone 1, left 2\nleak 0 s0 1\nleak 2 s0 1\nchoosy: 2\n",
-        ),
-    ] {
-        let watch = refusing_at(alloc, place)?;
-        let found = reports_of_refused(alloc, watch)?;
-        assert_eq!(rt; found.bytes(), reports.as_bytes(), "at {place}");
-    }
+    assert!(rt; matches!(ran, Err(RunFault::NoMem)));
+    assert_eq!(rt; watch.len(), 2);
+    let tally = watch[0].report(alloc)?;
+    assert_eq!(rt;
+        tally.bytes(),
+        b"tally: made 3, gone 1, left 2\n".as_slice()
+    );
     Ok(())
 }
 
