@@ -222,7 +222,6 @@ fn on_two_words(op: &RowOp) -> Plan {
         RowOp::HasItem(Some(step)) => has_item(*step),
         RowOp::Item(Some(_)) => Plan::Second,
         RowOp::Advance(Some(step)) => advance(*step),
-        RowOp::NonNegative => Plan::First,
         _ => Plan::Unknown,
     }
 }
@@ -230,6 +229,7 @@ fn on_two_words(op: &RowOp) -> Plan {
 fn on_two(op: &RowOp, x: Kind, y: Kind) -> Plan {
     match (op, x, y) {
         (RowOp::Compare(of), _, _) => compare(*of, x, y),
+        (RowOp::NonNegative, _, _) => passed(x),
         (_, Kind::Word, Kind::Word) => on_two_words(op),
         _ => Plan::Unknown,
     }
