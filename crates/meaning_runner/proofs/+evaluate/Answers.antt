@@ -16,28 +16,28 @@ call::body-returns-in-Some t c =
 
 pub call::operated-returns-in-Gives : goal.call::operated-returns-in-Gives
 call::operated-returns-in-Gives t c =
-    record { so = operate.gives c.args.program.now c.args.place c.args.held.now c.args.op.now c.args.operands.now c.args.state.now c.operate.new._world c.in-Gives.v (rw (← c.in-Gives.is) c.in_ok-v.ensures) }
+    record { so = operate.gives c.args.program.now c.args.place c.args.held.now c.args.op.now c.args.operands.now c.args.state.now c.operate.new.world c.in-Gives.v (rw (← c.in-Gives.is) c.in_ok-v.ensures) }
 
 pub call::operated-returns-in-Throws : goal.call::operated-returns-in-Throws
 call::operated-returns-in-Throws t c =
-    record { so = record { so = operate.throws c.args.program.now c.args.place c.args.held.now c.args.op.now c.args.operands.now c.args.state.now c.operate.new._world c.in-Throws.r (rw (← c.in-Throws.is) c.in_ok-v.ensures) } }
+    record { so = record { so = operate.throws c.args.program.now c.args.place c.args.held.now c.args.op.now c.args.operands.now c.args.state.now c.operate.new.world c.in-Throws.r (rw (← c.in-Throws.is) c.in_ok-v.ensures) } }
 
 pub call::operated-returns-in-Fails : goal.call::operated-returns-in-Fails
 call::operated-returns-in-Fails t c =
-    record { so = record { so = operate.fails c.args.program.now c.args.place c.args.held.now c.args.op.now c.args.operands.now c.args.state.now c.operate.new._world c.in-Fails.name (rw (← c.in-Fails.is) c.in_ok-v.ensures) } }
+    record { so = record { so = operate.fails c.args.program.now c.args.place c.args.held.now c.args.op.now c.args.operands.now c.args.state.now c.operate.new.world c.in-Fails.name (rw (← c.in-Fails.is) c.in_ok-v.ensures) } }
 
 pub call::operated-returns-in_ok-copy_values-in-Lacks : goal.call::operated-returns-in_ok-copy_values-in-Lacks
 call::operated-returns-in_ok-copy_values-in-Lacks t c =
-    record { so = record { so = rw c.in_ok-copy_values-in-Lacks.ensures (operate.lacks c.args.program.now c.args.place c.args.held.now c.args.op.now c.args.operands.now c.args.state.now c.operate.new._world (rw (← c.in-Lacks.is) c.in_ok-v.ensures)) } }
+    record { so = record { so = rw c.in_ok-copy_values-in-Lacks.ensures (operate.lacks c.args.program.now c.args.place c.args.held.now c.args.op.now c.args.operands.now c.args.state.now c.operate.new.world (rw (← c.in-Lacks.is) c.in_ok-v.ensures)) } }
 
 pub call::operated-returns-in-Enters : goal.call::operated-returns-in-Enters
 call::operated-returns-in-Enters t c =
-    let e = operate.enters c.args.program.now c.args.place c.args.held.now c.args.op.now c.args.operands.now c.args.state.now c.operate.new._world c.in-Enters.f c.in-Enters.args c.in-Enters.instead (rw (← c.in-Enters.is) c.in_ok-v.ensures) in
+    let e = operate.enters c.args.program.now c.args.place c.args.held.now c.args.op.now c.args.operands.now c.args.state.now c.operate.new.world c.in-Enters.f c.in-Enters.args c.in-Enters.instead (rw (← c.in-Enters.is) c.in_ok-v.ensures) in
     rw e (rw (← c.as_slice.ensures) c.called.ensures)
 
 pub call::operated-returns-in-Bad : goal.call::operated-returns-in-Bad
 call::operated-returns-in-Bad t c =
-    record { so = record { so = operate.bad_is c.args.program.now c.args.place c.args.held.now c.args.op.now c.args.operands.now c.args.state.now c.operate.new._world (rw (← c.in-Bad.is) c.in_ok-v.ensures) } }
+    record { so = record { so = operate.bad_is c.args.program.now c.args.place c.args.held.now c.args.op.now c.args.operands.now c.args.state.now c.operate.new.world (rw (← c.in-Bad.is) c.in_ok-v.ensures) } }
 
 pub expression::value-returns-in-Display : goal.expression::value-returns-in-Display
 expression::value-returns-in-Display t c =
