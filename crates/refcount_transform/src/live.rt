@@ -57,29 +57,6 @@ pub fn push_reads(op: &LlOp, into: &mut Seq<VarId>) -> Result<(), NoMem> {
     }
 }
 
-fn push_link(link: &LlLink, into: &mut Seq<VarId>) -> Result<(), NoMem> {
-    push_operands(link.args.as_slice(), into)
-}
-
-/// The variables that an exit reads.
-pub fn push_exit_reads(exit: &LlExit, into: &mut Seq<VarId>) -> Result<(), NoMem> {
-    match exit {
-        LlExit::Goto(link) | LlExit::OnRaise(_, None, link) => push_link(link, into),
-        LlExit::If(v, there, elsewhere) => {
-            into.push(*v)?;
-            push_link(there, into)?;
-            push_link(elsewhere, into)
-        }
-        LlExit::OnRaise(_, Some(by), without) => {
-            push_link(by, into)?;
-            push_link(without, into)
-        }
-        LlExit::Return(Some(x)) => push_operand(*x, into),
-        LlExit::Return(None) | LlExit::Fail(_) => Ok(()),
-        LlExit::Raise(v) | LlExit::Raised(v) => into.push(*v),
-    }
-}
-
 // ---- tests
 
 pub fn among(v: VarId, variables: &[VarId]) -> bool {
