@@ -67,7 +67,6 @@ KNOWN = [
     ('build', BRANCHES, 4, b'', b'a.py:6: conflict: name\n'),
     ('check', BRANCHES.replace(b'    print x\n', b''), 0, b'ok\n', b''),
     ('annotate', BOX, 0, BOXED, b''),
-    ('build', BOX, 16, b'', b'a.py: not yet\n'),
     ('check', b"def bad():\n    return 1 + 'a'\n" + RETURNS, 0, b'ok\n', b''),
     ('check', FAMILY, 5, b'', b'a.py:8: family\n'),
     ('check', b'def entry_point(argv):\n    if len(argv) > 1:\n        x = 1\n    return x\n', 5, b'', b'a.py:4: maybe unbound\n'),

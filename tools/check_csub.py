@@ -2,9 +2,10 @@
 """Runs C texts with the program's command crun, and compares what each run prints, how it ends and its status.
 
 The cases lie in ../shared beside the checkout, with what they must answer; where they are missing the check is
-skipped. Only those that are marked 'sure' count: of the others the rules can be read in more than one way. Texts
-with forms that the subset here does not have yet (version 2, operations on unsigned words) are left out, and
-counted in a line of their own. Each run is bounded in time. The last line is 'N passed, M failed'."""
+skipped. Those that are marked 'sure' count, and those marked 'choice', where the rules can be read in more than one
+way and both sides read them alike; what is free is left out. Texts with forms that the subset here does not have yet
+(version 2, operations on unsigned words) are left out, and counted in a line of their own. Each run is bounded in
+time. The last line is 'N passed, M failed'."""
 import os
 import re
 import subprocess
@@ -47,7 +48,7 @@ def cases():
         for line in f:
             name, words, status, out, err, mark = line.rstrip('\n').split('\t')
             words = [plain(w) for w in words.split(' ')] if words else []
-            if mark == 'sure' and not OWN.intersection(words):
+            if mark.startswith(('sure', 'choice')) and not OWN.intersection(words):
                 yield name, words, int(status), plain(out), plain(err)
 
 

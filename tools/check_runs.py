@@ -2,9 +2,12 @@
 """Runs random programs by `run`, `llrun` and `build` with `crun`, and compares with an independent interpreter.
 
 What is printed, how the run ends and the status have to agree, at a large bound on steps and at smaller ones. The
-blocks that are left are at most three for each value that the program still holds. The texts of the first programs are
-compiled by gcc as well, where it is there. Words: how many programs of each level (60 without one), and the levels
-(1). Where ../shared is missing the check is skipped. The last line is 'N passed, M failed'."""
+blocks that are left are at most three for each value that the program still holds, so none where it holds none. The
+texts of the first programs of each level also run under an independent machine for C texts, which looks at the counts
+of all blocks at each step, and the first of all as gcc compiles them, where it is there. Words: how many programs of
+each level (as many as the time allows without one, and at most 1000), and the levels (1 to 4: words; strings and
+tuples; classes and function values; exceptions). A word that is no number names another program to try than the one
+that is built here. Where ../shared is missing the check is skipped. The last line is 'N passed, M failed'."""
 import os
 import re
 import shutil
@@ -17,12 +20,18 @@ TOP = os.path.dirname(os.path.dirname(os.path.abspath(__file__)))
 SHARED = os.path.join(os.path.dirname(TOP), 'shared')
 PROGRAM = os.path.join(TOP, 'crates', 'rpy', 'out', 'rpy')
 CBUILD = os.path.join(SHARED, 'csub', 'cbuild.sh')
+COUNTING = os.path.join(SHARED, 'csub', 'crun.py')
 MOST = 300000
 SECONDS = 240
 COMPILED = 5
-LEVELS = [1]
-# What is not translated yet.
-LATER = re.compile(r'\b(try|raise|assert)\b|\.(join|split)\(|\bint\(')
+COUNTED = 10
+LEVELS = [1, 2, 3, 4]
+# Strings and comments, in which nothing of a program stands.
+PLAIN = re.compile(r"""[rb]*('''|\"\"\").*?(?<!\\)\1|[rb]*'(\\.|[^'\\\n])*'|[rb]*"(\\.|[^"\\\n])*"|#[^\n]*""", re.S)
+# What is not translated yet: displays of lists and dicts, what makes a list of a string or a string of a list, and the
+# arguments for more than their count.
+LATER = re.compile(r"""(?<![\w)\]'\s])\s*\[|\b(?:in|return|print|and|or|not|if|elif|while|assert|is)\s*\[|\{"""
+                   r"""|\.(?:join|split)\(|(?<!len\()(?<!\.)(?<!entry_point\()\bargv\b""")
 TALLY = re.compile(rb'tally: made (\d+), gone (\d+), left (\d+)\n')
 
 
@@ -31,11 +40,18 @@ def run(words, **more):
     return done.returncode, done.stdout, done.stderr
 
 
+def is_later(text):
+    """Whether a source has something that is not translated yet."""
+    return LATER.search(PLAIN.sub("''", text)) is not None
+
+
 class Runs:
-    def __init__(self, orafix, folder):
+    def __init__(self, orafix, program):
         self.orafix = orafix
-        self.folder = folder
-        self.passed = self.failed = self.programs = self.compiled = self.later = 0
+        self.program = program
+        self.passed = self.failed = self.compiled = self.later = 0
+        self.programs = {}
+        self.counted = {}
         self.start = time.time()
 
     def told(self, what, good, got, want):
@@ -66,10 +82,20 @@ class Runs:
         steps = ['--steps', str(bound)]
         for command in ('run', 'crun'):
             files = names if command == 'run' else ['text.c']
-            got = run([PROGRAM, command, '--tally'] + steps + files + args)
+            got = run([self.program, command, '--tally'] + steps + files + args)
             self.tallied('%s, %s at %d steps' % (name, command, bound), got, want, held)
-        got = run([PROGRAM, 'llrun'] + steps + names + args)
+        got = run([self.program, 'llrun'] + steps + names + args)
         self.told('%s, llrun at %d steps' % (name, bound), got == want, got, want)
+
+    def counts(self, level, name, args, want, held):
+        """Under the independent machine the text does the same, and the count of each block is right at each step."""
+        if self.counted.get(level, 0) >= COUNTED:
+            return
+        self.counted[level] = self.counted.get(level, 0) + 1
+        status, out, err = run([sys.executable, COUNTING, '--steps', str(MOST), '--counted', '--tally', 'text.c'] + args)
+        plain = err.replace(b'counted: ok\n', b'')
+        self.told(name + ', counted', plain != err, err, 'counted: ok')
+        self.tallied(name + ', counted', (status, out, plain), want, held)
 
     def compiles(self, name, args, want):
         """The text as gcc compiles it prints and ends the same."""
@@ -83,17 +109,18 @@ class Runs:
         got = run([os.path.join('.', 'text')] + args[1:], env=dict(os.environ, RPY_STEPS=str(MOST)))
         self.told(name + ', as gcc compiles it', got[1] == want[1] and want[2].strip() in got[2], got, want)
 
-    def add(self, name, made, bounds):
+    def add(self, level, seed, made, bounds):
+        name = 'level %d, seed %d' % (level, seed)
         for file, text in made.files:
             with open(file, 'w', encoding='latin-1', newline='') as f:
                 f.write(text)
         names = [file for file, _ in made.files]
         args = ['--'] + list(made.args)
-        want, steps, held = self.wanted(names, args, MOST)
+        want, steps, full = self.wanted(names, args, MOST)
         if want[0] not in (0, 10, 11, 12):
             return
-        status, text, err = run([PROGRAM, 'build'] + names)
-        if status == 16 and any(LATER.search(text) for _, text in made.files):
+        status, text, err = run([self.program, 'build'] + names)
+        if status == 16 and any(is_later(source) for _, source in made.files):
             self.later += 1
             return
         self.told(name + ', build', status == 0, (status, err), 0)
@@ -101,12 +128,13 @@ class Runs:
             return
         with open('text.c', 'wb') as f:
             f.write(text)
-        self.at(name, names, args, MOST, want, held)
+        self.at(name, names, args, MOST, want, full)
         for k in range(bounds):
             bound = steps * k // bounds
             less, _, held = self.wanted(names, args, bound)
             self.at(name, names, args, bound, less, held)
-        self.programs += 1
+        self.programs[level] = self.programs.get(level, 0) + 1
+        self.counts(level, name, args, want, full)
         if self.compiled < COMPILED:
             self.compiles(name, args, want)
 
@@ -115,30 +143,35 @@ def main():
     if not os.path.isdir(os.path.join(SHARED, 'fuzz')):
         print('runs: skipped, the references in ../shared are not here')
         return 0
-    if not os.path.exists(PROGRAM):
+    numbers = [int(word) for word in sys.argv[1:] if word.isdigit()]
+    others = [os.path.abspath(word) for word in sys.argv[1:] if not word.isdigit()]
+    program = others[0] if others else PROGRAM
+    if not os.path.exists(program):
         print('runs: the program is not built')
         return 1
     sys.path[:0] = [os.path.join(SHARED, 'fuzz')]
     import gen
     import orafix
-    count = int(sys.argv[1]) if len(sys.argv) > 1 else 60
-    levels = [int(word) for word in sys.argv[2:]] or LEVELS
+    count = numbers[0] if numbers else 1000
+    levels = numbers[1:] or LEVELS
+    runs = Runs(orafix, program)
+
+    def work():
+        for seed in range(count):
+            for level in levels:
+                if not numbers and time.time() - runs.start > SECONDS:
+                    print('runs: stopped after %d seconds' % SECONDS)
+                    return 0
+                runs.add(level, seed, gen.generate(seed, level), 3)
+        return 0
+
     with tempfile.TemporaryDirectory() as folder:
         os.chdir(folder)
-        runs = Runs(orafix, folder)
-
-        def work():
-            for seed in range(count):
-                for level in levels:
-                    if len(sys.argv) < 2 and time.time() - runs.start > SECONDS:
-                        print('runs: stopped after %d seconds' % SECONDS)
-                        return 0
-                    runs.add('level %d, seed %d' % (level, seed), gen.generate(seed, level), 3)
-            return 0
-
         orafix.run_with_stack(work)
         os.chdir(TOP)
-    print('%d programs, %d compiled by gcc, %d are not translated yet' % (runs.programs, runs.compiled, runs.later))
+    for level in sorted(runs.programs):
+        print('level %d: %d programs, %d of them counted' % (level, runs.programs[level], runs.counted.get(level, 0)))
+    print('%d compiled by gcc, %d are not translated yet' % (runs.compiled, runs.later))
     print('%d passed, %d failed' % (runs.passed, runs.failed))
     return 0 if runs.failed == 0 and runs.passed > 0 else 1
 

@@ -25,3 +25,5 @@ pub use run::{CRan, RunFault, run_c};
 
 #[cfg(test)]
 mod tests;
+#[cfg(test)]
+mod watch_tests;

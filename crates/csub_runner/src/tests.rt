@@ -1,12 +1,10 @@
-ghost use Rattle.std.specs.Prelude.{◌≡◌, ◌≤◌};
-
 use super::*;
 use csub_tree::{CBinary, CConst, CFile, CFunction, COperand, CPrototype, CStmt, CStruct, CType};
-use rpy_base::{HeapWatch, Leaks, MemSink, NoMem, Outcome, Seq, Sink, Tally, Text, pair_of};
+use rpy_base::{MemSink, NoMem, Seq, Sink, Text};
 use std::alloc::Global;
 use std::test::Fail;
 
-fn word(n: i64) -> COperand {
+pub fn word(n: i64) -> COperand {
     COperand::Const(CConst::Word(n))
 }
 
@@ -56,28 +54,35 @@ fn empty_file(alloc: Global) -> CFile {
     }
 }
 
-// A struct of one word; a function with a variable that points to it and a word; one block.
-fn one_block(alloc: Global, stmts: Vec<CStmt>) -> Result<CFile, NoMem> {
+/// A struct of one field; a function of these variables and blocks.
+pub fn file_of(
+    alloc: Global,
+    field: CType,
+    locals: &[CType],
+    blocks: Seq<Seq<CStmt>>,
+) -> Result<CFile, NoMem> {
     let mut file = empty_file(alloc);
     file.structs
-        .push(structure(alloc, None, [CType::Signed].as_slice(), None)?)?;
+        .push(structure(alloc, None, [field].as_slice(), None)?)?;
     file.prototypes.push(CPrototype {
         result: Some(CType::Signed),
         params: Seq::new(alloc),
     })?;
-    let mut main = function(
-        alloc,
-        b"main",
-        Some(CType::Signed),
-        [].as_slice(),
-        [CType::Ptr(0), CType::Signed].as_slice(),
-    )?;
-    main.blocks.push(Seq::from_vec(stmts))?;
+    let mut main = function(alloc, b"main", Some(CType::Signed), [].as_slice(), locals)?;
+    main.blocks = blocks;
     file.functions.push(main)?;
     Ok(file)
 }
 
-fn no_args(alloc: Global) -> Result<Vec<Text>, NoMem> {
+// A struct of one word; a function with a variable that points to it and a word; one block.
+fn one_block(alloc: Global, stmts: Vec<CStmt>) -> Result<CFile, NoMem> {
+    let mut blocks = Seq::new(alloc);
+    blocks.push(Seq::from_vec(stmts))?;
+    let locals = [CType::Ptr(0), CType::Signed];
+    file_of(alloc, CType::Signed, locals.as_slice(), blocks)
+}
+
+pub fn no_args(alloc: Global) -> Result<Vec<Text>, NoMem> {
     let mut args = Vec::new(alloc);
     args.push(Text::from_bytes(alloc, b"program")?)?;
     Ok(args)
@@ -134,52 +139,8 @@ fn reasons_of_words(rt: HostRuntime) -> Result<(), Fail> {
     Ok(())
 }
 
-// A watcher that refuses its third block.
-#[derive(Drop)]
-struct Choosy {
-    made: u64,
-    gone: u64,
-    ghost in_order: { gone ≤ made },
-}
-
-impl Choosy {
-    fn new() -> Choosy
-        ensures made { result.made ≡ 0 }
-        ensures gone { result.gone ≡ 0 }
-    {
-        Choosy { made: 0, gone: 0 }
-    }
-}
-
-impl HeapWatch for Choosy {
-    ghost use Rattle.std.specs.Prelude.{None, codes};
-    ghost use Rattle.rpy_base.specs.Watching.{Own};
-
-    ghost seen = { λ c. record { name = codes "choosy"; style = Own; made = c.made; gone = c.gone; live = None } };
-
-    fn name(&self) -> &[u8] {
-        b"choosy"
-    }
-
-    fn made(&mut self, _alloc: Global, _block: u64, _kind: u64, _cells: u64) -> Result<(), NoMem> {
-        if self.made >= 2 {
-            return Err(NoMem);
-        }
-        self.made += 1;
-        Ok(())
-    }
-
-    fn gone(&mut self, _block: u64) {
-        self.gone += 1;
-    }
-
-    fn report(&self, alloc: Global) -> Result<Text, NoMem> {
-        Ok(Text::new(alloc))
-    }
-}
-
 // Three blocks, one of them freed, and two bytes of output.
-fn three_blocks(alloc: Global) -> Result<CFile, NoMem> {
+pub fn three_blocks(alloc: Global) -> Result<CFile, NoMem> {
     let mut stmts = Vec::new(alloc);
     stmts.push(CStmt::New(0, 0, 0))?;
     stmts.push(CStmt::Put(word(104)))?;
@@ -189,52 +150,6 @@ fn three_blocks(alloc: Global) -> Result<CFile, NoMem> {
     stmts.push(CStmt::New(0, 0, 0))?;
     stmts.push(CStmt::Return(Some(word(7))))?;
     one_block(alloc, stmts)
-}
-
-#[test]
-fn watchers_see_each_block(rt: HostRuntime) -> Result<(), Fail> {
-    let alloc = rt.alloc();
-    let tally = Box::new(alloc, Tally::new())?;
-    let leaks = Box::new(alloc, Leaks::new(alloc))?;
-    let mut watch = pair_of(alloc, tally, leaks)?;
-    let file = three_blocks(alloc)?;
-    let args = no_args(alloc)?;
-    let mut out = MemSink::new(alloc);
-    let ran = run_c(alloc, &file, args.as_slice(), 5, &mut out, &mut watch)?;
-    assert!(rt; matches!(ran.outcome, Outcome::Returned(7)));
-    assert_eq!(rt; ran.steps_used, 0);
-    assert_eq!(rt; ran.blocks_made, 3);
-    assert_eq!(rt; ran.blocks_gone, 1);
-    assert_eq!(rt; out.taken(), b"hi".as_slice());
-    assert_eq!(rt; watch.len(), 2);
-    let tally = watch[0].report(alloc)?;
-    assert_eq!(rt;
-        tally.bytes(),
-        b"tally: made 3, gone 1, left 2\n".as_slice()
-    );
-    let leaks = watch[1].report(alloc)?;
-    assert_eq!(rt; leaks.bytes(), b"leak 0 s0 1\nleak 2 s0 1\n".as_slice());
-    Ok(())
-}
-
-#[test]
-fn a_watcher_refuses(rt: HostRuntime) -> Result<(), Fail> {
-    let alloc = rt.alloc();
-    let tally = Box::new(alloc, Tally::new())?;
-    let choosy = Box::new(alloc, Choosy::new())?;
-    let mut watch = pair_of(alloc, tally, choosy)?;
-    let file = three_blocks(alloc)?;
-    let args = no_args(alloc)?;
-    let mut out = MemSink::new(alloc);
-    let ran = run_c(alloc, &file, args.as_slice(), 5, &mut out, &mut watch);
-    assert!(rt; matches!(ran, Err(RunFault::NoMem)));
-    assert_eq!(rt; watch.len(), 2);
-    let tally = watch[0].report(alloc)?;
-    assert_eq!(rt;
-        tally.bytes(),
-        b"tally: made 3, gone 1, left 2\n".as_slice()
-    );
-    Ok(())
 }
 
 #[test]

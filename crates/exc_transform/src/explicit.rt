@@ -1,82 +1,68 @@
 // The transform.
-ghost use Rattle.std.specs.Prelude.{◌≡◌, ◌↔◌, IsTrue, IfOk};
+ghost use Rattle.std.specs.Prelude.{◌≡◌, true, map, IfOk};
 ghost use Rattle.exc_transform.specs.Explicit as spec;
 
-use ll_code::{LlBlock, LlExit, LlGraph, LlOp, LlProgram, LlStage};
-use rpy_base::NoMem;
+use crate::blocks::graph_of;
+use crate::calm::graphs_calm;
+use crate::family::family_of;
+use crate::raising::{Raising, any_marked, raising_graphs};
+use ll_code::{LlGraph, LlProgram, LlStage, LlStruct};
+use rpy_base::{NoMem, Seq};
 use std::alloc::Global;
 
-fn are_calm(operations: &[LlOp]) -> bool
-    ensures { result ≡ spec.are_calm operations.now }
+#[tactic(auto, using(crate::proofs::Lists::graphs_calm_append))]
+fn graphs_of(alloc: Global, structs: &[LlStruct], graphs: &[LlGraph]) -> Result<Seq<LlGraph>, NoMem>
+    ensures calm { IfOk result (λ made. spec.graphs_calm made ≡ true) }
+    ensures heads { IfOk result (λ made. map spec.head_of made ≡ map spec.head_of graphs.now) }
 {
-    for operation in operations {
-        if let LlOp::Raise(_) = operation {
-            return false;
-        }
-    }
-    true
-}
-
-fn leaves_calmly(exit: &LlExit) -> bool
-    ensures { result ≡ spec.leaves_calmly exit.now }
-{
-    match exit {
-        LlExit::OnRaise(_, _, _) => false,
-        LlExit::Raise(_) => false,
-        LlExit::Goto(_)
-        | LlExit::If(_, _, _)
-        | LlExit::Return(_)
-        | LlExit::Fail(_)
-        | LlExit::Raised(_) => true,
-    }
-}
-
-fn block_calm(block: &LlBlock) -> bool
-    ensures { result ≡ spec.block_calm block.now }
-{
-    are_calm(block.ops.as_slice()) && leaves_calmly(&block.exit)
-}
-
-fn blocks_calm(blocks: &[LlBlock]) -> bool
-    ensures { result ≡ spec.blocks_calm blocks.now }
-{
-    for block in blocks {
-        if !block_calm(block) {
-            return false;
-        }
-    }
-    true
-}
-
-fn graphs_calm(graphs: &[LlGraph]) -> bool
-    ensures { result ≡ spec.graphs_calm graphs.now }
-{
+    let family = family_of(structs, graphs);
+    let marks = raising_graphs(alloc, graphs)?;
+    let raising = Raising {
+        graphs: marks.as_slice(),
+        any: any_marked(marks.as_slice()),
+    };
+    let mut made = Seq::new(alloc);
     for graph in graphs {
-        if !blocks_calm(graph.blocks.as_slice()) {
-            return false;
-        }
+        made.push(graph_of(alloc, family, raising, graph)?)?;
     }
-    true
+    Ok(made)
 }
 
-/// Whether nothing in a program raises an exception and nothing catches one.
-pub fn is_without_exceptions(program: &LlProgram) -> bool
-    ensures { IsTrue result ↔ spec.IsWithoutExceptions program.now }
+// Graphs in which nothing raises stay as they are.
+fn explicit_graphs(
+    alloc: Global,
+    structs: &[LlStruct],
+    graphs: Seq<LlGraph>,
+) -> Result<Seq<LlGraph>, NoMem>
+    ensures calm { IfOk result (λ made. spec.graphs_calm made ≡ true) }
+    ensures same { IfOk result (λ made. spec.graphs_calm graphs ≡ true → made ≡ graphs) }
+    ensures heads { IfOk result (λ made. map spec.head_of made ≡ map spec.head_of graphs) }
 {
-    graphs_calm(program.graphs.as_slice())
+    if graphs_calm(graphs.as_slice()) {
+        return Ok(graphs);
+    }
+    graphs_of(alloc, structs, graphs.as_slice())
 }
 
-/// A program of the stage `Explicit` that means what a program of the stage `Raw` does. The program
-/// is one in which nothing raises an exception and nothing catches one.
-pub fn make_explicit(_alloc: Global, program: LlProgram) -> Result<LlProgram, NoMem>
-    requires { spec.IsWithoutExceptions program }
-    ensures { IfOk result (λ made. made ≡ spec.explicit program) }
+/// A program of the stage `Explicit` that means what a program of the stage `Raw` does.
+pub fn make_explicit(alloc: Global, program: LlProgram) -> Result<LlProgram, NoMem>
+    ensures calm { IfOk result spec.IsWithoutExceptions }
+    ensures same { IfOk result (λ made. spec.IsWithoutExceptions program → made ≡ spec.explicit program) }
+    ensures kept { IfOk result (spec.Keeps program) }
 {
+    let LlProgram {
+        structs,
+        statics,
+        graphs,
+        entry,
+        ..
+    } = program;
+    let graphs = explicit_graphs(alloc, structs.as_slice(), graphs)?;
     Ok(LlProgram {
         stage: LlStage::Explicit,
-        structs: program.structs,
-        statics: program.statics,
-        graphs: program.graphs,
-        entry: program.entry,
+        structs,
+        statics,
+        graphs,
+        entry,
     })
 }

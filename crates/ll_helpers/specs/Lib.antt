@@ -1,4 +1,9 @@
 pub mod Build
 pub mod Helpers
+pub mod Loops
+pub mod Needs
 pub mod Print
+pub mod Statics
+pub mod StringsAsk
+pub mod StringsMake
 pub mod Words

@@ -1,5 +1,5 @@
 -- The graphs of operations on words and bytes that test something.
-use Rattle.std.specs.Prelude.{pos, negsuc, [], ◌∷◌, Some, codes, true, false}
+use Rattle.std.specs.Prelude.{pos, [], ◌∷◌, Some, codes, true, false}
 use Rattle.csub_tree.specs.declared.tree.CUnary.TheVariants.{C2S, S2C}
 use Rattle.csub_tree.specs.declared.tree.CBinary.TheVariants.{Add, Div, Mod, Shl, Shr, Or, AddOvf, Eq, Lt, Le, Gt, Ge}
 use Rattle.csub_tree.specs.declared.tree.COperand.TheVariants.{Var}

@@ -54,6 +54,32 @@ pub fn flag(b: bool) -> COperand
     COperand::Const(CConst::Bool(b))
 }
 
+pub fn byte(b: u8) -> COperand
+    ensures { result ≡ spec.byte b }
+{
+    COperand::Const(CConst::Char(b))
+}
+
+pub fn null() -> COperand
+    ensures { result ≡ spec.null }
+{
+    COperand::Const(CConst::Null)
+}
+
+/// The static string of this number.
+pub fn static_text(n: u64) -> COperand
+    ensures { result ≡ spec.static_text n }
+{
+    COperand::Const(CConst::Static(0, n))
+}
+
+/// The table of the strings of one byte, which is of this struct.
+pub fn static_table(table: u64) -> COperand
+    ensures { result ≡ spec.static_table table }
+{
+    COperand::Const(CConst::Static(table, 257))
+}
+
 pub fn var(v: VarId) -> COperand
     ensures { result ≡ COperand.Var v }
 {
@@ -79,6 +105,17 @@ pub fn call(alloc: Global, graph: u64, x: VarId) -> Result<LlOp, NoMem>
     Ok(LlOp::Call(None, graph, operands(alloc, [COperand::Var(x)])?))
 }
 
+pub fn call_of<const N: usize>(
+    alloc: Global,
+    into: Option<VarId>,
+    graph: u64,
+    xs: [COperand; N],
+) -> Result<LlOp, NoMem>
+    ensures { IfOk result (λ op. op ≡ LlOp.Call into graph xs.entry) }
+{
+    Ok(LlOp::Call(into, graph, operands(alloc, xs)?))
+}
+
 pub fn link<const N: usize>(alloc: Global, to: u64, args: [COperand; N]) -> Result<LlLink, NoMem>
     ensures { IfOk result (λ link. link ≡ record { to = to; args = args.entry }) }
 {
@@ -100,6 +137,12 @@ pub fn fork<const N: usize, const M: usize>(
     ensures { IfOk result (λ exit. exit ≡ spec.fork a there xs.entry elsewhere ys.entry) }
 {
     Ok(LlExit::If(a, link(alloc, there, xs)?, link(alloc, elsewhere, ys)?))
+}
+
+pub fn go<const N: usize>(alloc: Global, to: u64, args: [COperand; N]) -> Result<LlExit, NoMem>
+    ensures { IfOk result (λ exit. exit ≡ LlExit.Goto (spec.to to args.entry)) }
+{
+    Ok(LlExit::Goto(link(alloc, to, args)?))
 }
 
 /// A block without operations.
@@ -131,6 +174,48 @@ pub fn block<const I: usize>(
         ops,
         exit,
     })
+}
+
+/// A block that asks whether a string is missing.
+pub fn ask<const I: usize>(
+    alloc: Global,
+    inputs: [VarId; I],
+    args: [COperand; I],
+    text: VarId,
+    test: VarId,
+    missing: u64,
+    there: u64,
+) -> Result<LlBlock, NoMem>
+    ensures { IfOk result (λ block. block ≡ spec.ask inputs.entry args.entry text test missing there) }
+{
+    let ops = operations(alloc, [LlOp::Binary(test, CBinary::Peq, var(text), null())])?;
+    block(
+        alloc,
+        inputs,
+        ops,
+        fork(alloc, test, missing, [], there, args)?,
+    )
+}
+
+/// A block that fails.
+pub fn fails(alloc: Global, number: u32) -> Result<LlBlock, NoMem>
+    ensures { IfOk result (λ block. block ≡ spec.fails number) }
+{
+    none(alloc, [], LlExit::Fail(number))
+}
+
+/// A block that gives nothing.
+pub fn done(alloc: Global) -> Result<LlBlock, NoMem>
+    ensures { IfOk result (λ block. block ≡ spec.done) }
+{
+    none(alloc, [], LlExit::Return(None))
+}
+
+/// A block that gives a constant.
+pub fn answer(alloc: Global, x: COperand) -> Result<LlBlock, NoMem>
+    ensures { IfOk result (λ block. block ≡ spec.answer x) }
+{
+    none(alloc, [], LlExit::Return(Some(x)))
 }
 
 /// One operation, two or three.

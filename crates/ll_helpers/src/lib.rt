@@ -2,11 +2,17 @@
 #![tactic(auto)]
 
 pub mod build;
+mod loops;
+mod needs;
 mod print;
+mod statics;
+mod strings_ask;
+mod strings_make;
 mod whole;
 mod words;
 
-pub use whole::{Helper, Need, helpers};
+pub use needs::{Helper, Need, uses_texts};
+pub use whole::helpers;
 
 #[cfg(test)]
 mod tests;

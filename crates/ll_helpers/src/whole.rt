@@ -1,61 +1,35 @@
 // The helpers of a program.
-ghost use Rattle.std.specs.Prelude.{◌≡◌, ◌++◌, IfOk, OnOk, length, map};
+ghost use Rattle.std.specs.Prelude.{◌≡◌, ◌++◌, IfOk, OnOk, map};
 ghost use Rattle.ll_helpers.specs.Helpers as spec;
 
+use crate::loops::{
+    alike_bytes, copy_bytes, count_digits, find_bytes, less_bytes, put_bytes, repeat_bytes,
+    skip_backwards, skip_forwards, write_digits,
+};
+use crate::needs::{Helper, Need, Numbers, Shared, all_shared, is_used, numbers_of, uses_texts};
 use crate::print::{print_bool, print_digits, print_word};
+use crate::statics::texts;
+use crate::strings_ask::{
+    print_str, str_contains, str_ends_with, str_equal, str_find, str_has_item, str_index, str_item,
+    str_len, str_less, str_starts_with, str_truth, str_walk, str_write,
+};
+use crate::strings_make::{
+    str_add, str_but_last, str_mul, str_of_bool, str_of_char, str_of_word, str_slice, str_strip,
+    string_part,
+};
 use crate::words::{
     is_alpha, is_digit, is_space, range_down, range_up, word_chr, word_div, word_max, word_min,
     word_mod, word_shl, word_shr,
 };
-use ll_code::{LlGraph, LlProgram, LlStage, LlStruct, LlType};
+use ll_code::{LlGraph, LlProgram, LlStage, LlStatic, LlStruct, LlType};
 use rpy_base::{NoMem, Seq};
 use std::alloc::Global;
 
-/// An operation of a program that is a graph.
-#[derive(Clone, Copy, Debug, PartialEq, Eq)]
-pub enum Helper {
-    PrintWord,
-    PrintBool,
-    /// The floor of a quotient; a zero divisor fails.
-    WordDiv,
-    /// What is left of it; a zero divisor fails.
-    WordMod,
-    /// A shift to the left; a count outside 0 to 63 fails.
-    WordShl,
-    /// A shift to the right; a count outside 0 to 63 fails.
-    WordShr,
-    /// The byte of a number; one outside 0 to 255 fails.
-    WordChr,
-    /// The smaller of two words.
-    WordMin,
-    /// The greater of two words.
-    WordMax,
-    /// Of a range that rises: its end, a number and the step; the next number, or the end where that comes first.
-    RangeUp,
-    /// The same of a range that falls.
-    RangeDown,
-    /// Whether a byte is a digit.
-    IsDigit,
-    /// Whether a byte is a letter. Those of two cases differ by 32.
-    IsAlpha,
-    /// Whether a byte is a space or one of 9 to 13.
-    IsSpace,
-}
-
-/// A helper that is needed, for items and keys of these types where it speaks of any.
-#[derive(Clone, Copy, Debug, PartialEq, Eq)]
-pub struct Need {
-    pub helper: Helper,
-    pub item: LlType,
-    pub key: LlType,
-}
-
-// The digits are printed by the graph of this number.
-fn graph_of(alloc: Global, digits: u64, need: Need) -> Result<LlGraph, NoMem>
-    ensures { IfOk result (λ made. made ≡ spec.helper_graph digits need) }
+fn graph_of(alloc: Global, numbers: Numbers, need: Need) -> Result<LlGraph, NoMem>
+    ensures { IfOk result (λ made. made ≡ spec.helper_graph numbers need) }
 {
     match need.helper {
-        Helper::PrintWord => print_word(alloc, digits),
+        Helper::PrintWord => print_word(alloc, numbers.print_digits),
         Helper::PrintBool => print_bool(alloc),
         Helper::WordDiv => word_div(alloc),
         Helper::WordMod => word_mod(alloc),
@@ -69,32 +43,120 @@ fn graph_of(alloc: Global, digits: u64, need: Need) -> Result<LlGraph, NoMem>
         Helper::IsDigit => is_digit(alloc),
         Helper::IsAlpha => is_alpha(alloc),
         Helper::IsSpace => is_space(alloc),
+        Helper::PrintStr => print_str(alloc, numbers.put_bytes),
+        Helper::StrWrite => str_write(alloc, numbers.put_bytes),
+        Helper::StrOfChar => str_of_char(alloc, numbers.table),
+        Helper::StrOfWord => str_of_word(
+            alloc,
+            numbers.table,
+            numbers.count_digits,
+            numbers.write_digits,
+        ),
+        Helper::StrOfBool => str_of_bool(alloc),
+        Helper::StrAdd => str_add(alloc, numbers.copy_bytes, numbers.string_part),
+        Helper::StrMul => str_mul(alloc, numbers.string_part, numbers.repeat_bytes),
+        Helper::StrIndex => str_index(alloc),
+        Helper::StrSlice => str_slice(alloc, numbers.string_part),
+        Helper::StrButLast => str_but_last(alloc, numbers.string_part),
+        Helper::StrLen => str_len(alloc),
+        Helper::StrTruth => str_truth(alloc),
+        Helper::StrEqual => str_equal(alloc, numbers.alike_bytes),
+        Helper::StrLess => str_less(alloc, numbers.less_bytes),
+        Helper::StrContains => str_contains(alloc, numbers.find_bytes),
+        Helper::StrFind => str_find(alloc, numbers.find_bytes),
+        Helper::StrStartsWith => str_starts_with(alloc, numbers.alike_bytes),
+        Helper::StrEndsWith => str_ends_with(alloc, numbers.alike_bytes),
+        Helper::StrStrip => str_strip(
+            alloc,
+            numbers.string_part,
+            numbers.skip_forwards,
+            numbers.skip_backwards,
+        ),
+        Helper::StrWalk => str_walk(alloc),
+        Helper::StrHasItem => str_has_item(alloc),
+        Helper::StrItem => str_item(alloc),
     }
 }
 
-fn prints_words(needs: &[Need]) -> bool
-    ensures { result ≡ spec.prints_words needs.now }
+fn shared_graph(alloc: Global, numbers: Numbers, graph: Shared) -> Result<LlGraph, NoMem>
+    ensures { IfOk result (λ made. made ≡ spec.shared_graph numbers graph) }
 {
-    for need in needs {
-        if let Helper::PrintWord = need.helper {
-            return true;
-        }
+    match graph {
+        Shared::PrintDigits => print_digits(alloc, numbers.print_digits),
+        Shared::PutBytes => put_bytes(alloc),
+        Shared::CopyBytes => copy_bytes(alloc),
+        Shared::StringPart => string_part(alloc, numbers.table, numbers.copy_bytes),
+        Shared::RepeatBytes => repeat_bytes(alloc, numbers.copy_bytes),
+        Shared::AlikeBytes => alike_bytes(alloc),
+        Shared::FindBytes => find_bytes(alloc, numbers.alike_bytes),
+        Shared::LessBytes => less_bytes(alloc),
+        Shared::CountDigits => count_digits(alloc),
+        Shared::WriteDigits => write_digits(alloc),
+        Shared::IsSpace => is_space(alloc),
+        Shared::SkipForwards => skip_forwards(alloc, numbers.is_space),
+        Shared::SkipBackwards => skip_backwards(alloc, numbers.is_space),
     }
-    false
 }
 
-fn graphs(alloc: Global, needs: &[Need]) -> Result<Seq<LlGraph>, NoMem>
-    ensures { IfOk result (λ made. made ≡ spec.helper_graphs needs.now) }
+fn need_graphs(alloc: Global, numbers: Numbers, needs: &[Need]) -> Result<Seq<LlGraph>, NoMem>
+    ensures { IfOk result (λ made. made ≡ map (spec.helper_graph numbers) needs.now) }
 {
-    let digits = needs.len() as u64;
     let mut made = Seq::new(alloc);
     for need in needs {
-        made.push(graph_of(alloc, digits, *need)?)?;
-    }
-    if prints_words(needs) {
-        made.push(print_digits(alloc, digits)?)?;
+        made.push(graph_of(alloc, numbers, *need)?)?;
     }
     Ok(made)
+}
+
+fn push_if_used(
+    alloc: Global,
+    numbers: Numbers,
+    needs: &[Need],
+    graph: Shared,
+    into: &mut Seq<LlGraph>,
+) -> Result<(), NoMem>
+    ensures { OnOk result (into.new ≡ into.old ++ spec.if_used numbers needs.now graph) }
+{
+    if is_used(needs, graph) {
+        into.push(shared_graph(alloc, numbers, graph)?)?;
+    }
+    Ok(())
+}
+
+fn push_shared(
+    alloc: Global,
+    numbers: Numbers,
+    needs: &[Need],
+    order: &[Shared],
+    into: &mut Seq<LlGraph>,
+) -> Result<(), NoMem>
+    ensures { OnOk result (into.new ≡ into.old ++ spec.shared_graphs numbers needs.now order.now) }
+{
+    for graph in order {
+        push_if_used(alloc, numbers, needs, *graph, into)?;
+    }
+    Ok(())
+}
+
+fn all_graphs(
+    alloc: Global,
+    numbers: Numbers,
+    needs: &[Need],
+    order: &[Shared],
+) -> Result<Seq<LlGraph>, NoMem>
+    ensures { IfOk result (λ made. made ≡ spec.all_graphs numbers needs.now order.now) }
+{
+    let mut made = need_graphs(alloc, numbers, needs)?;
+    push_shared(alloc, numbers, needs, order, &mut made)?;
+    Ok(made)
+}
+
+fn graphs(alloc: Global, needs: &[Need], table: u64) -> Result<Seq<LlGraph>, NoMem>
+    ensures { IfOk result (λ made. made ≡ spec.helper_graphs needs.now table) }
+{
+    let order = all_shared(alloc)?;
+    let numbers = numbers_of(needs, order.as_slice(), table)?;
+    all_graphs(alloc, numbers, needs, order.as_slice())
 }
 
 fn copied_types(alloc: Global, types: &[LlType]) -> Result<Seq<LlType>, NoMem>
@@ -124,16 +186,50 @@ fn copied_structs(alloc: Global, structs: &[LlStruct]) -> Result<Seq<LlStruct>, 
     Ok(made)
 }
 
-/// The helpers, as the graphs of a program of the stage `Raw` with these structs: graph i is that of
-/// need i, and the graphs that these call follow. The entry means nothing.
+// The struct of the table of strings.
+fn table_struct(alloc: Global) -> Result<LlStruct, NoMem>
+    ensures { IfOk result (λ made. made ≡ spec.table_struct) }
+{
+    Ok(LlStruct {
+        base: None,
+        fields: copied_types(alloc, &[LlType::Signed])?,
+        items: Some(LlType::Ptr(0)),
+    })
+}
+
+fn all_structs(alloc: Global, structs: &[LlStruct], needs: &[Need]) -> Result<Seq<LlStruct>, NoMem>
+    ensures { IfOk result (λ made. made ≡ spec.all_structs structs.now needs.now) }
+{
+    let mut made = copied_structs(alloc, structs)?;
+    if uses_texts(needs) {
+        made.push(table_struct(alloc)?)?;
+    }
+    Ok(made)
+}
+
+fn all_statics(alloc: Global, needs: &[Need], table: u64) -> Result<Seq<LlStatic>, NoMem>
+    ensures { IfOk result (λ made. made ≡ spec.all_statics needs.now table) }
+{
+    if uses_texts(needs) {
+        texts(alloc, table)
+    } else {
+        Ok(Seq::new(alloc))
+    }
+}
+
+/// The helpers, as the graphs of a program of the stage `Raw` with these structs, of which the first is
+/// that of strings: graph i is that of need i, and the graphs that these call follow. Where a need uses
+/// the static strings, these are the statics, and the struct of their table follows the structs. The
+/// entry means nothing.
 pub fn helpers(alloc: Global, structs: &[LlStruct], needs: &[Need]) -> Result<LlProgram, NoMem>
     ensures { IfOk result (λ program. program ≡ spec.helpers structs.now needs.now) }
 {
+    let table = structs.len() as u64;
     Ok(LlProgram {
         stage: LlStage::Raw,
-        structs: copied_structs(alloc, structs)?,
-        statics: Seq::new(alloc),
-        graphs: graphs(alloc, needs)?,
+        structs: all_structs(alloc, structs, needs)?,
+        statics: all_statics(alloc, needs, table)?,
+        graphs: graphs(alloc, needs, table)?,
         entry: 0,
     })
 }

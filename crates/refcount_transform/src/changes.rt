@@ -5,6 +5,7 @@ use crate::plan::{
     Plan, add, counts_at, field_number, field_referred, fields_of, items_referred, put_of,
     referred, root_of, shifted,
 };
+use crate::slots::{Slots, own_some};
 use csub_tree::{CConst, COperand};
 use ll_code::{LlExit, LlOp, LlType, VarId};
 use rpy_base::{NoMem, Seq};
@@ -226,6 +227,35 @@ fn push_call_fn(
     Ok(())
 }
 
+// ---- exception slots
+
+// What the slots hold is dropped.
+fn push_exc_clear(alloc: Global, slots: Slots, into: &mut Seq<LlOp>) -> Result<(), NoMem> {
+    if own_some(slots) {
+        into.push(LlOp::Call(None, slots.clear, Seq::new(alloc)))
+    } else {
+        into.push(LlOp::ExcClear)
+    }
+}
+
+// The slots take a reference each, and drop those that they held.
+fn push_exc_set(
+    alloc: Global,
+    around: Around<'_>,
+    a: VarId,
+    b: VarId,
+    into: &mut Seq<LlOp>,
+) -> Result<(), NoMem> {
+    push_up(alloc, around, COperand::Var(a), into)?;
+    push_up(alloc, around, COperand::Var(b), into)?;
+    if own_some(around.plan.slots) {
+        push_exc_clear(alloc, around.plan.slots, into)?;
+    }
+    into.push(LlOp::ExcSet(a, b))
+}
+
+// ---- all operations
+
 // An operation that changes no count.
 fn push_plain(op: &LlOp, into: &mut Seq<LlOp>) -> Result<(), NoMem> {
     match op {
@@ -233,8 +263,6 @@ fn push_plain(op: &LlOp, into: &mut Seq<LlOp>) -> Result<(), NoMem> {
         LlOp::Binary(a, o, x, y) => into.push(LlOp::Binary(*a, *o, *x, *y)),
         LlOp::Free(a) => into.push(LlOp::Free(*a)),
         LlOp::Step(x) => into.push(LlOp::Step(*x)),
-        LlOp::ExcType(a, n) => into.push(LlOp::ExcType(*a, *n)),
-        LlOp::ExcClear => into.push(LlOp::ExcClear),
         LlOp::Argc(a) => into.push(LlOp::Argc(*a)),
         LlOp::ArgLen(a, x) => into.push(LlOp::ArgLen(*a, *x)),
         LlOp::Arg(a, x, y) => into.push(LlOp::Arg(*a, *x, *y)),
@@ -276,11 +304,10 @@ fn push_counted(
             push_call_of(alloc, around, *to, *graph, xs.as_slice(), into)
         }
         LlOp::CallFn(_, _, _, _, _) => push_call_fn(alloc, around, op, into),
-        LlOp::ExcValue(a, n) => { push_taken(alloc, around, *a, LlOp::ExcValue(*a, *n), into) }
-        LlOp::ExcSet(a, b) => {
-            push_up(alloc, around, COperand::Var(*b), into)?;
-            into.push(LlOp::ExcSet(*a, *b))
-        }
+        LlOp::ExcType(a, n) => push_taken(alloc, around, *a, LlOp::ExcType(*a, *n), into),
+        LlOp::ExcValue(a, n) => push_taken(alloc, around, *a, LlOp::ExcValue(*a, *n), into),
+        LlOp::ExcSet(a, b) => push_exc_set(alloc, around, *a, *b, into),
+        LlOp::ExcClear => push_exc_clear(alloc, plan.slots, into),
         _ => push_plain(op, into),
     }
 }

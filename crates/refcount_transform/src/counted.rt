@@ -3,9 +3,10 @@ ghost use Rattle.std.specs.Prelude.{◌≡◌, IfOk};
 ghost use Rattle.ll_code.specs.declared.program.LlStage.TheVariants.{Counted};
 
 use crate::copies::copy_struct;
-use crate::made::push_all_made;
+use crate::made::{push_all_made, push_slots};
 use crate::plan::{Plan, base_of, counted_structs, counts_of_structs, has_count};
 use crate::releases::graph_of;
+use crate::slots::{behind, slots_of};
 use csub_tree::{CCell, CConst, CStatic};
 use ll_code::{LlGraph, LlProgram, LlStage, LlStatic, LlStruct, LlType};
 use rpy_base::{NoMem, Seq};
@@ -55,6 +56,7 @@ fn graphs_of(alloc: Global, plan: Plan<'_>, graphs: &[LlGraph]) -> Result<Seq<Ll
     for graph in graphs {
         made.push(graph_of(alloc, plan, graph)?)?;
     }
+    push_slots(alloc, plan, &mut made)?;
     push_all_made(alloc, plan, &mut made)?;
     Ok(made)
 }
@@ -131,11 +133,13 @@ pub fn count(alloc: Global, program: &LlProgram) -> Result<LlProgram, NoMem>
     let structs = program.structs.as_slice();
     let graphs = program.graphs.as_slice();
     let counted = counted_structs(alloc, structs, graphs)?;
-    let counts = counts_of_structs(alloc, structs, counted.as_slice(), graphs.len() as u64)?;
+    let slots = slots_of(counted.as_slice(), graphs, graphs.len() as u64);
+    let counts = counts_of_structs(alloc, structs, counted.as_slice(), behind(slots)?)?;
     let plan = Plan {
         structs,
         counted: counted.as_slice(),
         counts: counts.as_slice(),
+        slots,
     };
     Ok(LlProgram {
         stage: LlStage::Counted,

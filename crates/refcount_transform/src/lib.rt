@@ -3,7 +3,7 @@
 //!
 //! A variable that is a reference owns one from where it is set until it is last read. An
 //! operation that copies a reference takes one more, a call gives those of its operands to the graph
-//! that it calls, and an exit gives those that it reads on. In a root struct the count is field 0, and
+//! that it calls, and an exit gives those that it reads on. An exception slot owns a reference too. In a root struct the count is field 0, and
 //! the function that releases the block field 1. In a struct with items field 0 of its own is their
 //! number where items are references. References lead to root structs, and no operation sets a
 //! reference that it reads.
@@ -16,5 +16,6 @@ mod live;
 mod made;
 mod plan;
 mod releases;
+mod slots;
 
 pub use counted::count;

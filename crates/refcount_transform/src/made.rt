@@ -4,6 +4,7 @@ use crate::copies::copy_types;
 use crate::plan::{
     Plan, add, counts_at, field_number, fields_of, is_counted, items_referred, referred, root_of,
 };
+use crate::slots::{Slots, own_some};
 use csub_tree::{CBinary, CConst, COperand};
 use ll_code::{LlBlock, LlExit, LlGraph, LlLink, LlOp, LlType, VarId};
 use rpy_base::{NoMem, Seq, Text, udecimal};
@@ -518,6 +519,69 @@ fn release_graph(alloc: Global, plan: Plan<'_>, n: u64) -> Result<LlGraph, NoMem
         None => release_plain(alloc, plan, n, held.as_slice()),
         Some(m) => release_items(alloc, plan, n, m, held.as_slice()),
     }
+}
+
+// ---- exception slots
+
+fn push_kind_read(held: Option<u64>, into: &mut Seq<LlOp>) -> Result<(), NoMem> {
+    match held {
+        None => Ok(()),
+        Some(n) => into.push(LlOp::ExcType(0, n)),
+    }
+}
+
+fn push_value_read(held: Option<u64>, into: &mut Seq<LlOp>) -> Result<(), NoMem> {
+    match held {
+        None => Ok(()),
+        Some(n) => into.push(LlOp::ExcValue(1, n)),
+    }
+}
+
+fn push_slot_drop(
+    alloc: Global,
+    plan: Plan<'_>,
+    v: VarId,
+    held: Option<u64>,
+    into: &mut Seq<LlOp>,
+) -> Result<(), NoMem> {
+    match held {
+        None => Ok(()),
+        Some(n) => into.push(call_of(alloc, counts_at(plan, n).down, [COperand::Var(v)])?),
+    }
+}
+
+fn slot_type(held: Option<u64>) -> LlType {
+    match held {
+        None => LlType::Void,
+        Some(n) => LlType::Ptr(n),
+    }
+}
+
+// Empties the exception slots, and then drops what they held.
+fn slots_graph(alloc: Global, plan: Plan<'_>) -> Result<LlGraph, NoMem> {
+    let Slots { kind, value, .. } = plan.slots;
+    let mut ops = Seq::new(alloc);
+    push_kind_read(kind, &mut ops)?;
+    push_value_read(value, &mut ops)?;
+    ops.push(LlOp::ExcClear)?;
+    push_slot_drop(alloc, plan, 0, kind, &mut ops)?;
+    push_slot_drop(alloc, plan, 1, value, &mut ops)?;
+    let body = LlBlock {
+        inputs: Seq::new(alloc),
+        ops,
+        exit: LlExit::Return(None),
+    };
+    let types = list(alloc, [slot_type(kind), slot_type(value)])?;
+    let name = Text::from_bytes(alloc, b"clear_exception")?;
+    graph(alloc, name, 0, types, list(alloc, [body])?)
+}
+
+/// The graph that empties the exception slots, where they own something.
+pub fn push_slots(alloc: Global, plan: Plan<'_>, into: &mut Seq<LlGraph>) -> Result<(), NoMem> {
+    if own_some(plan.slots) {
+        into.push(slots_graph(alloc, plan)?)?;
+    }
+    Ok(())
 }
 
 // ---- all of them

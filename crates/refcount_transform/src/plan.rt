@@ -1,6 +1,7 @@
 // Which structs are counted, and which graphs are made for them. A struct is counted where a block of
 // it, or of one with the same root, is made somewhere. The root of a struct is the base that has none
 // itself.
+use crate::slots::Slots;
 use ll_code::{LlBlock, LlGraph, LlOp, LlStruct, LlType};
 use rpy_base::{NoMem, Seq};
 use std::alloc::Global;
@@ -17,12 +18,14 @@ pub struct Counts {
     pub down: u64,
 }
 
-/// The structs, which of them are counted, and the graphs that are made for each.
+/// The structs, which of them are counted, and the graphs that are made for each; and the exception
+/// slots.
 #[derive(Clone, Copy)]
 pub struct Plan<'a> {
     pub structs: &'a [LlStruct],
     pub counted: &'a [bool],
     pub counts: &'a [Counts],
+    pub slots: Slots,
 }
 
 // ---- roots

@@ -3,7 +3,7 @@ ghost use Rattle.std.specs.Prelude.{IfOk, IfSome};
 ghost use Rattle.rpy_compiled.specs.Compile.{IsFile};
 
 use csub_tree::{CFile, checked};
-use exc_transform::{is_without_exceptions, make_explicit};
+use exc_transform::make_explicit;
 use genc_lower::lower;
 use ll_code::LlProgram;
 use refcount_transform::count;
@@ -11,31 +11,30 @@ use rpy_base::NoMem;
 use rpy_checked::Checked;
 use rpy_resolved::resolved;
 use rpy_tree::Program;
-use rtyper_program::{is_words, rtype_words};
+use rtyper_program::rtype;
 use std::alloc::Global;
 
-/// The low-level program of a program that has passed its checks; `None` where it has one that is
-/// not of words, truth values and strings of length one.
+/// The low-level program of a program that has passed its checks; `None` where something in it has no
+/// lowering yet.
 pub fn low_level(
     alloc: Global,
     program: &Program,
     checked: &Checked,
 ) -> Result<Option<LlProgram>, NoMem> {
     let resolved = resolved(alloc, program)?;
-    if !is_words(alloc, &resolved, &checked.graphs, &checked.annotation)? {
-        return Ok(None);
-    }
-    let typed = rtype_words(alloc, &resolved, &checked.graphs, &checked.annotation)?;
-    Ok(Some(typed))
+    rtype(
+        alloc,
+        &resolved,
+        &checked.graphs,
+        &checked.annotation,
+        &checked.classes,
+    )
 }
 
 // The C file of a low-level program; `None` where one of the passes does not take it.
 fn file_of(alloc: Global, typed: LlProgram) -> Result<Option<CFile>, NoMem>
     ensures { IfOk result (λ made. IfSome made IsFile) }
 {
-    if !is_without_exceptions(&typed) {
-        return Ok(None);
-    }
     let explicit = make_explicit(alloc, typed)?;
     let counted = count(alloc, &explicit)?;
     let file = lower(alloc, &counted)?;

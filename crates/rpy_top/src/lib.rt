@@ -31,3 +31,5 @@ mod program_tests;
 mod run_tests;
 #[cfg(test)]
 mod tests;
+#[cfg(test)]
+mod text_tests;

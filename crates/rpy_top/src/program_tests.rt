@@ -25,12 +25,56 @@ const FAILS: &str =
 const LOOPS: &str =
     "def entry_point(argv):\n    i = 0\n    while i < 4:\n        i += 1\n        if i == 2:\n            continue\n        print i, chr(i + 64), i > 2\n    return i\n";
 
-const STRINGS: &str = "def entry_point(argv):\n    print 'ab'\n    return 0\n";
+const GROWS: &str =
+    "def entry_point(argv):\n    s = 'ab'\n    i = 0\n    while i < 3:\n        s = s + str(i + 10)\n        i += 1\n    print s, s[1:4], len(s)\n    return i\n";
+
+// A bound that wraps.
+const SLICES: &str =
+    "def entry_point(argv):\n    n = 9223372036854775807\n    n = n + len(argv)\n    print 'abc'[:n]\n    return 0\n";
+
+// A walk over a string whose length is known.
+const WALKS: &str =
+    "def f(p):\n    for c in p:\n        print c\n    return 0\ndef entry_point(argv):\n    return f('x') + f(',')\n";
+
+const BOXES: &str =
+    "class Box(object):\n    def __init__(self, v):\n        self.v = v\ndef find(n):\n    if n > 3:\n        return Box(n)\n    return None\ndef entry_point(argv):\n    b = find(len(argv) + 4)\n    if b is not None:\n        print b.v\n    return 0\n";
+
+// An attribute that is set to itself.
+const KEEPS: &str =
+    "class C(object):\n    def __init__(self, n):\n        self.f = str(n)\ndef entry_point(argv):\n    x = C(12)\n    x.f = x.f\n    a = x\n    a = a\n    print a.f\n    return 0\n";
+
+const CHAINS: &str =
+    "class Node(object):\n    def __init__(self, link):\n        self.link = link\ndef entry_point(argv):\n    n = None\n    i = 0\n    while i < 1000:\n        n = Node(n)\n        i += 1\n    n = None\n    print i\n    return 0\n";
+
+const METHODS: &str =
+    "class A(object):\n    def name(self):\n        return 1\nclass B(A):\n    def name(self):\n        return 2\ndef inc(n):\n    return n + 1\ndef dec(n):\n    return n - 1\ndef twice(f, n):\n    return f(f(n))\ndef pick(n):\n    if n > 1:\n        return B()\n    return A()\ndef entry_point(argv):\n    f = inc\n    if len(argv) > 1:\n        f = dec\n    x = pick(len(argv))\n    print x.name(), twice(f, 10), isinstance(x, B)\n    return 0\n";
+
+// Two instances that hold each other, and one that holds the other.
+const HOLD_BOTH: &str =
+    "class N(object):\n    def __init__(self):\n        self.o = None\ndef entry_point(argv):\n    a = N()\n    b = N()\n    a.o = b\n    b.o = a\n    return 0\n";
+
+const HOLDS_ONE: &str =
+    "class N(object):\n    def __init__(self):\n        self.o = None\ndef entry_point(argv):\n    a = N()\n    b = N()\n    a.o = b\n    return 0\n";
+
+const OVERFLOWS: &str =
+    "from rpython.rlib.rarithmetic import ovfcheck\ndef entry_point(argv):\n    try:\n        x = ovfcheck(9223372036854775807 + 1)\n    except OverflowError:\n        print 'ovf'\n        return 1\n    return x\n";
+
+const RAISES: &str =
+    "class Bad(Exception):\n    pass\ndef entry_point(argv):\n    try:\n        raise Bad()\n    finally:\n        print 'end'\n    return 0\n";
+
+// An exception while arguments are owned.
+const DROPS: &str =
+    "def f(a, b, c):\n    return len(a) + len(b) + c\ndef g(n):\n    if n > 0:\n        raise ValueError\n    return n\ndef entry_point(argv):\n    try:\n        return f(str(100), str(200), g(1))\n    except ValueError:\n        print 'caught'\n    return 0\n";
+
+const COVERS: &str =
+    "def f(n):\n    try:\n        return 10 / n\n    except ZeroDivisionError:\n        print 'zero'\n    finally:\n        print 'fin'\n    return -1\ndef entry_point(argv):\n    print f(len(argv)), f(len(argv) - 1)\n    return 0\n";
+
+const LISTS: &str = "def entry_point(argv):\n    print len([1, 2])\n    return 0\n";
 
 const UNTYPED: &str = "def entry_point(argv):\n    return 1 + 'a'\n";
 
 // The status of a call over one file, and what its sinks took.
-fn run_of(alloc: Global, line: &str, source: &str) -> Result<(u8, MemSink, MemSink), NoMem> {
+pub fn run_of(alloc: Global, line: &str, source: &str) -> Result<(u8, MemSink, MemSink), NoMem> {
     let words = words_of(alloc, line)?;
     let mut files = files_of(alloc, "a.py", source.as_bytes())?;
     let mut out = MemSink::new(alloc);
@@ -65,7 +109,23 @@ fn programs_run(rt: HostRuntime) -> Result<(), Fail> {
             "returned 4\n",
         ),
         ("--steps 3 a.py", LOOPS, 12, "1 A False\n", "steps spent\n"),
-        ("a.py", STRINGS, 16, "", "a.py: not yet\n"),
+        ("a.py", GROWS, 0, "ab101112 b10 8\n", "returned 3\n"),
+        ("--steps 37 a.py", GROWS, 12, "", "steps spent\n"),
+        ("a.py", SLICES, 11, "", "failed NegativeSlice\n"),
+        ("a.py", WALKS, 0, "x\n,\n", "returned 0\n"),
+        ("a.py", BOXES, 0, "5\n", "returned 0\n"),
+        ("--steps 7 a.py", METHODS, 0, "1 12 False\n", "returned 0\n"),
+        (
+            "--steps 7 a.py -- q",
+            METHODS,
+            0,
+            "2 8 True\n",
+            "returned 0\n",
+        ),
+        ("a.py", OVERFLOWS, 0, "ovf\n", "returned 1\n"),
+        ("--steps 9 a.py", DROPS, 12, "", "steps spent\n"),
+        ("a.py", COVERS, 0, "fin\nzero\nfin\n10 -1\n", "returned 0\n"),
+        ("a.py", LISTS, 16, "", "a.py: not yet\n"),
         (
             "a.py",
             UNTYPED,
@@ -118,16 +178,80 @@ fn samples_are_summed_up(rt: HostRuntime) -> Result<(), Fail> {
     Ok(())
 }
 
-// Reports follow the ending of a run by the C text; a put of out that fails ends a run.
+// Reports follow the ending of a run by the C text. A block is left only where a ring of references holds it.
 #[test]
-fn runs_report_and_fail(rt: HostRuntime) -> Result<(), Fail> {
+fn runs_report(rt: HostRuntime) -> Result<(), Fail> {
     let alloc = rt.alloc();
-    let (answered, _, err) = run_of(alloc, "run --leaks --tally a.py", CALLS)?;
-    assert_eq!(rt; answered, 0);
-    assert_eq!(rt;
-        err.taken(),
-        b"returned 4\ntally: made 0, gone 0, left 0\nleaks: none\n".as_slice()
-    );
+    for (line, source, status, printed, said) in [
+        (
+            "run --leaks --tally a.py",
+            CALLS,
+            0,
+            "",
+            "returned 4\ntally: made 0, gone 0, left 0\nleaks: none\n",
+        ),
+        (
+            "run --steps 38 --tally a.py",
+            GROWS,
+            0,
+            "ab101112 b10 8\n",
+            "returned 3\ntally: made 7, gone 7, left 0\n",
+        ),
+        (
+            "run --tally a.py",
+            KEEPS,
+            0,
+            "12\n",
+            "returned 0\ntally: made 2, gone 2, left 0\n",
+        ),
+        (
+            "run --tally a.py",
+            CHAINS,
+            0,
+            "1000\n",
+            "returned 0\ntally: made 1000, gone 1000, left 0\n",
+        ),
+        (
+            "run --steps 5 --tally a.py",
+            HOLD_BOTH,
+            0,
+            "",
+            "returned 0\ntally: made 2, gone 0, left 2\n",
+        ),
+        (
+            "run --tally a.py",
+            HOLDS_ONE,
+            0,
+            "",
+            "returned 0\ntally: made 2, gone 2, left 0\n",
+        ),
+        (
+            "run --tally a.py",
+            RAISES,
+            10,
+            "end\n",
+            "raised a.Bad\ntally: made 1, gone 1, left 0\n",
+        ),
+        (
+            "run --steps 10 --tally a.py",
+            DROPS,
+            0,
+            "caught\n",
+            "returned 0\ntally: made 2, gone 2, left 0\n",
+        ),
+    ] {
+        let (answered, out, err) = run_of(alloc, line, source)?;
+        assert_eq!(rt; err.taken(), said.as_bytes(), "{line:?} on {source:?}");
+        assert_eq!(rt; answered, status, "{line:?} on {source:?}");
+        assert_eq!(rt; out.taken(), printed.as_bytes(), "{line:?} on {source:?}");
+    }
+    Ok(())
+}
+
+// A put of out that fails ends a run.
+#[test]
+fn runs_fail(rt: HostRuntime) -> Result<(), Fail> {
+    let alloc = rt.alloc();
     for command in ["run a.py", "llrun a.py"] {
         let words = words_of(alloc, command)?;
         let mut files = files_of(alloc, "a.py", DIVIDES.as_bytes())?;

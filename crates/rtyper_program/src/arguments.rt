@@ -4,7 +4,7 @@ use crate::known::{is_block_reached, is_reached, variable_kind};
 use ann_element::Annotation;
 use flow_graph::{Block, Exit, Graph};
 use rpy_tree::FunId;
-use rtyper_words::Kind;
+use rtyper_layout::Kind;
 
 // Whether a local may have a value of this kind: the arguments stand in the parameter of the entry
 // alone, and nothing else stands there.
@@ -12,7 +12,7 @@ fn may_stand(kind: Kind, is_parameter: bool) -> bool {
     match kind {
         Kind::Count => is_parameter,
         Kind::Never => true,
-        Kind::Word | Kind::Flag | Kind::Byte | Kind::Nothing | Kind::Other => !is_parameter,
+        _ => !is_parameter,
     }
 }
 

@@ -1,35 +1,44 @@
 // The blocks of a graph. They keep their numbers, and variables keep theirs.
-use crate::known::{Known, is_block_reached, variable_kind, variable_kinds};
-use csub_tree::{CBinary, CConst, COperand};
+use crate::exits::{is_exit_known, is_op_known, is_uncaught};
+use crate::handlers::{Extra, on_raise};
+use crate::known::{Known, element_at, is_block_reached};
+use csub_tree::COperand;
 use flow_graph::{Block, Exit, Graph, Link, Op, VarId};
 use ll_code::{LlBlock, LlExit, LlLink, LlOp, LlType};
 use rpy_base::{NoMem, Seq};
-use rtyper_words::{Graphs, Kind, Place, Spare, default_operand, plan_of, push_operation, type_of};
+use rtyper_class::lower_class_op;
+use rtyper_data::{
+    Around, Body, Found, NOTHING, Operand, Place, Test, default_operand, given, truth_of, value_as,
+};
 use std::alloc::Global;
+use std::mem;
 
-/// The graph that is lowered: its number, its result, and three variables that stand behind those of
-/// the graph, two for words and one for a truth value.
+/// The graph that is lowered: its number, and the type of its result.
 #[derive(Clone, Copy)]
 pub struct Lowered<'a> {
     pub known: Known<'a>,
+    pub around: Around<'a>,
     pub number: usize,
     pub graph: &'a Graph,
     pub result: LlType,
-    pub spare: Spare,
-    pub test: VarId,
+}
+
+fn operand_of<'a>(lowered: Lowered<'a>, v: VarId) -> Operand<'a> {
+    Operand {
+        x: COperand::Var(v),
+        element: element_at(lowered.known.annotation, lowered.number, v),
+    }
+}
+
+fn place_of<'a>(lowered: Lowered<'a>, v: VarId) -> Place<'a> {
+    Place {
+        variable: v,
+        element: element_at(lowered.known.annotation, lowered.number, v),
+    }
 }
 
 fn type_at(lowered: Lowered<'_>, v: VarId) -> LlType {
-    type_of(variable_kind(lowered.known.annotation, lowered.number, v))
-}
-
-// The value of a variable for one of this type. A value of another type never comes there.
-fn value_for(lowered: Lowered<'_>, kind: LlType, v: VarId) -> COperand {
-    if type_at(lowered, v) == kind {
-        COperand::Var(v)
-    } else {
-        default_operand(kind)
-    }
+    lowered.around.type_at(place_of(lowered, v))
 }
 
 // The inputs that have a type.
@@ -54,42 +63,87 @@ fn inputs_at<'a>(lowered: Lowered<'a>, to: u64) -> &'a [VarId] {
     }
 }
 
-fn link_of(alloc: Global, lowered: Lowered<'_>, link: &Link) -> Result<LlLink, NoMem> {
+/// The variable of an exit by exceptions, and the one of the low-level graph in which the exception
+/// stands, which is of this type.
+#[derive(Clone, Copy)]
+pub struct Caught {
+    pub variable: VarId,
+    pub exception: VarId,
+    pub kind: LlType,
+}
+
+// The exception that is caught, as a value of this type, where the variable is that of one.
+fn exception_in(
+    alloc: Global,
+    lowered: Lowered<'_>,
+    caught: Option<Caught>,
+    v: VarId,
+    to: LlType,
+    found: &mut Found,
+    body: &mut Body,
+) -> Result<Option<COperand>, NoMem> {
+    match caught {
+        None => Ok(None),
+        Some(caught) => {
+            if caught.variable != v {
+                return Ok(None);
+            }
+            let x = COperand::Var(caught.exception);
+            let layout = lowered.around.layout;
+            Ok(Some(value_as(alloc, layout, x, caught.kind, to, found, body)?))
+        }
+    }
+}
+
+// What stands at a place of a link, as a value of this type.
+fn passed(
+    alloc: Global,
+    lowered: Lowered<'_>,
+    caught: Option<Caught>,
+    v: Option<&VarId>,
+    to: LlType,
+    found: &mut Found,
+    body: &mut Body,
+) -> Result<COperand, NoMem> {
+    let Some(v) = v else {
+        return Ok(default_operand(to));
+    };
+    if let Some(x) = exception_in(alloc, lowered, caught, *v, to, found, body)? {
+        return Ok(x);
+    }
+    let operand = operand_of(lowered, *v);
+    given(alloc, lowered.around, operand, to, found, body)
+}
+
+pub fn link_of(
+    alloc: Global,
+    lowered: Lowered<'_>,
+    link: &Link,
+    caught: Option<Caught>,
+    found: &mut Found,
+    body: &mut Body,
+) -> Result<LlLink, NoMem> {
     let inputs = inputs_at(lowered, link.to);
-    let given = link.args.as_slice();
     let mut args = Seq::new(alloc);
     for i in 0..inputs.len() {
-        let kind = type_at(lowered, inputs[i]);
-        if kind != LlType::Void {
-            args.push(match given.get(i) {
-                None => default_operand(kind),
-                Some(v) => value_for(lowered, kind, *v),
-            })?;
+        let to = type_at(lowered, inputs[i]);
+        if to != LlType::Void {
+            args.push(passed(alloc, lowered, caught, link.args.get(i), to, found, body)?)?;
         }
     }
     Ok(LlLink { to: link.to, args })
 }
 
-// By the truth of a word, which is first asked.
-fn by_word(
-    alloc: Global,
-    lowered: Lowered<'_>,
-    v: VarId,
-    there: &Link,
-    elsewhere: &Link,
-    ops: &mut Seq<LlOp>,
-) -> Result<LlExit, NoMem> {
-    ops.push(LlOp::Binary(
-        lowered.test,
-        CBinary::Ne,
-        COperand::Var(v),
-        COperand::Const(CConst::Word(0)),
-    ))?;
-    Ok(LlExit::If(
-        lowered.test,
-        link_of(alloc, lowered, there)?,
-        link_of(alloc, lowered, elsewhere)?,
-    ))
+// A variable that holds the truth value.
+fn flag_of(x: COperand, body: &mut Body) -> Result<VarId, NoMem> {
+    match x {
+        COperand::Var(v) => Ok(v),
+        COperand::Const(_) => {
+            let v = body.fresh(LlType::Bool)?;
+            body.ops.push(LlOp::Set(v, x))?;
+            Ok(v)
+        }
+    }
 }
 
 fn branch(
@@ -98,26 +152,42 @@ fn branch(
     v: VarId,
     there: &Link,
     elsewhere: &Link,
-    ops: &mut Seq<LlOp>,
+    found: &mut Found,
+    body: &mut Body,
 ) -> Result<LlExit, NoMem> {
-    match variable_kind(lowered.known.annotation, lowered.number, v) {
-        Kind::Flag => Ok(LlExit::If(
-            v,
-            link_of(alloc, lowered, there)?,
-            link_of(alloc, lowered, elsewhere)?,
-        )),
-        Kind::Word | Kind::Count => by_word(alloc, lowered, v, there, elsewhere, ops),
-        Kind::Nothing => Ok(LlExit::Goto(link_of(alloc, lowered, elsewhere)?)),
-        Kind::Byte | Kind::Never | Kind::Other => {
-            Ok(LlExit::Goto(link_of(alloc, lowered, there)?))
+    match truth_of(alloc, operand_of(lowered, v), found, body)? {
+        Test::Known(true) => Ok(LlExit::Goto(link_of(alloc, lowered, there, None, found, body)?)),
+        Test::Known(false) => Ok(LlExit::Goto(link_of(
+            alloc, lowered, elsewhere, None, found, body,
+        )?)),
+        Test::By(x) => {
+            let test = flag_of(x, body)?;
+            Ok(LlExit::If(
+                test,
+                link_of(alloc, lowered, there, None, found, body)?,
+                link_of(alloc, lowered, elsewhere, None, found, body)?,
+            ))
         }
     }
 }
 
-fn give_back(lowered: Lowered<'_>, v: VarId) -> LlExit {
+fn give_back(
+    alloc: Global,
+    lowered: Lowered<'_>,
+    v: VarId,
+    found: &mut Found,
+    body: &mut Body,
+) -> Result<LlExit, NoMem> {
     match lowered.result {
-        LlType::Void => LlExit::Return(None),
-        kind => LlExit::Return(Some(value_for(lowered, kind, v))),
+        LlType::Void => Ok(LlExit::Return(None)),
+        to => Ok(LlExit::Return(Some(given(
+            alloc,
+            lowered.around,
+            operand_of(lowered, v),
+            to,
+            found,
+            body,
+        )?))),
     }
 }
 
@@ -130,69 +200,88 @@ fn exit_of(
     alloc: Global,
     lowered: Lowered<'_>,
     exit: &Exit,
-    ops: &mut Seq<LlOp>,
+    least: usize,
+    found: &mut Found,
+    body: &mut Body,
+    extra: &mut Extra,
 ) -> Result<LlExit, NoMem> {
+    if !is_exit_known(lowered.known.annotation, lowered.number, exit) {
+        found.unknown = true;
+    }
     match exit {
-        Exit::Goto(link) => Ok(LlExit::Goto(link_of(alloc, lowered, link)?)),
-        Exit::If(v, there, elsewhere) => branch(alloc, lowered, *v, there, elsewhere, ops),
-        Exit::OnRaise(_, _, _, link) => Ok(LlExit::Goto(link_of(alloc, lowered, link)?)),
-        Exit::Return(v) => Ok(give_back(lowered, *v)),
-        Exit::Raise(_) => Ok(never()),
+        Exit::Goto(link) => Ok(LlExit::Goto(link_of(alloc, lowered, link, None, found, body)?)),
+        Exit::If(v, there, elsewhere) => {
+            branch(alloc, lowered, *v, there, elsewhere, found, body)
+        }
+        Exit::OnRaise(v, hands, by, without) => {
+            if hands.is_empty() && is_uncaught(lowered.graph, by) {
+                return Ok(LlExit::Goto(link_of(alloc, lowered, without, None, found, body)?));
+            }
+            let hands = hands.as_slice();
+            on_raise(
+                alloc, lowered, *v, hands, by, without, least, found, body, extra,
+            )
+        }
+        Exit::Return(v) => give_back(alloc, lowered, *v, found, body),
+        Exit::Raise(v) => Ok(match type_at(lowered, *v) {
+            // No exception comes here.
+            LlType::Void => never(),
+            _ => LlExit::Raise(*v),
+        }),
     }
 }
 
 fn push_op(
     alloc: Global,
-    graphs: &Graphs<'_>,
     lowered: Lowered<'_>,
     op: &Op,
-    ops: &mut Seq<LlOp>,
+    found: &mut Found,
+    body: &mut Body,
 ) -> Result<(), NoMem> {
-    let annotation = lowered.known.annotation;
-    let kinds = variable_kinds(alloc, annotation, lowered.number, op.args.as_slice())?;
-    let place = Place {
-        variable: op.result,
-        kind: variable_kind(annotation, lowered.number, op.result),
-    };
-    push_operation(
-        alloc,
-        graphs,
-        lowered.spare,
-        plan_of(&op.op, kinds.as_slice()),
-        place,
-        op.args.as_slice(),
-        kinds.as_slice(),
-        ops,
-    )
-}
-
-fn push_ops(
-    alloc: Global,
-    graphs: &Graphs<'_>,
-    lowered: Lowered<'_>,
-    block: &Block,
-    ops: &mut Seq<LlOp>,
-) -> Result<(), NoMem> {
-    for op in block.ops.as_slice() {
-        push_op(alloc, graphs, lowered, op, ops)?;
+    if !is_op_known(lowered.known.annotation, lowered.number, op) {
+        found.unknown = true;
     }
+    let mut args = Vec::new(alloc);
+    for v in op.args.as_slice() {
+        args.push(operand_of(lowered, *v))?;
+    }
+    let place = place_of(lowered, op.result);
+    found.covered = op.covered;
+    lower_class_op(alloc, lowered.around, &op.op, place, &args, found, body)?;
+    found.covered = NOTHING;
     Ok(())
 }
 
-/// A block that is reached, behind these operations.
-pub fn block_of(
+// How many operations stand before those of the last operation of the block.
+fn push_ops(
     alloc: Global,
-    graphs: &Graphs<'_>,
     lowered: Lowered<'_>,
     block: &Block,
-    before: Seq<LlOp>,
+    found: &mut Found,
+    body: &mut Body,
+) -> Result<usize, NoMem> {
+    let mut least = body.ops.len();
+    for op in block.ops.as_slice() {
+        least = body.ops.len();
+        push_op(alloc, lowered, op, found, body)?;
+    }
+    Ok(least)
+}
+
+/// A block that is reached, behind the operations that stand in the body.
+pub fn block_of(
+    alloc: Global,
+    lowered: Lowered<'_>,
+    block: &Block,
+    found: &mut Found,
+    body: &mut Body,
+    extra: &mut Extra,
 ) -> Result<LlBlock, NoMem> {
-    let mut ops = before;
-    push_ops(alloc, graphs, lowered, block, &mut ops)?;
-    let exit = exit_of(alloc, lowered, &block.exit, &mut ops)?;
+    let least = push_ops(alloc, lowered, block, found, body)?;
+    let exit = exit_of(alloc, lowered, &block.exit, least, found, body, extra)?;
     Ok(LlBlock {
         inputs: inputs_of(alloc, lowered, block.inputs.as_slice())?,
-        ops,
+        ops: mem::replace(&mut body.ops, Seq::new(alloc)),
         exit,
     })
 }

@@ -1,54 +1,77 @@
 // The graph of a function.
 use crate::blocks::{Lowered, block_of, dead_block};
+use crate::handlers::Extra;
 use crate::known::{Known, is_block_reached};
+use crate::raising::turned_blocks;
 use ann_element::Element;
 use csub_tree::{CConst, COperand};
 use flow_graph::{Graph, VarId};
 use ll_code::{LlBlock, LlGraph, LlOp, LlType};
 use rpy_base::{NoMem, Seq, Text};
-use rtyper_words::{Graphs, Kind, Spare, kind_of, type_of};
+use rtyper_data::{Around, Body, Found};
+use rtyper_layout::{repr, repr_seen};
 use std::alloc::Global;
 
-// The types of the variables, and of those that stand behind them.
-fn types_of(alloc: Global, elements: &[Element]) -> Result<Seq<LlType>, NoMem> {
+fn types_of(alloc: Global, around: Around<'_>, elements: &[Element]) -> Result<Seq<LlType>, NoMem> {
     let mut types = Seq::new(alloc);
     for element in elements {
-        types.push(type_of(kind_of(element)))?;
+        types.push(repr(around.layout, element))?;
     }
-    types.push(LlType::Signed)?;
-    types.push(LlType::Signed)?;
-    types.push(LlType::Bool)?;
     Ok(types)
 }
 
-fn first_variables(alloc: Global, count: usize) -> Result<Seq<VarId>, NoMem> {
+// The parameters that have a type. They are the first variables.
+fn params_of(alloc: Global, around: Around<'_>, function: usize) -> Result<Seq<VarId>, NoMem> {
     let mut variables = Seq::new(alloc);
-    for i in 0..count {
-        variables.push(i as u64)?;
+    let Some(params) = around.params.get(function) else {
+        return Ok(variables);
+    };
+    for i in 0..params.len() {
+        if repr_seen(around.layout, params.get(i)) != LlType::Void {
+            variables.push(i as u64)?;
+        }
     }
     Ok(variables)
 }
 
 // A function's first block pays for its call.
-fn before(alloc: Global, i: usize) -> Result<Seq<LlOp>, NoMem> {
-    let mut ops = Seq::new(alloc);
+fn push_entry_cost(i: usize, body: &mut Body) -> Result<(), NoMem> {
     if i == 0 {
-        ops.push(LlOp::Step(COperand::Const(CConst::Word(1))))?;
+        body.ops.push(LlOp::Step(COperand::Const(CConst::Word(1))))?;
     }
-    Ok(ops)
+    Ok(())
 }
 
-fn blocks(alloc: Global, graphs: &Graphs<'_>, lowered: Lowered<'_>) -> Result<Seq<LlBlock>, NoMem> {
+// The blocks that were made on the way follow.
+fn push_extra(alloc: Global, extra: Extra, into: &mut Seq<LlBlock>) -> Result<(), NoMem> {
+    let mut blocks = turned_blocks(alloc, extra.blocks)?;
+    for _ in 0..usize::MAX {
+        match blocks.pop() {
+            None => return Ok(()),
+            Some(block) => into.push(block)?,
+        }
+    }
+    Ok(())
+}
+
+fn blocks(
+    alloc: Global,
+    lowered: Lowered<'_>,
+    found: &mut Found,
+    body: &mut Body,
+) -> Result<Seq<LlBlock>, NoMem> {
     let given = lowered.graph.blocks.as_slice();
     let mut made = Seq::new(alloc);
+    let mut extra = Extra::behind(alloc, given.len());
     for i in 0..given.len() {
         if is_block_reached(lowered.known.annotation, lowered.number, i) {
-            let ops = before(alloc, i)?;
-            made.push(block_of(alloc, graphs, lowered, &given[i], ops)?)?;
+            push_entry_cost(i, body)?;
+            made.push(block_of(alloc, lowered, &given[i], found, body, &mut extra)?)?;
         } else {
             made.push(dead_block(alloc))?;
         }
     }
+    push_extra(alloc, extra, &mut made)?;
     Ok(made)
 }
 
@@ -66,57 +89,32 @@ fn name_of(alloc: Global, known: Known<'_>, function: usize) -> Result<Text, NoM
     }
 }
 
-fn params_of(graphs: &Graphs<'_>, function: usize) -> usize {
-    match graphs.params.get(function) {
-        None => 0,
-        Some(kinds) => kinds.len(),
-    }
-}
-
-fn result_of(graphs: &Graphs<'_>, function: usize) -> LlType {
-    match graphs.results.get(function) {
-        None => LlType::Void,
-        Some(kind) => type_of(*kind),
-    }
-}
-
-// A variable behind the others. A graph with more variables than a u64 counts does not fit in memory.
-fn behind(count: u64, more: u64) -> Result<VarId, NoMem> {
-    match count.checked_add(more) {
-        None => Err(NoMem),
-        Some(v) => Ok(v),
-    }
-}
-
 /// The low-level graph of a flow graph, which has the name of its function.
 pub fn graph_of(
     alloc: Global,
-    graphs: &Graphs<'_>,
     known: Known<'_>,
+    around: Around<'_>,
     number: usize,
     graph: &Graph,
+    found: &mut Found,
 ) -> Result<LlGraph, NoMem> {
     let function = graph.function as usize;
-    let elements = elements_of(known, number);
-    let count = elements.len() as u64;
-    let spare = Spare {
-        first: count,
-        second: behind(count, 1)?,
-    };
-    let gives = result_of(graphs, function);
+    let result = repr_seen(around.layout, around.results.get(function));
     let lowered = Lowered {
         known,
+        around,
         number,
         graph,
-        result: gives,
-        spare,
-        test: behind(count, 2)?,
+        result,
     };
+    let mut body = Body::new(alloc);
+    body.types = types_of(alloc, around, elements_of(known, number))?;
+    let made = blocks(alloc, lowered, found, &mut body)?;
     Ok(LlGraph {
         name: name_of(alloc, known, function)?,
-        params: first_variables(alloc, params_of(graphs, function))?,
-        result: gives,
-        types: types_of(alloc, elements)?,
-        blocks: blocks(alloc, graphs, lowered)?,
+        params: params_of(alloc, around, function)?,
+        result,
+        types: body.types,
+        blocks: made,
     })
 }

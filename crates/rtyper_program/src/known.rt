@@ -1,12 +1,9 @@
-// What is known of a program: its graphs, and the kinds of what they work on.
+// What is known of a program: its graphs, and the elements of what they work on.
 use ann_element::{Annotation, Element};
 use flow_graph::{Graph, Graphs, VarId};
-use ll_helpers::Need;
-use rpy_base::{NoMem, Seq};
 use rpy_resolved::Resolved;
 use rpy_tree::FunId;
-use rtyper_words::{Kind, kind_of, kinds_of};
-use std::alloc::Global;
+use rtyper_layout::{Kind, kind_seen};
 
 /// The functions, their graphs and their annotation.
 #[derive(Clone, Copy)]
@@ -14,16 +11,6 @@ pub struct Known<'a> {
     pub program: &'a Resolved,
     pub graphs: &'a [Graph],
     pub annotation: &'a Annotation,
-}
-
-/// For each function its graph's number, the kinds of its parameters, and of its result; and what
-/// helpers are needed.
-#[derive(Drop)]
-pub struct Numbers {
-    pub needs: Seq<Need>,
-    pub numbers: Seq<u64>,
-    pub params: Seq<Seq<Kind>>,
-    pub results: Seq<Kind>,
 }
 
 /// Whether a function is reached.
@@ -45,38 +32,17 @@ pub fn is_block_reached(annotation: &Annotation, graph: usize, block: usize) -> 
     }
 }
 
+/// The element of a variable of a graph.
+pub fn element_at(annotation: &Annotation, graph: usize, v: VarId) -> Option<&Element> {
+    match annotation.vars.get(graph) {
+        None => None,
+        Some(vars) => vars.get(v as usize),
+    }
+}
+
 /// The kind of a variable of a graph.
 pub fn variable_kind(annotation: &Annotation, graph: usize, v: VarId) -> Kind {
-    match annotation.vars.get(graph) {
-        None => Kind::Never,
-        Some(vars) => match vars.get(v as usize) {
-            None => Kind::Never,
-            Some(element) => kind_of(element),
-        },
-    }
-}
-
-/// The kinds of variables of a graph, in order.
-pub fn variable_kinds(
-    alloc: Global,
-    annotation: &Annotation,
-    graph: usize,
-    variables: &[VarId],
-) -> Result<Seq<Kind>, NoMem> {
-    let mut kinds = Seq::new(alloc);
-    for v in variables {
-        kinds.push(variable_kind(annotation, graph, *v))?;
-    }
-    Ok(kinds)
-}
-
-/// The kinds of the parameters of each function.
-pub fn param_kinds(alloc: Global, params: &[Seq<Element>]) -> Result<Seq<Seq<Kind>>, NoMem> {
-    let mut kinds = Seq::new(alloc);
-    for elements in params {
-        kinds.push(kinds_of(alloc, elements.as_slice())?)?;
-    }
-    Ok(kinds)
+    kind_seen(element_at(annotation, graph, v))
 }
 
 impl<'a> Known<'a> {

@@ -1,18 +1,18 @@
-//! Flow graphs and their annotation to low-level programs, for programs of words, truth values and
-//! bytes.
+//! Flow graphs and their annotation to low-level programs.
 #![tactic(auto)]
 
 mod arguments;
 mod blocks;
 mod entry;
+mod exits;
 mod graph;
+mod handlers;
 mod known;
-mod needs;
+mod live;
+mod raising;
 mod whole;
-mod words;
 
-pub use whole::rtype_words;
-pub use words::is_words;
+pub use whole::rtype;
 
 #[cfg(test)]
 mod tests;

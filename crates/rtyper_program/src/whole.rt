@@ -1,14 +1,19 @@
 // Whole programs.
+use crate::arguments::are_arguments_in_place;
 use crate::entry::entry_graph;
 use crate::graph::graph_of;
-use crate::known::{Known, Numbers, is_reached, param_kinds};
-use crate::needs::needs_of;
+use crate::known::{Known, is_reached};
+use crate::raising::{raises, raising_graphs};
 use ann_element::Annotation;
+use class_desc::Classes;
 use ll_code::{LlGraph, LlProgram};
-use ll_helpers::helpers;
+use ll_helpers::{Need, helpers};
 use rpy_base::{NoMem, Seq};
+use rpy_meaning::Covers;
 use rpy_resolved::Resolved;
-use rtyper_words::{Graphs, Kind, kinds_of};
+use rtyper_class::{class_graph, push_exceptions, push_vtables};
+use rtyper_data::{Around, Found};
+use rtyper_layout::{Layout, repr_seen};
 use std::alloc::Global;
 
 // For each function the number of its graph, behind so many graphs of helpers; where it is not
@@ -19,83 +24,159 @@ fn numbers_of(alloc: Global, known: Known<'_>, first: u64) -> Result<Seq<u64>, N
     for graph in known.graphs {
         numbers.push(next)?;
         if is_reached(known.annotation, graph.function) {
-            next = match next.checked_add(1) {
-                None => return Err(NoMem),
-                Some(after) => after,
-            };
+            next = next.saturating_add(1);
         }
     }
     Ok(numbers)
 }
 
+// How many functions are reached.
+fn count_reached(known: Known<'_>) -> u64 {
+    let mut count: u64 = 0;
+    for graph in known.graphs {
+        if is_reached(known.annotation, graph.function) {
+            count = count.saturating_add(1);
+        }
+    }
+    count
+}
+
 // The graphs of the functions that are reached.
-fn push_graphs(
+fn push_functions(
     alloc: Global,
     known: Known<'_>,
-    numbers: &Numbers,
+    around: Around<'_>,
+    found: &mut Found,
     into: &mut Seq<LlGraph>,
 ) -> Result<(), NoMem> {
-    let graphs = Graphs {
-        needs: numbers.needs.as_slice(),
-        numbers: numbers.numbers.as_slice(),
-        params: numbers.params.as_slice(),
-        results: numbers.results.as_slice(),
-        functions: known.program.functions.as_slice(),
-    };
     for i in 0..known.graphs.len() {
         let graph = &known.graphs[i];
         if is_reached(known.annotation, graph.function) {
-            into.push(graph_of(alloc, &graphs, known, i, graph)?)?;
+            into.push(graph_of(alloc, known, around, i, graph, found)?)?;
         }
     }
     Ok(())
 }
 
-fn entry_of(alloc: Global, known: Known<'_>, numbers: &Numbers) -> Result<LlGraph, NoMem> {
-    let entry = known.program.entry as usize;
-    let number = match numbers.numbers.get(entry) {
-        None => 0,
-        Some(number) => *number,
-    };
-    let gives = match numbers.results.get(entry) {
-        None => Kind::Never,
-        Some(kind) => *kind,
-    };
-    entry_graph(alloc, number, gives)
+// The small graphs that are asked for, those that these ask for among them.
+fn push_smalls(
+    alloc: Global,
+    around: Around<'_>,
+    found: &mut Found,
+    into: &mut Seq<LlGraph>,
+) -> Result<(), NoMem> {
+    for i in 0..usize::MAX {
+        let small = match found.smalls.get(i) {
+            None => return Ok(()),
+            Some(small) => *small,
+        };
+        into.push(class_graph(alloc, around, small, found)?)?;
+    }
+    Ok(())
 }
 
-/// A program of words, truth values and bytes as a low-level program of the stage `Raw`: the
-/// helpers, the functions that are reached, each under its name, and the entry. The graphs are the
-/// flow graphs of the program's functions in their order, and the annotation is theirs.
-pub fn rtype_words(
+fn around_of<'a>(
+    known: Known<'a>,
+    classes: &'a Classes,
+    layout: &'a Layout,
+    numbers: &'a [u64],
+    first_vtable: u64,
+) -> Around<'a> {
+    let vtables = layout.order.len() as u64;
+    Around {
+        layout,
+        numbers,
+        params: known.annotation.params.as_slice(),
+        results: known.annotation.results.as_slice(),
+        functions: known.program.functions.as_slice(),
+        classes,
+        made: known.annotation.made.as_slice(),
+        attributes: known.annotation.attributes.as_slice(),
+        first_vtable,
+        first_exception: first_vtable.saturating_add(vtables),
+    }
+}
+
+// What the program asks for. The graphs that are written on the way have numbers that mean nothing.
+fn found_in(
+    alloc: Global,
+    known: Known<'_>,
+    classes: &Classes,
+    layout: &Layout,
+) -> Result<Found, NoMem> {
+    let mut found = Found::new(alloc);
+    let numbers = numbers_of(alloc, known, 0)?;
+    let around = around_of(known, classes, layout, numbers.as_slice(), 0);
+    let mut written = Seq::new(alloc);
+    push_functions(alloc, known, around, &mut found, &mut written)?;
+    push_smalls(alloc, around, &mut found, &mut written)?;
+    Ok(found)
+}
+
+// The graphs of a program behind those of its helpers, with its statics behind theirs.
+fn program_of(
+    alloc: Global,
+    known: Known<'_>,
+    classes: &Classes,
+    layout: &Layout,
+    needs: Seq<Need>,
+    caught: Seq<Covers>,
+) -> Result<LlProgram, NoMem> {
+    let LlProgram {
+        stage,
+        structs,
+        statics: mut given,
+        graphs: plain,
+        entry: _,
+    } = helpers(alloc, layout.structs.as_slice(), needs.as_slice())?;
+    let first = plain.len() as u64;
+    let numbers = numbers_of(alloc, known, first)?;
+    let first_small = first.saturating_add(count_reached(known));
+    let around = around_of(
+        known,
+        classes,
+        layout,
+        numbers.as_slice(),
+        given.len() as u64,
+    );
+    let reached = known.annotation.reached.as_slice();
+    push_vtables(alloc, around, known.program, reached, &mut given)?;
+    push_exceptions(alloc, around, &mut given)?;
+    let mut found = Found::again(alloc, needs, caught, given, first_small);
+    let mut made = raising_graphs(alloc, plain, &mut found)?;
+    push_functions(alloc, known, around, &mut found, &mut made)?;
+    push_smalls(alloc, around, &mut found, &mut made)?;
+    let entry = made.len() as u64;
+    made.push(entry_graph(alloc, known, around)?)?;
+    Ok(LlProgram {
+        stage,
+        structs,
+        statics: found.statics,
+        graphs: made,
+        entry,
+    })
+}
+
+/// A program as a low-level program of the stage `Raw`: the helpers, the functions that are reached,
+/// each under its name, small graphs, and the entry. The graphs are the flow graphs of the program's
+/// functions in their order, and classes and annotation are theirs. `None` where something has no
+/// lowering.
+pub fn rtype(
     alloc: Global,
     program: &Resolved,
     graphs: &flow_graph::Graphs,
     annotation: &Annotation,
-) -> Result<LlProgram, NoMem> {
+    classes: &Classes,
+) -> Result<Option<LlProgram>, NoMem> {
     let known = Known::new(program, graphs, annotation);
-    let needs = needs_of(alloc, known)?;
-    let LlProgram {
-        stage,
-        structs,
-        statics,
-        graphs: mut made,
-        entry: _,
-    } = helpers(alloc, &[], needs.as_slice())?;
-    let numbers = Numbers {
-        needs,
-        numbers: numbers_of(alloc, known, made.len() as u64)?,
-        params: param_kinds(alloc, annotation.params.as_slice())?,
-        results: kinds_of(alloc, annotation.results.as_slice())?,
-    };
-    push_graphs(alloc, known, &numbers, &mut made)?;
-    let entry = made.len() as u64;
-    made.push(entry_of(alloc, known, &numbers)?)?;
-    Ok(LlProgram {
-        stage,
-        structs,
-        statics,
-        graphs: made,
-        entry,
-    })
+    if !are_arguments_in_place(annotation, known.graphs, program.entry) {
+        return Ok(None);
+    }
+    let layout = Layout::new(alloc, program, classes, annotation, raises(known))?;
+    let found = found_in(alloc, known, classes, &layout)?;
+    if found.unknown {
+        return Ok(None);
+    }
+    let typed = program_of(alloc, known, classes, &layout, found.needs, found.caught)?;
+    Ok(Some(typed))
 }

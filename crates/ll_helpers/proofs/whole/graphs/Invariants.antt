@@ -1,6 +1,0 @@
-use Rattle.std.proofs.Common.{◌≡◌, ◌++◌, drop, map}
-use Rattle.ll_helpers.specs.Helpers.{helper_graph}
-use Rattle.ll_helpers.proofs.whole.graphs.Given as goal
-
-abbrev pub invariant-loop-need : goal.invariant-loop-need
-invariant-loop-need l = l.made ++ map (helper_graph l.digits) (drop l.need-index l.needs) ≡ map (helper_graph l.digits) l.needs

@@ -1,0 +1,73 @@
+// The exception slots. Each owns a reference, where what it leads to is counted.
+use crate::plan::{add, is_reference};
+use ll_code::{LlBlock, LlGraph, LlOp, LlType, VarId};
+use rpy_base::NoMem;
+
+/// The structs that the first and the second slot refer to, where these are counted, and the number of
+/// the graph that empties the slots.
+#[derive(Clone, Copy)]
+pub struct Slots {
+    pub kind: Option<u64>,
+    pub value: Option<u64>,
+    pub clear: u64,
+}
+
+fn set_by_ops(ops: &[LlOp]) -> Option<(VarId, VarId)> {
+    for op in ops {
+        if let LlOp::ExcSet(a, b) = op {
+            return Some((*a, *b));
+        }
+    }
+    None
+}
+
+fn set_by_blocks(blocks: &[LlBlock]) -> Option<(VarId, VarId)> {
+    for block in blocks {
+        let found = set_by_ops(block.ops.as_slice());
+        if found.is_some() {
+            return found;
+        }
+    }
+    None
+}
+
+// What a variable refers to.
+fn referred_by(counted: &[bool], types: &[LlType], v: VarId) -> Option<u64> {
+    match types.get(v as usize) {
+        Some(LlType::Ptr(n)) if is_reference(counted, LlType::Ptr(*n)) => Some(*n),
+        _ => None,
+    }
+}
+
+/// The slots of a program. All exceptions have one root struct, so that the first one tells it.
+pub fn slots_of(counted: &[bool], graphs: &[LlGraph], clear: u64) -> Slots {
+    for graph in graphs {
+        if let Some((a, b)) = set_by_blocks(graph.blocks.as_slice()) {
+            let types = graph.types.as_slice();
+            return Slots {
+                kind: referred_by(counted, types, a),
+                value: referred_by(counted, types, b),
+                clear,
+            };
+        }
+    }
+    Slots {
+        kind: None,
+        value: None,
+        clear,
+    }
+}
+
+/// Whether some slot owns a reference. The slots are emptied by a graph then.
+pub fn own_some(slots: Slots) -> bool {
+    slots.kind.is_some() || slots.value.is_some()
+}
+
+/// The number of the first graph behind that one, if there is one.
+pub fn behind(slots: Slots) -> Result<u64, NoMem> {
+    if own_some(slots) {
+        add(slots.clear, 1)
+    } else {
+        Ok(slots.clear)
+    }
+}

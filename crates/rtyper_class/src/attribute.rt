@@ -1,0 +1,113 @@
+// Attributes.
+use crate::instance::fields_of;
+use ann_element::Element;
+use csub_tree::COperand;
+use ll_code::{LlOp, LlType};
+use rpy_base::{NoMem, Text};
+use rpy_tree::ClassId;
+use rtyper_data::{
+    Around, Body, Found, Operand, Place, Small, by_small, flag, give, given, push_failure,
+    variable_of,
+};
+use rtyper_layout::{attribute_place, repr};
+use std::alloc::Global;
+
+// Where an attribute stands: the struct that declares it, its place there, and its element.
+#[derive(Clone, Copy)]
+struct Standing<'a> {
+    own: u64,
+    place: u64,
+    element: &'a Element,
+}
+
+fn place_in<'a>(around: Around<'a>, class: ClassId, name: &Text) -> Option<Standing<'a>> {
+    let home = around.classes.home(class, name)?;
+    let laid = around.layout.laid(home)?;
+    let (place, element) = attribute_place(around.attributes, home, name.bytes())?;
+    Some(Standing {
+        own: laid.own,
+        place,
+        element,
+    })
+}
+
+/// The instance itself, where it may be `None`, as which it fails.
+pub fn present(
+    alloc: Global,
+    around: Around<'_>,
+    a: Operand<'_>,
+    or_none: bool,
+    found: &mut Found,
+    body: &mut Body,
+) -> Result<COperand, NoMem> {
+    let kind = around.type_of(a);
+    if or_none {
+        by_small(
+            alloc,
+            Small::Present(kind, found.covered.attribute),
+            kind,
+            [a.x],
+            found,
+            body,
+        )
+    } else {
+        Ok(a.x)
+    }
+}
+
+/// Reads an attribute of an instance of the class, or `None`.
+pub fn push_read(
+    alloc: Global,
+    around: Around<'_>,
+    place: Place<'_>,
+    name: &Text,
+    a: Operand<'_>,
+    class: ClassId,
+    or_none: bool,
+    found: &mut Found,
+    body: &mut Body,
+) -> Result<(), NoMem> {
+    let x = present(alloc, around, a, or_none, found, body)?;
+    let Some(at) = place_in(around, class, name) else {
+        found.unknown = true;
+        return Ok(());
+    };
+    match repr(around.layout, at.element) {
+        // Nothing ever sets it.
+        LlType::Void => push_failure(alloc, around, place, found, body),
+        kind => {
+            let small = Small::Attribute(at.own, at.place, found.covered.attribute);
+            let value = by_small(alloc, small, kind, [x], found, body)?;
+            give(alloc, around, place, value, kind, found, body)
+        }
+    }
+}
+
+/// Sets an attribute. The result is the value.
+pub fn push_store(
+    alloc: Global,
+    around: Around<'_>,
+    place: Place<'_>,
+    name: &Text,
+    a: Operand<'_>,
+    b: Operand<'_>,
+    class: ClassId,
+    or_none: bool,
+    found: &mut Found,
+    body: &mut Body,
+) -> Result<(), NoMem> {
+    let x = present(alloc, around, a, or_none, found, body)?;
+    let Some(at) = place_in(around, class, name) else {
+        found.unknown = true;
+        return Ok(());
+    };
+    let to = repr(around.layout, at.element);
+    let value = given(alloc, around, b, to, found, body)?;
+    let instance = variable_of(x, around.type_of(a), body)?;
+    let (first, second) = fields_of(at.place);
+    body.ops
+        .push(LlOp::SetField(at.own, instance, first, value))?;
+    body.ops
+        .push(LlOp::SetField(at.own, instance, second, flag(true)))?;
+    give(alloc, around, place, b.x, around.type_of(b), found, body)
+}

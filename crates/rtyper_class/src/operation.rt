@@ -1,0 +1,212 @@
+// The lowering of operations on instances and function values.
+use crate::attribute::{push_read, push_store};
+use crate::call::{push_call_value, push_method, push_new, push_raise};
+use ann_element::Element;
+use ll_code::LlType;
+use rpy_base::{NoMem, Text};
+use rpy_meaning::RowOp;
+use rpy_tree::{ClassId, FunId};
+use rtyper_data::{
+    Around, Body, Found, Operand, Place, Small, by_small, give, lower_op, push_call, push_failure,
+};
+use std::alloc::Global;
+
+// The class of an instance, and whether it may be `None`.
+fn instance_of(operand: Operand<'_>) -> Option<(ClassId, bool)> {
+    match operand.element {
+        Some(Element::Instance(class, or_none)) => Some((*class, *or_none)),
+        _ => None,
+    }
+}
+
+// The functions of a function value, and whether it may be `None`.
+fn functions_of<'a>(operand: Operand<'a>) -> Option<(&'a [FunId], bool)> {
+    match operand.element {
+        Some(Element::Func(functions, or_none)) => Some((functions.as_slice(), *or_none)),
+        _ => None,
+    }
+}
+
+fn is_none(operand: Operand<'_>) -> bool {
+    match operand.element {
+        Some(Element::NoneOnly) => true,
+        _ => false,
+    }
+}
+
+fn is_never(args: &[Operand<'_>]) -> bool {
+    for operand in args {
+        match operand.element {
+            None | Some(Element::Unreached) => return true,
+            _ => {}
+        }
+    }
+    false
+}
+
+fn push_is_instance(
+    alloc: Global,
+    around: Around<'_>,
+    place: Place<'_>,
+    of: ClassId,
+    a: Operand<'_>,
+    class: ClassId,
+    found: &mut Found,
+    body: &mut Body,
+) -> Result<(), NoMem> {
+    let Some(laid) = around.layout.laid(class) else {
+        found.unknown = true;
+        return Ok(());
+    };
+    let (low, high) = around.classes.range(of);
+    let small = Small::IsInstance(laid.root, laid.vtable, low, high);
+    let x = by_small(alloc, small, LlType::Bool, [a.x], found, body)?;
+    give(alloc, around, place, x, LlType::Bool, found, body)
+}
+
+fn push_attribute(
+    alloc: Global,
+    around: Around<'_>,
+    place: Place<'_>,
+    name: &Text,
+    a: Operand<'_>,
+    found: &mut Found,
+    body: &mut Body,
+) -> Result<(), NoMem> {
+    match instance_of(a) {
+        Some((class, or_none)) => {
+            push_read(alloc, around, place, name, a, class, or_none, found, body)
+        }
+        None => {
+            if !is_none(a) {
+                found.unknown = true;
+            }
+            push_failure(alloc, around, place, found, body)
+        }
+    }
+}
+
+fn push_set_attribute(
+    alloc: Global,
+    around: Around<'_>,
+    place: Place<'_>,
+    name: &Text,
+    a: Operand<'_>,
+    b: Operand<'_>,
+    found: &mut Found,
+    body: &mut Body,
+) -> Result<(), NoMem> {
+    match instance_of(a) {
+        Some((class, or_none)) => {
+            push_store(
+                alloc, around, place, name, a, b, class, or_none, found, body,
+            )
+        }
+        None => {
+            if !is_none(a) {
+                found.unknown = true;
+            }
+            push_failure(alloc, around, place, found, body)
+        }
+    }
+}
+
+fn push_value_call(
+    alloc: Global,
+    around: Around<'_>,
+    place: Place<'_>,
+    args: &[Operand<'_>],
+    found: &mut Found,
+    body: &mut Body,
+) -> Result<(), NoMem> {
+    let [a, rest @ ..] = args else {
+        return Ok(());
+    };
+    match functions_of(*a) {
+        Some((functions, or_none)) => {
+            push_call_value(
+                alloc, around, place, *a, functions, or_none, rest, found, body,
+            )
+        }
+        None => {
+            if !is_none(*a) {
+                found.unknown = true;
+            }
+            push_failure(alloc, around, place, found, body)
+        }
+    }
+}
+
+fn push_method_of(
+    alloc: Global,
+    around: Around<'_>,
+    place: Place<'_>,
+    op: &RowOp,
+    name: &Text,
+    args: &[Operand<'_>],
+    found: &mut Found,
+    body: &mut Body,
+) -> Result<(), NoMem> {
+    if let [a, ..] = args {
+        if let Some((class, or_none)) = instance_of(*a) {
+            return push_method(
+                alloc, around, place, name, class, or_none, args, found, body,
+            );
+        }
+    }
+    lower_op(alloc, around, op, place, args, found, body)
+}
+
+fn push_one(
+    alloc: Global,
+    around: Around<'_>,
+    op: &RowOp,
+    place: Place<'_>,
+    args: &[Operand<'_>],
+    found: &mut Found,
+    body: &mut Body,
+) -> Result<(), NoMem> {
+    match (op, args) {
+        (RowOp::Attr(name), [a]) => push_attribute(alloc, around, place, name, *a, found, body),
+        (RowOp::StoreAttr(name), [a, b]) => {
+            push_set_attribute(alloc, around, place, name, *a, *b, found, body)
+        }
+        (RowOp::IsInstance(of), [a]) => match instance_of(*a) {
+            Some((class, _)) => {
+                push_is_instance(alloc, around, place, *of, *a, class, found, body)
+            }
+            None => lower_op(alloc, around, op, place, args, found, body),
+        },
+        (RowOp::Raise, [a]) => match instance_of(*a) {
+            Some((_, or_none)) => push_raise(alloc, around, place, *a, or_none, found, body),
+            None => push_failure(alloc, around, place, found, body),
+        },
+        _ => lower_op(alloc, around, op, place, args, found, body),
+    }
+}
+
+/// The low-level operations of an operation. What has no lowering is noted.
+pub fn lower_class_op(
+    alloc: Global,
+    around: Around<'_>,
+    op: &RowOp,
+    place: Place<'_>,
+    args: &[Operand<'_>],
+    found: &mut Found,
+    body: &mut Body,
+) -> Result<(), NoMem> {
+    if is_never(args) {
+        return lower_op(alloc, around, op, place, args, found, body);
+    }
+    match op {
+        RowOp::New(class) => push_new(alloc, around, place, *class, args, found, body),
+        RowOp::CallOf(_, function) => {
+            push_call(alloc, around, place, *function, args, found, body)
+        }
+        RowOp::CallValue => push_value_call(alloc, around, place, args, found, body),
+        RowOp::Method(name, _) => {
+            push_method_of(alloc, around, place, op, name, args, found, body)
+        }
+        _ => push_one(alloc, around, op, place, args, found, body),
+    }
+}

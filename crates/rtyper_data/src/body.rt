@@ -1,0 +1,89 @@
+// What is written, and what is known around it.
+use ann_element::Element;
+use class_desc::Classes;
+use csub_tree::COperand;
+use ll_code::{LlOp, LlType, VarId};
+use rpy_base::{NoMem, Seq, Text};
+use rpy_resolved::Function;
+use rpy_tree::ClassId;
+use rtyper_layout::{Layout, repr_seen};
+use std::alloc::Global;
+
+/// The variables of a graph, by their types, and the operations of the block that is being written.
+#[derive(Drop)]
+pub struct Body {
+    pub types: Seq<LlType>,
+    pub ops: Seq<LlOp>,
+}
+
+/// An operand, and what is known of its value.
+#[derive(Clone, Copy)]
+pub struct Operand<'a> {
+    pub x: COperand,
+    pub element: Option<&'a Element>,
+}
+
+/// The variable that takes a result, and what is known of its value.
+#[derive(Clone, Copy)]
+pub struct Place<'a> {
+    pub variable: VarId,
+    pub element: Option<&'a Element>,
+}
+
+/// The types of values; for each function the number of its graph, the elements of its parameters
+/// and of its result, and the function itself, whose constants stand in for arguments; the classes, of
+/// which these have instances, with the elements of attributes; and the numbers of
+/// the first vtable and of the first instance of a builtin exception class.
+#[derive(Clone, Copy)]
+pub struct Around<'a> {
+    pub layout: &'a Layout,
+    pub numbers: &'a [u64],
+    pub params: &'a [Seq<Element>],
+    pub results: &'a [Element],
+    pub functions: &'a [Function],
+    pub classes: &'a Classes,
+    pub made: &'a [bool],
+    pub attributes: &'a [(ClassId, Text, Element)],
+    pub first_vtable: u64,
+    pub first_exception: u64,
+}
+
+impl<'a> Around<'a> {
+    /// The type of the values of an operand.
+    pub fn type_of(self, operand: Operand<'_>) -> LlType {
+        repr_seen(self.layout, operand.element)
+    }
+
+    /// The type of the values of a place.
+    pub fn type_at(self, place: Place<'_>) -> LlType {
+        repr_seen(self.layout, place.element)
+    }
+}
+
+impl Body {
+    /// No variables and no operations.
+    pub fn new(alloc: Global) -> Body {
+        Body {
+            types: Seq::new(alloc),
+            ops: Seq::new(alloc),
+        }
+    }
+
+    /// One more variable of this type.
+    pub fn fresh(&mut self, kind: LlType) -> Result<VarId, NoMem> {
+        let variable = self.types.len() as u64;
+        self.types.push(kind)?;
+        Ok(variable)
+    }
+}
+
+/// An operand of a list; where there is none, a word that is never read.
+pub fn operand_at<'a>(args: &[Operand<'a>], i: usize) -> Operand<'a> {
+    match args.get(i) {
+        None => Operand {
+            x: COperand::Const(csub_tree::CConst::Word(0)),
+            element: None,
+        },
+        Some(operand) => *operand,
+    }
+}

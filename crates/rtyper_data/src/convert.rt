@@ -1,0 +1,185 @@
+// Values of one type as values of another. A string of length one has a type of its own, `None` is a
+// truth value where nothing else stands, and tuples have a struct for each shape.
+use crate::body::{Around, Body, Place};
+use crate::found::{Found, helper_number, small_number};
+use crate::small::Small;
+use csub_tree::{CConst, COperand};
+use ll_code::{LlOp, LlType, VarId};
+use ll_helpers::Helper;
+use rpy_base::{NoMem, Seq};
+use rtyper_layout::Layout;
+use std::alloc::Global;
+
+/// A value of a type, where none is asked.
+pub fn default_operand(kind: LlType) -> COperand {
+    COperand::Const(match kind {
+        LlType::Signed | LlType::Void => CConst::Word(0),
+        LlType::Char => CConst::Char(0),
+        LlType::Bool => CConst::Bool(false),
+        LlType::Fn | LlType::Ptr(_) => CConst::Null,
+    })
+}
+
+/// A list of operands.
+pub fn operands<const N: usize>(
+    alloc: Global,
+    items: [COperand; N],
+) -> Result<Seq<COperand>, NoMem> {
+    let items = Vec::from_array(alloc, items)?;
+    Ok(Seq::from_vec(items))
+}
+
+// ---- calls
+
+/// What a helper gives for these operands.
+pub fn helped<const N: usize>(
+    alloc: Global,
+    helper: Helper,
+    gives: LlType,
+    xs: [COperand; N],
+    found: &mut Found,
+    body: &mut Body,
+) -> Result<COperand, NoMem> {
+    let number = helper_number(helper, found)?;
+    let into = body.fresh(gives)?;
+    let xs = operands(alloc, xs)?;
+    body.ops.push(LlOp::Call(Some(into), number, xs))?;
+    Ok(COperand::Var(into))
+}
+
+/// What a small graph gives for these operands.
+pub fn by_small<const N: usize>(
+    alloc: Global,
+    small: Small,
+    gives: LlType,
+    xs: [COperand; N],
+    found: &mut Found,
+    body: &mut Body,
+) -> Result<COperand, NoMem> {
+    let number = small_number(small, found)?;
+    let into = body.fresh(gives)?;
+    let xs = operands(alloc, xs)?;
+    body.ops.push(LlOp::Call(Some(into), number, xs))?;
+    Ok(COperand::Var(into))
+}
+
+// ---- conversions
+
+/// The value as one of another type. A value of a type that is not for it never comes there.
+pub fn value_as(
+    alloc: Global,
+    layout: &Layout,
+    x: COperand,
+    from: LlType,
+    to: LlType,
+    found: &mut Found,
+    body: &mut Body,
+) -> Result<COperand, NoMem> {
+    if from == to {
+        return Ok(x);
+    }
+    match (from, to) {
+        (LlType::Char, LlType::Ptr(0)) => { helped(alloc, Helper::StrOfChar, to, [x], found, body) }
+        (LlType::Ptr(m), LlType::Ptr(n)) => {
+            if layout.is_tuple(m) && layout.is_tuple(n) {
+                by_small(alloc, Small::Cast(m, n), to, [x], found, body)
+            } else {
+                Ok(default_operand(to))
+            }
+        }
+        _ => Ok(default_operand(to)),
+    }
+}
+
+/// The operand as a value of this type.
+pub fn given(
+    alloc: Global,
+    around: Around<'_>,
+    operand: crate::body::Operand<'_>,
+    to: LlType,
+    found: &mut Found,
+    body: &mut Body,
+) -> Result<COperand, NoMem> {
+    let from = around.type_of(operand);
+    value_as(alloc, around.layout, operand.x, from, to, found, body)
+}
+
+// ---- results
+
+/// The place takes a value of this type.
+pub fn give(
+    alloc: Global,
+    around: Around<'_>,
+    place: Place<'_>,
+    x: COperand,
+    from: LlType,
+    found: &mut Found,
+    body: &mut Body,
+) -> Result<(), NoMem> {
+    match around.type_at(place) {
+        LlType::Void => Ok(()),
+        to => {
+            let x = value_as(alloc, around.layout, x, from, to, found, body)?;
+            body.ops.push(LlOp::Set(place.variable, x))
+        }
+    }
+}
+
+/// The place takes a value that says nothing.
+pub fn give_nothing(around: Around<'_>, place: Place<'_>, body: &mut Body) -> Result<(), NoMem> {
+    match around.type_at(place) {
+        LlType::Void => Ok(()),
+        kind => body
+            .ops
+            .push(LlOp::Set(place.variable, default_operand(kind))),
+    }
+}
+
+/// The variable that an operation with a result of this type sets: the place's own, where that has
+/// the type.
+pub fn landing(
+    around: Around<'_>,
+    place: Place<'_>,
+    gives: LlType,
+    body: &mut Body,
+) -> Result<VarId, NoMem> {
+    if around.type_at(place) == gives {
+        Ok(place.variable)
+    } else {
+        body.fresh(gives)
+    }
+}
+
+/// The place takes what stands in the variable, where that is another.
+pub fn land(
+    alloc: Global,
+    around: Around<'_>,
+    place: Place<'_>,
+    v: VarId,
+    gives: LlType,
+    found: &mut Found,
+    body: &mut Body,
+) -> Result<(), NoMem> {
+    if v == place.variable {
+        return Ok(());
+    }
+    give(alloc, around, place, COperand::Var(v), gives, found, body)
+}
+
+/// The place takes what a helper gives.
+pub fn give_helped<const N: usize>(
+    alloc: Global,
+    around: Around<'_>,
+    place: Place<'_>,
+    helper: Helper,
+    gives: LlType,
+    xs: [COperand; N],
+    found: &mut Found,
+    body: &mut Body,
+) -> Result<(), NoMem> {
+    let number = helper_number(helper, found)?;
+    let v = landing(around, place, gives, body)?;
+    let xs = operands(alloc, xs)?;
+    body.ops.push(LlOp::Call(Some(v), number, xs))?;
+    land(alloc, around, place, v, gives, found, body)
+}

@@ -1,0 +1,35 @@
+//! The lowering of operations on words, truth values, strings and tuples. Each is one or a few low-level
+//! operations, or one call of a helper.
+#![tactic(auto)]
+
+mod body;
+mod call;
+mod checked;
+mod compare;
+mod constant;
+mod convert;
+mod found;
+mod number;
+mod operation;
+mod parse;
+mod places;
+mod small;
+mod text;
+mod tuple;
+
+pub use body::{Around, Body, Operand, Place, operand_at};
+pub use call::{arguments, push_call};
+pub use compare::flag;
+pub use constant::constant_of;
+pub use convert::{
+    by_small, default_operand, give, give_nothing, given, land, landing, operands, value_as,
+};
+pub use found::{Found, NOTHING, small_number, static_of};
+pub use number::word;
+pub use operation::{lower_op, push_failure};
+pub use small::{
+    ATTRIBUTE, ATTRIBUTE_ERROR, Small, asks_null, block, failing, link, small_graph, small_raises,
+    variables,
+};
+pub use text::{Test, truth_of};
+pub use tuple::variable_of;

@@ -1,0 +1,400 @@
+// The lowering of an operation, by its operands.
+use crate::body::{Around, Body, Operand, Place};
+use crate::call::push_call;
+use crate::compare::{compare, flag};
+use crate::constant::{constant_of, text_of};
+use crate::convert::{by_small, give, give_helped, give_nothing};
+use crate::found::{Found, small_number};
+use crate::number::{give_unary, push_binary, push_to_int, push_unary, word};
+use crate::places::{
+    push_advance, push_has_item, push_index, push_len, push_product, push_sum, push_walk,
+    push_walk_item,
+};
+use crate::small::Small;
+use crate::text::{
+    push_method, push_of_text, push_print, push_slice, push_to_str, push_truth, push_write,
+};
+use crate::tuple::{push_item, push_tuple};
+use csub_tree::{CBinary, COperand, CUnary};
+use ll_code::{LlOp, LlType};
+use ll_helpers::Helper;
+use rpy_base::{NoMem, Seq};
+use rpy_meaning::RowOp;
+use rpy_tree::{BinOp, Const};
+use rtyper_layout::{Kind, is_text_or_none, kind_seen};
+use std::alloc::Global;
+
+fn is_never(args: &[Operand<'_>]) -> bool {
+    for operand in args {
+        if kind_seen(operand.element) == Kind::Never {
+            return true;
+        }
+    }
+    false
+}
+
+fn is_arguments(operand: Operand<'_>) -> bool {
+    kind_seen(operand.element) == Kind::Count
+}
+
+fn push_unknown(found: &mut Found) -> Result<(), NoMem> {
+    found.unknown = true;
+    Ok(())
+}
+
+// The value as it is.
+fn push_same(
+    alloc: Global,
+    around: Around<'_>,
+    place: Place<'_>,
+    a: Operand<'_>,
+    found: &mut Found,
+    body: &mut Body,
+) -> Result<(), NoMem> {
+    if kind_seen(a.element) == Kind::Other {
+        found.unknown = true;
+    }
+    let from = around.type_of(a);
+    give(alloc, around, place, a.x, from, found, body)
+}
+
+/// An operation on `None` that needs another value.
+pub fn push_failure(
+    alloc: Global,
+    around: Around<'_>,
+    place: Place<'_>,
+    found: &mut Found,
+    body: &mut Body,
+) -> Result<(), NoMem> {
+    let number = small_number(Small::Fail(found.covered.attribute), found)?;
+    body.ops.push(LlOp::Call(None, number, Seq::new(alloc)))?;
+    give_nothing(around, place, body)
+}
+
+// ---- without operands
+
+fn push_constant(
+    alloc: Global,
+    around: Around<'_>,
+    place: Place<'_>,
+    constant: &Const,
+    found: &mut Found,
+    body: &mut Body,
+) -> Result<(), NoMem> {
+    match around.type_at(place) {
+        LlType::Void => {
+            found.unknown = true;
+            Ok(())
+        }
+        to => {
+            let x = constant_of(alloc, around, constant, to, found)?;
+            body.ops.push(LlOp::Set(place.variable, COperand::Const(x)))
+        }
+    }
+}
+
+fn push_text(
+    alloc: Global,
+    around: Around<'_>,
+    place: Place<'_>,
+    bytes: &[u8],
+    found: &mut Found,
+    body: &mut Body,
+) -> Result<(), NoMem> {
+    match around.type_at(place) {
+        LlType::Void => Ok(()),
+        to => {
+            let x = text_of(alloc, bytes, to, found)?;
+            body.ops.push(LlOp::Set(place.variable, x))
+        }
+    }
+}
+
+fn push_literal(
+    alloc: Global,
+    around: Around<'_>,
+    place: Place<'_>,
+    op: &RowOp,
+    found: &mut Found,
+    body: &mut Body,
+) -> Result<(), NoMem> {
+    let number = LlType::Signed;
+    let truth = LlType::Bool;
+    match op {
+        RowOp::Word(n) => give(alloc, around, place, word(*n), number, found, body),
+        RowOp::Str(text) => push_text(alloc, around, place, text.bytes(), found, body),
+        RowOp::Bool(b) => give(alloc, around, place, flag(*b), truth, found, body),
+        RowOp::None => push_constant(alloc, around, place, &Const::None, found, body),
+        RowOp::Constant(constant) => { push_constant(alloc, around, place, constant, found, body) }
+        RowOp::Turn => {
+            body.ops.push(LlOp::Step(word(1)))?;
+            give_nothing(around, place, body)
+        }
+        _ => push_unknown(found),
+    }
+}
+
+// ---- of one operand
+
+fn push_conversion(
+    alloc: Global,
+    around: Around<'_>,
+    place: Place<'_>,
+    op: &RowOp,
+    a: Operand<'_>,
+    found: &mut Found,
+    body: &mut Body,
+) -> Result<(), NoMem> {
+    let number = LlType::Signed;
+    let byte = LlType::Char;
+    match (op, kind_seen(a.element)) {
+        (RowOp::Intmask, Kind::Word) => give(alloc, around, place, a.x, number, found, body),
+        (RowOp::ToInt, _) => push_to_int(alloc, around, place, a, found, body),
+        (RowOp::ToStr, _) => push_to_str(alloc, around, place, a, found, body),
+        (RowOp::Ord, Kind::Byte) => {
+            give_unary(alloc, around, place, CUnary::C2S, number, a.x, found, body)
+        }
+        (RowOp::Chr, Kind::Word) => {
+            give_helped(
+                alloc,
+                around,
+                place,
+                Helper::WordChr,
+                byte,
+                [a.x],
+                found,
+                body,
+            )
+        }
+        (RowOp::Unary(of), Kind::Word) => { push_unary(alloc, around, place, *of, a, found, body) }
+        (RowOp::CheckedNeg, Kind::Word) => {
+            let x = by_small(alloc, Small::CheckedNeg, number, [a.x], found, body)?;
+            give(alloc, around, place, x, number, found, body)
+        }
+        (RowOp::IsInstance(_), Kind::Nothing) => {
+            give(alloc, around, place, flag(false), LlType::Bool, found, body)
+        }
+        _ => push_unknown(found),
+    }
+}
+
+fn push_all_but_last(
+    alloc: Global,
+    around: Around<'_>,
+    place: Place<'_>,
+    a: Operand<'_>,
+    found: &mut Found,
+    body: &mut Body,
+) -> Result<(), NoMem> {
+    if !is_text_or_none(kind_seen(a.element)) {
+        return push_unknown(found);
+    }
+    let text = LlType::Ptr(0);
+    push_of_text(
+        alloc,
+        around,
+        place,
+        Helper::StrButLast,
+        text,
+        a,
+        found,
+        body,
+    )
+}
+
+fn push_one(
+    alloc: Global,
+    around: Around<'_>,
+    place: Place<'_>,
+    op: &RowOp,
+    a: Operand<'_>,
+    found: &mut Found,
+    body: &mut Body,
+) -> Result<(), NoMem> {
+    match op {
+        RowOp::Copy | RowOp::DropNone | RowOp::OnlyNone | RowOp::FalseNone | RowOp::Lower(_) =>
+            push_same(alloc, around, place, a, found, body),
+        RowOp::Not => push_truth(alloc, around, place, a, true, found, body),
+        RowOp::Truth => push_truth(alloc, around, place, a, false, found, body),
+        RowOp::Len => push_len(alloc, around, place, a, found, body),
+        RowOp::AllButLast(_) => push_all_but_last(alloc, around, place, a, found, body),
+        RowOp::Walk(_) => push_walk(alloc, around, place, a, found, body),
+        RowOp::Unpack(_, i) => match kind_seen(a.element) {
+            Kind::Tuple => push_item(alloc, around, place, a, *i as u64, found, body),
+            _ => push_unknown(found),
+        },
+        _ => push_conversion(alloc, around, place, op, a, found, body),
+    }
+}
+
+// ---- of two operands
+
+fn push_binary_of(
+    alloc: Global,
+    around: Around<'_>,
+    place: Place<'_>,
+    op: BinOp,
+    a: Operand<'_>,
+    b: Operand<'_>,
+    found: &mut Found,
+    body: &mut Body,
+) -> Result<(), NoMem> {
+    match op {
+        BinOp::Add => push_sum(alloc, around, place, a, b, found, body),
+        BinOp::Mul => push_product(alloc, around, place, a, b, found, body),
+        _ => match (kind_seen(a.element), kind_seen(b.element)) {
+            (Kind::Word, Kind::Word) => {
+                push_binary(alloc, around, place, op, a.x, b.x, found, body)
+            }
+            _ => push_unknown(found),
+        },
+    }
+}
+
+fn push_least(
+    alloc: Global,
+    around: Around<'_>,
+    place: Place<'_>,
+    helper: Helper,
+    a: Operand<'_>,
+    b: Operand<'_>,
+    found: &mut Found,
+    body: &mut Body,
+) -> Result<(), NoMem> {
+    let number = LlType::Signed;
+    match (kind_seen(a.element), kind_seen(b.element)) {
+        (Kind::Word, Kind::Word) => {
+            let xs = [a.x, b.x];
+            give_helped(alloc, around, place, helper, number, xs, found, body)
+        }
+        _ => push_unknown(found),
+    }
+}
+
+// An operation on two words whose result has to fit.
+fn push_checked(
+    alloc: Global,
+    around: Around<'_>,
+    place: Place<'_>,
+    op: BinOp,
+    a: Operand<'_>,
+    b: Operand<'_>,
+    found: &mut Found,
+    body: &mut Body,
+) -> Result<(), NoMem> {
+    let number = LlType::Signed;
+    let raises = match op {
+        BinOp::Shl => found.covered.number,
+        _ => found.covered.zero,
+    };
+    let small = match op {
+        BinOp::Add => Small::Checked(CBinary::Add, false),
+        BinOp::Sub => Small::Checked(CBinary::Sub, false),
+        BinOp::Mul => Small::Checked(CBinary::Mul, false),
+        BinOp::Shl => Small::Checked(CBinary::Shl, raises),
+        BinOp::Mod => Small::Checked(CBinary::Mod, raises),
+        _ => Small::Checked(CBinary::Div, raises),
+    };
+    let x = by_small(alloc, small, number, [a.x, b.x], found, body)?;
+    give(alloc, around, place, x, number, found, body)
+}
+
+fn push_two(
+    alloc: Global,
+    around: Around<'_>,
+    place: Place<'_>,
+    op: &RowOp,
+    a: Operand<'_>,
+    b: Operand<'_>,
+    found: &mut Found,
+    body: &mut Body,
+) -> Result<(), NoMem> {
+    match op {
+        RowOp::Binary(of, _) => push_binary_of(alloc, around, place, *of, a, b, found, body),
+        RowOp::AddTo => push_sum(alloc, around, place, a, b, found, body),
+        RowOp::Compare(of) => {
+            let x = compare(alloc, around, *of, a, b, found, body)?;
+            give(alloc, around, place, x, LlType::Bool, found, body)
+        }
+        RowOp::Min => push_least(alloc, around, place, Helper::WordMin, a, b, found, body),
+        RowOp::Max => push_least(alloc, around, place, Helper::WordMax, a, b, found, body),
+        RowOp::Write => push_write(alloc, around, place, b, found, body),
+        RowOp::Index(literal) => { push_index(alloc, around, place, *literal, a, b, found, body) }
+        RowOp::HasItem(step) => push_has_item(alloc, around, place, *step, a, b, found, body),
+        RowOp::Item(step) => push_walk_item(alloc, around, place, *step, a, b, found, body),
+        RowOp::Advance(step) => push_advance(alloc, around, place, *step, a, b, found, body),
+        RowOp::NonNegative => push_same(alloc, around, place, a, found, body),
+        RowOp::Checked(of) => push_checked(alloc, around, place, *of, a, b, found, body),
+        _ => push_unknown(found),
+    }
+}
+
+// ---- of any number
+
+// A method of `None` fails, whatever its name.
+fn push_method_of(
+    alloc: Global,
+    around: Around<'_>,
+    place: Place<'_>,
+    name: &[u8],
+    args: &[Operand<'_>],
+    found: &mut Found,
+    body: &mut Body,
+) -> Result<(), NoMem> {
+    if let [a, ..] = args {
+        if kind_seen(a.element) == Kind::Nothing {
+            return push_failure(alloc, around, place, found, body);
+        }
+    }
+    if push_method(alloc, around, place, name, args, found, body)? {
+        return Ok(());
+    }
+    push_unknown(found)
+}
+
+fn push_some(
+    alloc: Global,
+    around: Around<'_>,
+    place: Place<'_>,
+    op: &RowOp,
+    args: &[Operand<'_>],
+    found: &mut Found,
+    body: &mut Body,
+) -> Result<(), NoMem> {
+    match args {
+        [] => push_literal(alloc, around, place, op, found, body),
+        [a] => push_one(alloc, around, place, op, *a, found, body),
+        [a, b] => push_two(alloc, around, place, op, *a, *b, found, body),
+        _ => push_unknown(found),
+    }
+}
+
+/// The low-level operations of an operation. What has no lowering is noted.
+pub fn lower_op(
+    alloc: Global,
+    around: Around<'_>,
+    op: &RowOp,
+    place: Place<'_>,
+    args: &[Operand<'_>],
+    found: &mut Found,
+    body: &mut Body,
+) -> Result<(), NoMem> {
+    if is_never(args) {
+        return give_nothing(around, place, body);
+    }
+    match op {
+        RowOp::Print => {
+            push_print(alloc, args, found, body)?;
+            give_nothing(around, place, body)
+        }
+        RowOp::Tuple => push_tuple(alloc, around, place, args, found, body),
+        RowOp::Call(function) => push_call(alloc, around, place, *function, args, found, body),
+        RowOp::Slice(_, low, high) => {
+            push_slice(alloc, around, place, *low, *high, args, found, body)
+        }
+        RowOp::Method(name, _) => {
+            push_method_of(alloc, around, place, name.bytes(), args, found, body)
+        }
+        _ => push_some(alloc, around, place, op, args, found, body),
+    }
+}

@@ -1,0 +1,406 @@
+// Operations on strings, and the truth and the text of values.
+use crate::body::{Around, Body, Operand, Place, operand_at};
+use crate::compare::{is_no_function, is_null, opposite_if};
+use crate::convert::{give, give_helped, give_nothing, given, helped, operands};
+use crate::found::{Found, helper_number};
+use crate::number::{give_unary, word};
+use csub_tree::{CBinary, COperand, CUnary};
+use ll_code::{LlOp, LlType};
+use ll_helpers::Helper;
+use rpy_base::NoMem;
+use rtyper_layout::{Kind, is_text, is_text_or_none, kind_seen};
+use std::alloc::Global;
+
+const TEXT: LlType = LlType::Ptr(0);
+
+// ---- truth
+
+/// What a test comes to: it is known, or stands in a truth value.
+#[derive(Clone, Copy)]
+pub enum Test {
+    Known(bool),
+    By(COperand),
+}
+
+/// Whether a value counts as true.
+pub fn truth_of(
+    alloc: Global,
+    a: Operand<'_>,
+    found: &mut Found,
+    body: &mut Body,
+) -> Result<Test, NoMem> {
+    match kind_seen(a.element) {
+        Kind::Word | Kind::Count => {
+            let v = body.fresh(LlType::Bool)?;
+            body.ops.push(LlOp::Binary(v, CBinary::Ne, a.x, word(0)))?;
+            Ok(Test::By(COperand::Var(v)))
+        }
+        Kind::Flag => Ok(Test::By(a.x)),
+        Kind::Nothing => Ok(Test::Known(false)),
+        Kind::Byte | Kind::Never => Ok(Test::Known(true)),
+        Kind::Text | Kind::MaybeText => Ok(Test::By(helped(
+            alloc,
+            Helper::StrTruth,
+            LlType::Bool,
+            [a.x],
+            found,
+            body,
+        )?)),
+        Kind::Instance | Kind::Function => Ok(Test::Known(true)),
+        Kind::MaybeInstance => {
+            let null = is_null(a.x, body)?;
+            Ok(Test::By(opposite_if(true, null, body)?))
+        }
+        Kind::MaybeFunction => {
+            let null = is_no_function(a.x, body)?;
+            Ok(Test::By(opposite_if(true, null, body)?))
+        }
+        Kind::Tuple | Kind::Other => {
+            found.unknown = true;
+            Ok(Test::Known(true))
+        }
+    }
+}
+
+/// The truth of a value, or the opposite.
+pub fn push_truth(
+    alloc: Global,
+    around: Around<'_>,
+    place: Place<'_>,
+    a: Operand<'_>,
+    reversed: bool,
+    found: &mut Found,
+    body: &mut Body,
+) -> Result<(), NoMem> {
+    let flag = LlType::Bool;
+    match truth_of(alloc, a, found, body)? {
+        Test::Known(b) => {
+            let x = crate::compare::flag(b != reversed);
+            give(alloc, around, place, x, flag, found, body)
+        }
+        Test::By(x) => {
+            if reversed {
+                give_unary(alloc, around, place, CUnary::Not, flag, x, found, body)
+            } else {
+                give(alloc, around, place, x, flag, found, body)
+            }
+        }
+    }
+}
+
+// ---- printing
+
+fn push_call(
+    alloc: Global,
+    helper: Helper,
+    x: COperand,
+    found: &mut Found,
+    body: &mut Body,
+) -> Result<(), NoMem> {
+    let number = helper_number(helper, found)?;
+    let xs = operands(alloc, [x])?;
+    body.ops.push(LlOp::Call(None, number, xs))
+}
+
+fn push_put(
+    alloc: Global,
+    a: Operand<'_>,
+    found: &mut Found,
+    body: &mut Body,
+) -> Result<(), NoMem> {
+    match kind_seen(a.element) {
+        Kind::Word => push_call(alloc, Helper::PrintWord, a.x, found, body),
+        Kind::Flag => push_call(alloc, Helper::PrintBool, a.x, found, body),
+        Kind::Byte => {
+            let v = body.fresh(LlType::Signed)?;
+            body.ops.push(LlOp::Unary(v, CUnary::C2S, a.x))?;
+            body.ops.push(LlOp::Put(COperand::Var(v)))
+        }
+        Kind::Text => push_call(alloc, Helper::PrintStr, a.x, found, body),
+        _ => {
+            found.unknown = true;
+            Ok(())
+        }
+    }
+}
+
+/// The texts of the operands, with spaces between and a newline.
+pub fn push_print(
+    alloc: Global,
+    args: &[Operand<'_>],
+    found: &mut Found,
+    body: &mut Body,
+) -> Result<(), NoMem> {
+    for i in 0..args.len() {
+        if i > 0 {
+            body.ops.push(LlOp::Put(word(32)))?;
+        }
+        push_put(alloc, args[i], found, body)?;
+    }
+    body.ops.push(LlOp::Put(word(10)))
+}
+
+// ---- strings
+
+/// `str` of a value.
+pub fn push_to_str(
+    alloc: Global,
+    around: Around<'_>,
+    place: Place<'_>,
+    a: Operand<'_>,
+    found: &mut Found,
+    body: &mut Body,
+) -> Result<(), NoMem> {
+    match kind_seen(a.element) {
+        Kind::Word => {
+            give_helped(
+                alloc,
+                around,
+                place,
+                Helper::StrOfWord,
+                TEXT,
+                [a.x],
+                found,
+                body,
+            )
+        }
+        Kind::Flag => {
+            give_helped(
+                alloc,
+                around,
+                place,
+                Helper::StrOfBool,
+                TEXT,
+                [a.x],
+                found,
+                body,
+            )
+        }
+        Kind::Byte => give(alloc, around, place, a.x, LlType::Char, found, body),
+        Kind::Text => give(alloc, around, place, a.x, TEXT, found, body),
+        _ => {
+            found.unknown = true;
+            Ok(())
+        }
+    }
+}
+
+/// A helper of a string, or `None`.
+pub fn push_of_text(
+    alloc: Global,
+    around: Around<'_>,
+    place: Place<'_>,
+    helper: Helper,
+    gives: LlType,
+    a: Operand<'_>,
+    found: &mut Found,
+    body: &mut Body,
+) -> Result<(), NoMem> {
+    let x = given(alloc, around, a, TEXT, found, body)?;
+    give_helped(alloc, around, place, helper, gives, [x], found, body)
+}
+
+/// A helper of two strings, the first of which may be `None`, or both.
+pub fn push_of_texts(
+    alloc: Global,
+    around: Around<'_>,
+    place: Place<'_>,
+    helper: Helper,
+    gives: LlType,
+    a: Operand<'_>,
+    b: Operand<'_>,
+    found: &mut Found,
+    body: &mut Body,
+) -> Result<(), NoMem> {
+    let x = given(alloc, around, a, TEXT, found, body)?;
+    let y = given(alloc, around, b, TEXT, found, body)?;
+    give_helped(alloc, around, place, helper, gives, [x, y], found, body)
+}
+
+/// A helper of a string, or `None`, and a word.
+pub fn push_of_text_and_word(
+    alloc: Global,
+    around: Around<'_>,
+    place: Place<'_>,
+    helper: Helper,
+    gives: LlType,
+    a: Operand<'_>,
+    b: Operand<'_>,
+    found: &mut Found,
+    body: &mut Body,
+) -> Result<(), NoMem> {
+    let x = given(alloc, around, a, TEXT, found, body)?;
+    give_helped(alloc, around, place, helper, gives, [x, b.x], found, body)
+}
+
+// ---- slices
+
+// An absent lower bound is the start, an absent upper one the end of any string.
+fn bounds(low: bool, high: bool, args: &[Operand<'_>]) -> (COperand, COperand) {
+    let first = operand_at(args, 1).x;
+    match (low, high) {
+        (false, false) => (word(0), word(i64::MAX)),
+        (true, false) => (first, word(i64::MAX)),
+        (false, true) => (word(0), first),
+        (true, true) => (first, operand_at(args, 2).x),
+    }
+}
+
+/// The slice of a string, or `None`.
+pub fn push_slice(
+    alloc: Global,
+    around: Around<'_>,
+    place: Place<'_>,
+    low: bool,
+    high: bool,
+    args: &[Operand<'_>],
+    found: &mut Found,
+    body: &mut Body,
+) -> Result<(), NoMem> {
+    let a = operand_at(args, 0);
+    if !is_text_or_none(kind_seen(a.element)) {
+        found.unknown = true;
+        return Ok(());
+    }
+    let (from, to) = bounds(low, high, args);
+    let x = given(alloc, around, a, TEXT, found, body)?;
+    let xs = [x, from, to];
+    give_helped(
+        alloc,
+        around,
+        place,
+        Helper::StrSlice,
+        TEXT,
+        xs,
+        found,
+        body,
+    )
+}
+
+// ---- methods
+
+// What a method of one byte asks.
+fn of_byte(name: &[u8]) -> Option<Helper> {
+    match name {
+        b"isdigit" => Some(Helper::IsDigit),
+        b"isalpha" => Some(Helper::IsAlpha),
+        b"isspace" => Some(Helper::IsSpace),
+        _ => None,
+    }
+}
+
+fn of_texts(name: &[u8]) -> Option<(Helper, LlType)> {
+    match name {
+        b"find" => Some((Helper::StrFind, LlType::Signed)),
+        b"startswith" => Some((Helper::StrStartsWith, LlType::Bool)),
+        b"endswith" => Some((Helper::StrEndsWith, LlType::Bool)),
+        _ => None,
+    }
+}
+
+fn push_byte_method(
+    alloc: Global,
+    around: Around<'_>,
+    place: Place<'_>,
+    name: &[u8],
+    a: Operand<'_>,
+    found: &mut Found,
+    body: &mut Body,
+) -> Result<bool, NoMem> {
+    match (of_byte(name), kind_seen(a.element)) {
+        (Some(helper), Kind::Byte) => {
+            give_helped(
+                alloc,
+                around,
+                place,
+                helper,
+                LlType::Bool,
+                [a.x],
+                found,
+                body,
+            )?;
+            Ok(true)
+        }
+        _ => Ok(false),
+    }
+}
+
+// A method of a string and another.
+fn push_text_method(
+    alloc: Global,
+    around: Around<'_>,
+    place: Place<'_>,
+    name: &[u8],
+    a: Operand<'_>,
+    b: Operand<'_>,
+    found: &mut Found,
+    body: &mut Body,
+) -> Result<bool, NoMem> {
+    match of_texts(name) {
+        Some((helper, gives)) => {
+            if !is_text_or_none(kind_seen(a.element)) || !is_text(kind_seen(b.element)) {
+                return Ok(false);
+            }
+            push_of_texts(alloc, around, place, helper, gives, a, b, found, body)?;
+            Ok(true)
+        }
+        None => Ok(false),
+    }
+}
+
+fn push_strip(
+    alloc: Global,
+    around: Around<'_>,
+    place: Place<'_>,
+    name: &[u8],
+    a: Operand<'_>,
+    found: &mut Found,
+    body: &mut Body,
+) -> Result<bool, NoMem> {
+    match (name, is_text_or_none(kind_seen(a.element))) {
+        (b"strip", true) => {
+            push_of_text(alloc, around, place, Helper::StrStrip, TEXT, a, found, body)?;
+            Ok(true)
+        }
+        _ => Ok(false),
+    }
+}
+
+/// A method of a string; whether it is one.
+pub fn push_method(
+    alloc: Global,
+    around: Around<'_>,
+    place: Place<'_>,
+    name: &[u8],
+    args: &[Operand<'_>],
+    found: &mut Found,
+    body: &mut Body,
+) -> Result<bool, NoMem> {
+    match args {
+        [a] => {
+            if push_byte_method(alloc, around, place, name, *a, found, body)? {
+                return Ok(true);
+            }
+            push_strip(alloc, around, place, name, *a, found, body)
+        }
+        [a, b] => push_text_method(alloc, around, place, name, *a, *b, found, body),
+        _ => Ok(false),
+    }
+}
+
+/// `os.write(1, s)`.
+pub fn push_write(
+    alloc: Global,
+    around: Around<'_>,
+    place: Place<'_>,
+    a: Operand<'_>,
+    found: &mut Found,
+    body: &mut Body,
+) -> Result<(), NoMem> {
+    if !is_text(kind_seen(a.element)) {
+        found.unknown = true;
+        return give_nothing(around, place, body);
+    }
+    let word = LlType::Signed;
+    push_of_text(alloc, around, place, Helper::StrWrite, word, a, found, body)
+}

@@ -1,0 +1,170 @@
+// The structs of a program.
+use crate::classes::{
+    Laid, laid_classes, laid_order, method_names, push_class_structs, vtable_struct,
+};
+use crate::shapes::{push_all_shapes, push_attribute_shapes, push_shapes_in};
+use ann_element::Annotation;
+use class_desc::Classes;
+use ll_code::{LlStruct, LlType};
+use rpy_base::{NoMem, Seq, Text};
+use rpy_resolved::Resolved;
+use rpy_tree::ClassId;
+use std::alloc::Global;
+
+/// The structs of a program: struct 0 is that of strings; then come those of vtables, one for each
+/// family of classes, those of the classes, and one for each shape of tuples, from `first_tuple` on.
+/// For each class its structs, where it has some; the classes that have, each behind its base; and
+/// for each vtable the names of its methods.
+#[derive(Drop)]
+pub struct Layout {
+    pub structs: Seq<LlStruct>,
+    pub classes: Seq<Option<Laid>>,
+    pub order: Seq<ClassId>,
+    pub methods: Seq<Seq<Text>>,
+    pub first_tuple: u64,
+    pub shapes: Seq<Seq<LlType>>,
+}
+
+fn texts(alloc: Global) -> Result<LlStruct, NoMem> {
+    let mut fields = Seq::new(alloc);
+    fields.push(LlType::Signed)?;
+    Ok(LlStruct {
+        base: None,
+        fields,
+        items: Some(LlType::Char),
+    })
+}
+
+// The names of the methods of each family.
+fn all_methods(
+    alloc: Global,
+    program: &Resolved,
+    classes: &Classes,
+    order: &[ClassId],
+) -> Result<Seq<Seq<Text>>, NoMem> {
+    let mut methods = Seq::new(alloc);
+    for class in order {
+        if classes.base(*class).is_none() {
+            methods.push(method_names(alloc, program, classes, order, *class)?)?;
+        }
+    }
+    Ok(methods)
+}
+
+fn push_vtables(
+    alloc: Global,
+    methods: &[Seq<Text>],
+    structs: &mut Seq<LlStruct>,
+) -> Result<(), NoMem> {
+    for names in methods {
+        structs.push(vtable_struct(alloc, names.len())?)?;
+    }
+    Ok(())
+}
+
+fn push_tuples(
+    alloc: Global,
+    shapes: &[Seq<LlType>],
+    structs: &mut Seq<LlStruct>,
+) -> Result<(), NoMem> {
+    for shape in shapes {
+        let fields = Vec::from_slice(alloc, shape.as_slice())?;
+        structs.push(LlStruct {
+            base: None,
+            fields: Seq::from_vec(fields),
+            items: None,
+        })?;
+    }
+    Ok(())
+}
+
+// The classes, and no shapes and structs yet.
+fn with_classes(
+    alloc: Global,
+    program: &Resolved,
+    classes: &Classes,
+    made: &[bool],
+    raises: bool,
+) -> Result<Layout, NoMem> {
+    let order = laid_order(alloc, classes, made, raises)?;
+    let methods = all_methods(alloc, program, classes, order.as_slice())?;
+    let laid = laid_classes(alloc, classes, order.as_slice())?;
+    let before = methods.len() as u64;
+    let first_tuple = before.saturating_add(order.len() as u64).saturating_add(1);
+    Ok(Layout {
+        structs: Seq::new(alloc),
+        classes: laid,
+        order,
+        methods,
+        first_tuple,
+        shapes: Seq::new(alloc),
+    })
+}
+
+fn push_shapes_of(
+    alloc: Global,
+    annotation: &Annotation,
+    layout: &mut Layout,
+) -> Result<(), NoMem> {
+    push_all_shapes(alloc, annotation.params.as_slice(), layout)?;
+    push_shapes_in(alloc, annotation.results.as_slice(), layout)?;
+    push_all_shapes(alloc, annotation.vars.as_slice(), layout)?;
+    push_attribute_shapes(alloc, annotation.attributes.as_slice(), layout)?;
+    push_shapes_in(alloc, annotation.items.as_slice(), layout)?;
+    push_shapes_in(alloc, annotation.keys.as_slice(), layout)
+}
+
+fn structs_of(
+    alloc: Global,
+    layout: &Layout,
+    classes: &Classes,
+    annotation: &Annotation,
+) -> Result<Seq<LlStruct>, NoMem> {
+    let mut structs = Seq::new(alloc);
+    structs.push(texts(alloc)?)?;
+    push_vtables(alloc, layout.methods.as_slice(), &mut structs)?;
+    let order = layout.order.as_slice();
+    push_class_structs(alloc, layout, classes, annotation, order, &mut structs)?;
+    push_tuples(alloc, layout.shapes.as_slice(), &mut structs)?;
+    Ok(structs)
+}
+
+impl Layout {
+    /// The structs of the values of an annotation, those of exceptions among them where the program
+    /// raises some.
+    pub fn new(
+        alloc: Global,
+        program: &Resolved,
+        classes: &Classes,
+        annotation: &Annotation,
+        raises: bool,
+    ) -> Result<Layout, NoMem> {
+        let made = annotation.made.as_slice();
+        let mut layout = with_classes(alloc, program, classes, made, raises)?;
+        push_shapes_of(alloc, annotation, &mut layout)?;
+        let structs = structs_of(alloc, &layout, classes, annotation)?;
+        layout.structs = structs;
+        Ok(layout)
+    }
+
+    /// The structs of a class, where it has some.
+    pub fn laid(&self, class: ClassId) -> Option<Laid> {
+        match self.classes.get(class as usize) {
+            None => None,
+            Some(laid) => *laid,
+        }
+    }
+
+    /// Whether a struct is that of tuples.
+    pub fn is_tuple(&self, number: u64) -> bool {
+        self.first_tuple <= number && number - self.first_tuple < self.shapes.len() as u64
+    }
+
+    /// The types of the fields of a struct, those of its base aside.
+    pub fn fields(&self, number: u64) -> &[LlType] {
+        match self.structs.get(number as usize) {
+            None => &[],
+            Some(each) => each.fields.as_slice(),
+        }
+    }
+}

@@ -1,0 +1,152 @@
+// The types that stand for elements. Each shape of tuples, which is the types of the items, has a struct.
+use crate::kind::{Kind, kind_of};
+use crate::layout::Layout;
+use ann_element::Element;
+use ll_code::LlType;
+use rpy_base::{NoMem, Seq};
+use std::alloc::Global;
+
+/// The type of a field: what is never there may have any.
+pub fn field_type(kind: LlType) -> LlType {
+    match kind {
+        LlType::Void => LlType::Bool,
+        _ => kind,
+    }
+}
+
+fn plain_type(kind: Kind) -> LlType {
+    match kind {
+        Kind::Word | Kind::Count => LlType::Signed,
+        Kind::Flag | Kind::Nothing => LlType::Bool,
+        Kind::Byte => LlType::Char,
+        Kind::Text | Kind::MaybeText => LlType::Ptr(0),
+        Kind::Function | Kind::MaybeFunction => LlType::Fn,
+        Kind::Tuple | Kind::Instance | Kind::MaybeInstance | Kind::Never | Kind::Other => {
+            LlType::Void
+        }
+    }
+}
+
+#[cycle(repr)]
+fn is_shape(layout: &Layout, parts: &[Element], fields: &[LlType]) -> bool {
+    if parts.len() != fields.len() {
+        return false;
+    }
+    let mut rest = fields;
+    for part in parts {
+        match rest {
+            [] => return false,
+            [field, others @ ..] => {
+                if field_type(repr(layout, part)) != *field {
+                    return false;
+                }
+                rest = others;
+            }
+        }
+    }
+    true
+}
+
+// The place of a shape, where it is there.
+#[cycle(repr)]
+fn place_of(layout: &Layout, parts: &[Element]) -> Option<u64> {
+    let mut place: u64 = 0;
+    for shape in layout.shapes.as_slice() {
+        if is_shape(layout, parts, shape.as_slice()) {
+            return Some(place);
+        }
+        place = place.saturating_add(1);
+    }
+    None
+}
+
+/// The type of the values of an element. What has a kind that is not translated has none.
+#[cycle(repr)]
+pub fn repr(layout: &Layout, element: &Element) -> LlType {
+    match element {
+        Element::Tuple(parts) => match place_of(layout, parts.as_slice()) {
+            None => LlType::Void,
+            Some(place) => LlType::Ptr(layout.first_tuple.saturating_add(place)),
+        },
+        Element::Instance(class, _) => match layout.laid(*class) {
+            None => LlType::Void,
+            Some(laid) => LlType::Ptr(laid.root),
+        },
+        _ => plain_type(kind_of(element)),
+    }
+}
+
+/// The type of what was seen; where nothing was, no value comes.
+pub fn repr_seen(layout: &Layout, element: Option<&Element>) -> LlType {
+    match element {
+        None => LlType::Void,
+        Some(element) => repr(layout, element),
+    }
+}
+
+// ---- shapes
+
+fn shape_of(alloc: Global, layout: &Layout, parts: &[Element]) -> Result<Seq<LlType>, NoMem> {
+    let mut fields = Seq::new(alloc);
+    for part in parts {
+        fields.push(field_type(repr(layout, part)))?;
+    }
+    Ok(fields)
+}
+
+fn push_shape(alloc: Global, parts: &[Element], layout: &mut Layout) -> Result<(), NoMem> {
+    if place_of(layout, parts).is_some() {
+        return Ok(());
+    }
+    let shape = shape_of(alloc, layout, parts)?;
+    layout.shapes.push(shape)
+}
+
+// The shapes inside an element, the inner ones first.
+#[cycle(shapes)]
+fn push_shapes(alloc: Global, element: &Element, layout: &mut Layout) -> Result<(), NoMem> {
+    match element {
+        Element::Tuple(parts) => {
+            push_shapes_in(alloc, parts.as_slice(), layout)?;
+            push_shape(alloc, parts.as_slice(), layout)
+        }
+        _ => Ok(()),
+    }
+}
+
+/// The shapes inside elements.
+#[cycle(shapes)]
+pub fn push_shapes_in(
+    alloc: Global,
+    elements: &[Element],
+    layout: &mut Layout,
+) -> Result<(), NoMem> {
+    for element in elements {
+        push_shapes(alloc, element, layout)?;
+    }
+    Ok(())
+}
+
+/// The shapes inside rows of elements.
+pub fn push_all_shapes(
+    alloc: Global,
+    rows: &[Seq<Element>],
+    layout: &mut Layout,
+) -> Result<(), NoMem> {
+    for row in rows {
+        push_shapes_in(alloc, row.as_slice(), layout)?;
+    }
+    Ok(())
+}
+
+/// The shapes inside the elements of attributes.
+pub fn push_attribute_shapes(
+    alloc: Global,
+    attributes: &[(rpy_tree::ClassId, rpy_base::Text, Element)],
+    layout: &mut Layout,
+) -> Result<(), NoMem> {
+    for attribute in attributes {
+        push_shapes(alloc, &attribute.2, layout)?;
+    }
+    Ok(())
+}

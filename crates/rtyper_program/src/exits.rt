@@ -1,0 +1,56 @@
+// What has no lowering yet: lists and dicts, and what reads the arguments of the program for more than
+// their count.
+use crate::known::variable_kind;
+use ann_element::Annotation;
+use flow_graph::{Exit, Graph, Link, Op};
+use rpy_meaning::RowOp;
+use rtyper_layout::Kind;
+
+// A value of such a program. The arguments have another kind.
+fn is_plain(kind: Kind) -> bool {
+    match kind {
+        Kind::Count | Kind::Other => false,
+        _ => true,
+    }
+}
+
+// The arguments are read where their count is asked, and nowhere else.
+fn reads_arguments(op: &Op) -> bool {
+    match &op.op {
+        RowOp::Copy => op.value,
+        _ => false,
+    }
+}
+
+/// Whether an operation may have a lowering, as far as its result says.
+pub fn is_op_known(annotation: &Annotation, graph: usize, op: &Op) -> bool {
+    let given = variable_kind(annotation, graph, op.result);
+    is_plain(given) || reads_arguments(op)
+}
+
+/// Whether exceptions leave the graph from where they are raised.
+pub fn is_uncaught(graph: &Graph, by: &Option<Link>) -> bool {
+    match by {
+        None => true,
+        Some(link) => match graph.blocks.get(link.to as usize) {
+            None => false,
+            Some(block) => match &block.exit {
+                Exit::Raise(_) => block.ops.is_empty(),
+                Exit::Goto(_) | Exit::If(_, _, _) | Exit::OnRaise(_, _, _, _) | Exit::Return(_) => {
+                    false
+                }
+            },
+        },
+    }
+}
+
+/// Whether an exit has a lowering.
+pub fn is_exit_known(annotation: &Annotation, number: usize, exit: &Exit) -> bool {
+    match exit {
+        Exit::Goto(_) => true,
+        Exit::If(v, _, _) => is_plain(variable_kind(annotation, number, *v)),
+        Exit::OnRaise(_, _, _, _) => true,
+        Exit::Return(v) => is_plain(variable_kind(annotation, number, *v)),
+        Exit::Raise(_) => true,
+    }
+}
