@@ -69,7 +69,17 @@ const DROPS: &str =
 const COVERS: &str =
     "def f(n):\n    try:\n        return 10 / n\n    except ZeroDivisionError:\n        print 'zero'\n    finally:\n        print 'fin'\n    return -1\ndef entry_point(argv):\n    print f(len(argv)), f(len(argv) - 1)\n    return 0\n";
 
-const LISTS: &str = "def entry_point(argv):\n    print len([1, 2])\n    return 0\n";
+const LISTS: &str =
+    "import os\nL = [1, 2, 3]\nM = [['a', 'bc'], []]\ndef item(l, i):\n    try:\n        return l[i]\n    except IndexError:\n        return -1\ndef entry_point(argv):\n    l = [5, 3]\n    l.append(7)\n    l.insert(0, 1)\n    print len(l), l.pop(), l.pop(0), item(l, -1), item(l, 2)\n    k = l + L\n    k += l\n    k.reverse()\n    for x in k[1:6]:\n        print x\n    del k[0]\n    print len(k), 9 in k, len(k * 2), M[0][1], len(M[1])\n    print '-'.join([w + str(len(w)) for w in 'ab,c,,d'.split(',') if w])\n    for a in argv:\n        print a\n    return len(argv)\n";
+
+const DICTS: &str = "def entry_point(argv):\n    print len({1: 2})\n    return 0\n";
+
+const TURNS: &str =
+    "def entry_point(argv):\n    i = 0\n    while i < 1000:\n        l = [i, i]\n        i += 1\n    return i\n";
+
+const HUGE: &str = "def entry_point(argv):\n    l = [0] * 1000000000000000000\n    return len(l)\n";
+
+const OUTSIDE: &str = "def entry_point(argv):\n    l = [1, 2]\n    print l[5]\n    return 0\n";
 
 const UNTYPED: &str = "def entry_point(argv):\n    return 1 + 'a'\n";
 
@@ -125,7 +135,18 @@ fn programs_run(rt: HostRuntime) -> Result<(), Fail> {
         ("a.py", OVERFLOWS, 0, "ovf\n", "returned 1\n"),
         ("--steps 9 a.py", DROPS, 12, "", "steps spent\n"),
         ("a.py", COVERS, 0, "fin\nzero\nfin\n10 -1\n", "returned 0\n"),
-        ("a.py", LISTS, 16, "", "a.py: not yet\n"),
+        (
+            "a.py -- foo",
+            LISTS,
+            0,
+            "4 7 1 3 -1\n5\n3\n2\n1\n3\n6 False 12 bc 0\nab2-c1-d1\nprogram\nfoo\n",
+            "returned 2\n",
+        ),
+        ("--steps 4001 a.py", TURNS, 0, "", "returned 1000\n"),
+        ("--steps 4000 a.py", TURNS, 12, "", "steps spent\n"),
+        ("a.py", HUGE, 12, "", "steps spent\n"),
+        ("a.py", OUTSIDE, 11, "", "failed IndexError\n"),
+        ("a.py", DICTS, 16, "", "a.py: not yet\n"),
         (
             "a.py",
             UNTYPED,
@@ -188,56 +209,63 @@ fn runs_report(rt: HostRuntime) -> Result<(), Fail> {
             CALLS,
             0,
             "",
-            "returned 4\ntally: made 0, gone 0, left 0\nleaks: none\n",
+            "returned 4\ntally: made 3, gone 3, left 0\nleaks: none\n",
         ),
         (
             "run --steps 38 --tally a.py",
             GROWS,
             0,
             "ab101112 b10 8\n",
-            "returned 3\ntally: made 7, gone 7, left 0\n",
+            "returned 3\ntally: made 10, gone 10, left 0\n",
         ),
         (
             "run --tally a.py",
             KEEPS,
             0,
             "12\n",
-            "returned 0\ntally: made 2, gone 2, left 0\n",
+            "returned 0\ntally: made 5, gone 5, left 0\n",
         ),
         (
             "run --tally a.py",
             CHAINS,
             0,
             "1000\n",
-            "returned 0\ntally: made 1000, gone 1000, left 0\n",
+            "returned 0\ntally: made 1003, gone 1003, left 0\n",
         ),
         (
             "run --steps 5 --tally a.py",
             HOLD_BOTH,
             0,
             "",
-            "returned 0\ntally: made 2, gone 0, left 2\n",
+            "returned 0\ntally: made 5, gone 3, left 2\n",
         ),
         (
             "run --tally a.py",
             HOLDS_ONE,
             0,
             "",
-            "returned 0\ntally: made 2, gone 2, left 0\n",
+            "returned 0\ntally: made 5, gone 5, left 0\n",
         ),
         (
             "run --tally a.py",
             RAISES,
             10,
             "end\n",
-            "raised a.Bad\ntally: made 1, gone 1, left 0\n",
+            "raised a.Bad\ntally: made 4, gone 4, left 0\n",
+        ),
+        (
+            "run --tally a.py -- foo",
+            LISTS,
+            0,
+            "4 7 1 3 -1\n5\n3\n2\n1\n3\n6 False 12 bc 0\nab2-c1-d1\nprogram\nfoo\n",
+            "returned 2\ntally: made 24, gone 24, left 0\n",
         ),
         (
             "run --steps 10 --tally a.py",
             DROPS,
             0,
             "caught\n",
-            "returned 0\ntally: made 2, gone 2, left 0\n",
+            "returned 0\ntally: made 5, gone 5, left 0\n",
         ),
     ] {
         let (answered, out, err) = run_of(alloc, line, source)?;

@@ -11,7 +11,7 @@ const WRAPS: &str = "def entry_point(argv):\n    print 9223372036854775807 + 1\n
 const SUMS: &str =
     "def entry_point(argv):\n    x = 2 * 3 - 10\n    y = x * x\n    print y\n    x = y - x\n    return x\n";
 
-const LISTS: &str = "def entry_point(argv):\n    print len([1, 2])\n    return 0\n";
+const DICTS: &str = "def entry_point(argv):\n    print len({1: 2})\n    return 0\n";
 
 pub fn words_of(alloc: Global, line: &str) -> Result<Vec<Text>, NoMem> {
     let mut words = Vec::new(alloc);
@@ -67,7 +67,7 @@ fn words_and_sources_have_statuses(rt: HostRuntime) -> Result<(), Fail> {
         ),
         (
             "build a.py",
-            "def entry_point(x):\n    print [1].pop()\n    return len(x)\n",
+            "def entry_point(x):\n    print {1: 2}[1]\n    return len(x)\n",
             16,
             "a.py: not yet\n",
         ),
@@ -230,11 +230,11 @@ fn translate_answers_the_text_of_build(rt: HostRuntime) -> Result<(), Fail> {
 }
 
 #[test]
-fn lists_are_not_translated_yet(rt: HostRuntime) -> Result<(), Fail> {
+fn dicts_are_not_translated_yet(rt: HostRuntime) -> Result<(), Fail> {
     let alloc = rt.alloc();
     let mut names = Seq::new(alloc);
     let mut sources = Seq::new(alloc);
-    for (name, source) in [("a", LISTS), ("b", RETURNS)] {
+    for (name, source) in [("a", DICTS), ("b", RETURNS)] {
         names.push(Text::from_bytes(alloc, name.as_bytes())?)?;
         sources.push(Text::from_bytes(alloc, source.as_bytes())?)?;
     }

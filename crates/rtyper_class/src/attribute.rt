@@ -6,7 +6,7 @@ use ll_code::{LlOp, LlType};
 use rpy_base::{NoMem, Text};
 use rpy_tree::ClassId;
 use rtyper_data::{
-    Around, Body, Found, Operand, Place, Small, by_small, flag, give, given, push_failure,
+    Around, Body, Found, Operand, Place, Small, by_small, flag, give, given, present, push_failure,
     variable_of,
 };
 use rtyper_layout::{attribute_place, repr};
@@ -29,30 +29,6 @@ fn place_in<'a>(around: Around<'a>, class: ClassId, name: &Text) -> Option<Stand
         place,
         element,
     })
-}
-
-/// The instance itself, where it may be `None`, as which it fails.
-pub fn present(
-    alloc: Global,
-    around: Around<'_>,
-    a: Operand<'_>,
-    or_none: bool,
-    found: &mut Found,
-    body: &mut Body,
-) -> Result<COperand, NoMem> {
-    let kind = around.type_of(a);
-    if or_none {
-        by_small(
-            alloc,
-            Small::Present(kind, found.covered.attribute),
-            kind,
-            [a.x],
-            found,
-            body,
-        )
-    } else {
-        Ok(a.x)
-    }
 }
 
 /// Reads an attribute of an instance of the class, or `None`.

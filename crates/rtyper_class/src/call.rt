@@ -1,5 +1,4 @@
 // Calls of classes, methods and function values.
-use crate::attribute::present;
 use crate::instance::builtin_instance;
 use csub_tree::COperand;
 use ll_code::{LlOp, LlType, VarId};
@@ -7,7 +6,7 @@ use rpy_base::{NoMem, Seq, Text};
 use rpy_tree::{ClassId, FunId};
 use rtyper_data::{
     Around, Body, Found, Operand, Place, Small, arguments, give, give_nothing, land, landing,
-    operands, push_call, small_number, variable_of,
+    operands, present, push_call, small_number, variable_of,
 };
 use rtyper_layout::{class_at, repr, repr_seen};
 use std::alloc::Global;

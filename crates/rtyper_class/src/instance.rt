@@ -10,6 +10,7 @@ use rtyper_data::{
     default_operand, failing, flag, link, small_graph, variables, word,
 };
 use rtyper_layout::{Laid, attribute_place, field_type, repr};
+use rtyper_list::list_graph;
 use std::alloc::Global;
 
 // ---- new instances
@@ -328,6 +329,7 @@ pub fn class_graph(
         Small::IsInstance(root, vtable, low, high) => {
             is_instance(alloc, root, vtable, low, high)
         }
+        Small::Listed(listed) => list_graph(alloc, around.layout, listed, found),
         _ => small_graph(alloc, around.layout, small, found),
     }
 }

@@ -7,8 +7,9 @@ use rpy_base::{NoMem, Text};
 use rpy_meaning::RowOp;
 use rpy_tree::{ClassId, FunId};
 use rtyper_data::{
-    Around, Body, Found, Operand, Place, Small, by_small, give, lower_op, push_call, push_failure,
+    Around, Body, Found, Operand, Place, Small, by_small, give, push_call, push_failure,
 };
+use rtyper_list::lower_list_op;
 use std::alloc::Global;
 
 // The class of an instance, and whether it may be `None`.
@@ -154,7 +155,7 @@ fn push_method_of(
             );
         }
     }
-    lower_op(alloc, around, op, place, args, found, body)
+    lower_list_op(alloc, around, op, place, args, found, body)
 }
 
 fn push_one(
@@ -175,13 +176,13 @@ fn push_one(
             Some((class, _)) => {
                 push_is_instance(alloc, around, place, *of, *a, class, found, body)
             }
-            None => lower_op(alloc, around, op, place, args, found, body),
+            None => lower_list_op(alloc, around, op, place, args, found, body),
         },
         (RowOp::Raise, [a]) => match instance_of(*a) {
             Some((_, or_none)) => push_raise(alloc, around, place, *a, or_none, found, body),
             None => push_failure(alloc, around, place, found, body),
         },
-        _ => lower_op(alloc, around, op, place, args, found, body),
+        _ => lower_list_op(alloc, around, op, place, args, found, body),
     }
 }
 
@@ -196,7 +197,7 @@ pub fn lower_class_op(
     body: &mut Body,
 ) -> Result<(), NoMem> {
     if is_never(args) {
-        return lower_op(alloc, around, op, place, args, found, body);
+        return lower_list_op(alloc, around, op, place, args, found, body);
     }
     match op {
         RowOp::New(class) => push_new(alloc, around, place, *class, args, found, body),

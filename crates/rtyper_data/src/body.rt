@@ -1,11 +1,11 @@
 // What is written, and what is known around it.
-use ann_element::Element;
+use ann_element::{Element, Sites};
 use class_desc::Classes;
 use csub_tree::COperand;
 use ll_code::{LlOp, LlType, VarId};
 use rpy_base::{NoMem, Seq, Text};
 use rpy_resolved::Function;
-use rpy_tree::ClassId;
+use rpy_tree::{ClassId, Site};
 use rtyper_layout::{Layout, repr_seen};
 use std::alloc::Global;
 
@@ -33,7 +33,8 @@ pub struct Place<'a> {
 /// The types of values; for each function the number of its graph, the elements of its parameters
 /// and of its result, and the function itself, whose constants stand in for arguments; the classes, of
 /// which these have instances, with the elements of attributes; and the numbers of
-/// the first vtable and of the first instance of a builtin exception class.
+/// the first vtable and of the first instance of a builtin exception class; and the sites, with their
+/// classes.
 #[derive(Clone, Copy)]
 pub struct Around<'a> {
     pub layout: &'a Layout,
@@ -46,6 +47,8 @@ pub struct Around<'a> {
     pub attributes: &'a [(ClassId, Text, Element)],
     pub first_vtable: u64,
     pub first_exception: u64,
+    pub sites: &'a [Site],
+    pub same: &'a Sites,
 }
 
 impl<'a> Around<'a> {

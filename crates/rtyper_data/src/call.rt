@@ -59,12 +59,11 @@ pub fn arguments(
     Ok(xs)
 }
 
-// The arguments of the program and values of other kinds are given to no function yet.
+// Values of other kinds are given to no function yet.
 fn note_unknown(args: &[Operand<'_>], found: &mut Found) {
     for operand in args {
-        match kind_seen(operand.element) {
-            Kind::Count | Kind::Other => found.unknown = true,
-            _ => {}
+        if kind_seen(operand.element) == Kind::Other {
+            found.unknown = true;
         }
     }
 }

@@ -1,11 +1,11 @@
 // Constants as operands. Strings and tuples are statics.
 use crate::body::Around;
 use crate::convert::default_operand;
-use crate::found::{Found, static_of};
+use crate::found::{Found, static_of, static_of_site};
 use csub_tree::{CCell, CConst, COperand};
 use ll_code::LlType;
 use rpy_base::{NoMem, Seq};
-use rpy_tree::{Const, FunId};
+use rpy_tree::{Const, FunId, SiteId};
 use std::alloc::Global;
 
 fn default_constant(kind: LlType) -> CConst {
@@ -74,6 +74,14 @@ fn tuple_cells(
     Ok(cells)
 }
 
+// The static of a list, which was made before.
+fn prebuilt_list(site: SiteId, to: LlType, found: &Found) -> CConst {
+    match (to, static_of_site(found, site)) {
+        (LlType::Ptr(list), Some(number)) => CConst::Static(list, number),
+        _ => default_constant(to),
+    }
+}
+
 /// The constant as a value of this type.
 #[cycle(constant)]
 pub fn constant_of(
@@ -100,7 +108,8 @@ pub fn constant_of(
             _ => Ok(default_constant(to)),
         },
         Const::Function(function) => Ok(function_of(around, *function, to)),
-        Const::List(_) | Const::Dict(_) => {
+        Const::List(site) => Ok(prebuilt_list(*site, to, found)),
+        Const::Dict(_) => {
             found.unknown = true;
             Ok(default_constant(to))
         }

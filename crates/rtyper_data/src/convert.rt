@@ -1,6 +1,6 @@
 // Values of one type as values of another. A string of length one has a type of its own, `None` is a
 // truth value where nothing else stands, and tuples have a struct for each shape.
-use crate::body::{Around, Body, Place};
+use crate::body::{Around, Body, Operand, Place};
 use crate::found::{Found, helper_number, small_number};
 use crate::small::Small;
 use csub_tree::{CConst, COperand};
@@ -95,13 +95,31 @@ pub fn value_as(
 pub fn given(
     alloc: Global,
     around: Around<'_>,
-    operand: crate::body::Operand<'_>,
+    operand: Operand<'_>,
     to: LlType,
     found: &mut Found,
     body: &mut Body,
 ) -> Result<COperand, NoMem> {
     let from = around.type_of(operand);
     value_as(alloc, around.layout, operand.x, from, to, found, body)
+}
+
+/// The value itself, where it may be `None`, as which it fails, or raises.
+pub fn present(
+    alloc: Global,
+    around: Around<'_>,
+    a: Operand<'_>,
+    or_none: bool,
+    found: &mut Found,
+    body: &mut Body,
+) -> Result<COperand, NoMem> {
+    let kind = around.type_of(a);
+    if or_none {
+        let small = Small::Present(kind, found.covered.attribute);
+        by_small(alloc, small, kind, [a.x], found, body)
+    } else {
+        Ok(a.x)
+    }
 }
 
 // ---- results

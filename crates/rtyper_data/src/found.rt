@@ -5,11 +5,13 @@ use ll_code::{LlStatic, LlType};
 use ll_helpers::{Helper, Need};
 use rpy_base::{NoMem, Seq};
 use rpy_meaning::Covers;
+use rpy_tree::SiteId;
 use std::alloc::Global;
 
 /// The helpers that are needed, in the order in which they were first asked for: the graph of each
 /// has its number, and raises the failures that it was asked for to raise. For which failures the
-/// operation that is lowered asks so. The statics, by their numbers, and the small graphs, the first of which has the
+/// operation that is lowered asks so. The statics, by their numbers, with those of
+/// the lists that are constants, by their sites, and the small graphs, the first of which has the
 /// number `first_small`. Whether something had no lowering.
 #[derive(Drop)]
 pub struct Found {
@@ -17,6 +19,7 @@ pub struct Found {
     pub caught: Seq<Covers>,
     pub covered: Covers,
     pub statics: Seq<LlStatic>,
+    pub prebuilt: Seq<(SiteId, u64)>,
     pub smalls: Seq<Small>,
     pub first_small: u64,
     pub unknown: bool,
@@ -30,6 +33,7 @@ impl Found {
             caught: Seq::new(alloc),
             covered: NOTHING,
             statics: Seq::new(alloc),
+            prebuilt: Seq::new(alloc),
             smalls: Seq::new(alloc),
             first_small: 0,
             unknown: false,
@@ -49,6 +53,7 @@ impl Found {
             caught,
             covered: NOTHING,
             statics,
+            prebuilt: Seq::new(alloc),
             smalls: Seq::new(alloc),
             first_small,
             unknown: false,
@@ -185,6 +190,16 @@ fn place_of_static(statics: &[LlStatic], kind: u64, cells: &[CCell]) -> Option<u
     for i in 0..statics.len() {
         if statics[i].kind == kind && are_same_cells(statics[i].cells.as_slice(), cells) {
             return Some(i);
+        }
+    }
+    None
+}
+
+/// The static of the list of a site, where that is a constant that was made.
+pub fn static_of_site(found: &Found, site: SiteId) -> Option<u64> {
+    for each in found.prebuilt.as_slice() {
+        if each.0 == site {
+            return Some(each.1);
         }
     }
     None

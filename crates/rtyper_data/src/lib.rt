@@ -13,23 +13,26 @@ mod number;
 mod operation;
 mod parse;
 mod places;
+mod prebuilt;
 mod small;
 mod text;
 mod tuple;
 
 pub use body::{Around, Body, Operand, Place, operand_at};
 pub use call::{arguments, push_call};
-pub use compare::flag;
+pub use compare::{equal, flag, opposite_if};
 pub use constant::constant_of;
 pub use convert::{
-    by_small, default_operand, give, give_nothing, given, land, landing, operands, value_as,
+    by_small, default_operand, give, give_nothing, given, land, landing, operands, present,
+    value_as,
 };
-pub use found::{Found, NOTHING, small_number, static_of};
-pub use number::word;
+pub use found::{Found, NOTHING, helper_number, small_number, static_of};
+pub use number::{give_binary, word};
 pub use operation::{lower_op, push_failure};
+pub use prebuilt::push_prebuilt;
 pub use small::{
-    ATTRIBUTE, ATTRIBUTE_ERROR, Small, asks_null, block, failing, link, small_graph, small_raises,
-    variables,
+    ATTRIBUTE, ATTRIBUTE_ERROR, Listed, Small, asks_null, block, failing, link, small_graph,
+    small_raises, variables,
 };
 pub use text::{Test, truth_of};
 pub use tuple::variable_of;

@@ -33,10 +33,6 @@ fn is_never(args: &[Operand<'_>]) -> bool {
     false
 }
 
-fn is_arguments(operand: Operand<'_>) -> bool {
-    kind_seen(operand.element) == Kind::Count
-}
-
 fn push_unknown(found: &mut Found) -> Result<(), NoMem> {
     found.unknown = true;
     Ok(())

@@ -54,7 +54,6 @@ pub fn push_len(
 ) -> Result<(), NoMem> {
     let gives = LlType::Signed;
     match kind_seen(a.element) {
-        Kind::Count => give(alloc, around, place, a.x, gives, found, body),
         Kind::Tuple => match i64::try_from(length_of(around, a)) {
             Ok(length) => give(alloc, around, place, word(length), gives, found, body),
             Err(_) => Err(NoMem),

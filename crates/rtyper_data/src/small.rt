@@ -16,6 +16,43 @@ use std::alloc::Global;
 /// The failure of what meets `None`, and of an attribute that is not set.
 pub const ATTRIBUTE: u32 = 4;
 
+/// A graph of lists. A number is that of the struct of a list, whose array follows it, but for those of
+/// arrays as `Copy` and `MoveUp` have them.
+#[derive(Clone, Copy, Debug, PartialEq, Eq)]
+pub enum Listed {
+    /// The place that an index names; outside it fails, or raises.
+    Place(u64, bool),
+    Remove(u64),
+    /// Items of one array into another.
+    Copy(u64, u64),
+    /// Items of an array one place up.
+    MoveUp(u64),
+    /// Room for further items.
+    Room(u64),
+    Append(u64),
+    Insert(u64),
+    Extend(u64, u64),
+    Reverse(u64),
+    /// A list whose items are still to be set.
+    Make(u64),
+    /// Two lists, and the one that has the items of both.
+    Concat(u64, u64, u64),
+    /// A list, and the one that is it so many times.
+    Repeat(u64, u64),
+    /// A list, and one of a part of it.
+    Slice(u64, u64),
+    ButLast(u64, u64),
+    /// Whether a value of this type is among the items.
+    Contains(LlType, u64),
+    Truth(u64),
+    /// The list of the program's arguments.
+    Arguments(u64),
+    Join(u64),
+    Split(u64),
+    /// A part of a string, which costs nothing.
+    Part,
+}
+
 /// A graph that a program asks for by its structs.
 #[derive(Clone, Copy, Debug, PartialEq, Eq)]
 pub enum Small {
@@ -40,6 +77,7 @@ pub enum Small {
     CheckedNeg,
     /// `int` of a string.
     IntOfText,
+    Listed(Listed),
     /// Whether an instance, or `None`, of a family with this struct and these vtables is of a class
     /// with a number in this range.
     IsInstance(u64, u64, u32, u32),
@@ -50,8 +88,12 @@ pub fn small_raises(small: Small) -> bool {
     match small {
         Small::Fail(raises) | Small::Present(_, raises) | Small::Attribute(_, _, raises) => raises,
         Small::Raise(_) | Small::Checked(_, _) | Small::CheckedNeg | Small::IntOfText => true,
-        Small::Cast(_, _) | Small::Equal(_, _) | Small::New(_) | Small::IsInstance(_, _, _, _) =>
-            false,
+        Small::Listed(Listed::Place(_, raises)) => raises,
+        Small::Listed(_)
+        | Small::Cast(_, _)
+        | Small::Equal(_, _)
+        | Small::New(_)
+        | Small::IsInstance(_, _, _, _) => false,
     }
 }
 
@@ -311,6 +353,7 @@ pub fn small_graph(
         Small::CheckedNeg => checked_neg_graph(alloc, found),
         Small::IntOfText => int_graph(alloc, found),
         Small::New(_)
+        | Small::Listed(_)
         | Small::Attribute(_, _, _)
         | Small::Raise(_)
         | Small::IsInstance(_, _, _, _) => failure(alloc, false, found),

@@ -1,9 +1,10 @@
 // Operations on strings, and the truth and the text of values.
 use crate::body::{Around, Body, Operand, Place, operand_at};
 use crate::compare::{is_no_function, is_null, opposite_if};
-use crate::convert::{give, give_helped, give_nothing, given, helped, operands};
+use crate::convert::{by_small, give, give_helped, give_nothing, given, helped, operands};
 use crate::found::{Found, helper_number};
 use crate::number::{give_unary, word};
+use crate::small::{Listed, Small};
 use csub_tree::{CBinary, COperand, CUnary};
 use ll_code::{LlOp, LlType};
 use ll_helpers::Helper;
@@ -25,12 +26,13 @@ pub enum Test {
 /// Whether a value counts as true.
 pub fn truth_of(
     alloc: Global,
+    around: Around<'_>,
     a: Operand<'_>,
     found: &mut Found,
     body: &mut Body,
 ) -> Result<Test, NoMem> {
     match kind_seen(a.element) {
-        Kind::Word | Kind::Count => {
+        Kind::Word => {
             let v = body.fresh(LlType::Bool)?;
             body.ops.push(LlOp::Binary(v, CBinary::Ne, a.x, word(0)))?;
             Ok(Test::By(COperand::Var(v)))
@@ -55,6 +57,13 @@ pub fn truth_of(
             let null = is_no_function(a.x, body)?;
             Ok(Test::By(opposite_if(true, null, body)?))
         }
+        Kind::List | Kind::MaybeList => match around.type_of(a) {
+            LlType::Ptr(list) => {
+                let small = Small::Listed(Listed::Truth(list));
+                Ok(Test::By(by_small(alloc, small, LlType::Bool, [a.x], found, body)?))
+            }
+            _ => Ok(Test::Known(true)),
+        },
         Kind::Tuple | Kind::Other => {
             found.unknown = true;
             Ok(Test::Known(true))
@@ -73,7 +82,7 @@ pub fn push_truth(
     body: &mut Body,
 ) -> Result<(), NoMem> {
     let flag = LlType::Bool;
-    match truth_of(alloc, a, found, body)? {
+    match truth_of(alloc, around, a, found, body)? {
         Test::Known(b) => {
             let x = crate::compare::flag(b != reversed);
             give(alloc, around, place, x, flag, found, body)

@@ -1,16 +1,12 @@
 -- What a value is, as far as its lowering asks.
-use Rattle.std.specs.Prelude.{ℕ, ◌==◌, ◌&&◌, Bool, not, cond}
+use Rattle.std.specs.Prelude.{Bool, cond}
 use Rattle.ann_element.specs.declared.element.Element.{Element}
 use Rattle.ann_element.specs.declared.element.Element.TheVariants as e
 use Rattle.rtyper_layout.specs.declared.kind.Kind.{Kind}
-use Rattle.rtyper_layout.specs.declared.kind.Kind.TheVariants.{Word, Flag, Byte, Text, MaybeText, Nothing, Tuple, Instance, MaybeInstance, Function, MaybeFunction, Count, Never, Other}
+use Rattle.rtyper_layout.specs.declared.kind.Kind.TheVariants.{Word, Flag, Byte, Text, MaybeText, Nothing, Tuple, Instance, MaybeInstance, Function, MaybeFunction, List, MaybeList, Never, Other}
 
--- the list of the program's arguments
-abbrev pub is_arguments : ℕ → Bool → Bool
-is_arguments site or_none = (site == 0) && not or_none
-
-abbrev pub of_list : ℕ → Bool → Kind
-of_list site or_none = cond (is_arguments site or_none) Count Other
+abbrev pub of_list : Bool → Kind
+of_list or_none = cond or_none MaybeList List
 
 abbrev pub of_instance : Bool → Kind
 of_instance or_none = cond or_none MaybeInstance Instance
@@ -29,7 +25,7 @@ kind_of e.Int = Word
 kind_of e.Char = Byte
 kind_of e.Str = Text
 kind_of e.StrOrNone = MaybeText
-kind_of (e.List site or_none) = of_list site or_none
+kind_of (e.List site or_none) = of_list or_none
 kind_of (e.Instance class or_none) = of_instance or_none
 kind_of (e.Func functions or_none) = of_function or_none
 kind_of (e.Dict site or_none) = Other

@@ -3,12 +3,10 @@ ghost use Rattle.std.specs.Prelude.{◌≡◌};
 ghost use Rattle.rtyper_layout.specs.Kinds as spec;
 
 use ann_element::Element;
-use rpy_tree::SiteId;
 
 /// A word; a truth value; a string of length one; a string, or a string or `None`; `None`; a tuple; an
-/// instance, or an instance or `None`; a function, or a function or `None`; the arguments of the
-/// program, of which only the count is asked; nothing, since no value comes here; or a value of
-/// another kind.
+/// instance, or an instance or `None`; a function, or a function or `None`; a list, or a list or `None`;
+/// nothing, since no value comes here; or a value of another kind.
 #[derive(Clone, Copy, Debug, PartialEq, Eq)]
 pub enum Kind {
     Word,
@@ -22,26 +20,16 @@ pub enum Kind {
     MaybeInstance,
     Function,
     MaybeFunction,
-    Count,
+    List,
+    MaybeList,
     Never,
     Other,
 }
 
-// Whether a list is that of the program's arguments.
-fn is_arguments(site: SiteId, or_none: bool) -> bool
-    ensures { result ≡ spec.is_arguments site or_none }
+fn of_list(or_none: bool) -> Kind
+    ensures { result ≡ spec.of_list or_none }
 {
-    site == 0 && !or_none
-}
-
-fn of_list(site: SiteId, or_none: bool) -> Kind
-    ensures { result ≡ spec.of_list site or_none }
-{
-    if is_arguments(site, or_none) {
-        Kind::Count
-    } else {
-        Kind::Other
-    }
+    if or_none { Kind::MaybeList } else { Kind::List }
 }
 
 fn of_instance(or_none: bool) -> Kind
@@ -77,7 +65,7 @@ pub fn kind_of(element: &Element) -> Kind
         Element::Str => Kind::Text,
         Element::StrOrNone => Kind::MaybeText,
         Element::Tuple(_) => Kind::Tuple,
-        Element::List(site, or_none) => of_list(*site, *or_none),
+        Element::List(_, or_none) => of_list(*or_none),
         Element::Instance(_, or_none) => of_instance(*or_none),
         Element::Func(_, or_none) => of_function(*or_none),
         Element::Dict(_, _) | Element::Conflict(_, _) => Kind::Other,

@@ -2,17 +2,21 @@
 use crate::classes::{
     Laid, laid_classes, laid_order, method_names, push_class_structs, vtable_struct,
 };
-use crate::shapes::{push_all_shapes, push_attribute_shapes, push_shapes_in};
+use crate::shapes::{
+    field_type, push_all_shapes, push_all_sites, push_attribute_shapes, push_attribute_sites,
+    push_shapes_in, push_sites_in, repr,
+};
 use ann_element::Annotation;
 use class_desc::Classes;
 use ll_code::{LlStruct, LlType};
 use rpy_base::{NoMem, Seq, Text};
 use rpy_resolved::Resolved;
-use rpy_tree::ClassId;
+use rpy_tree::{ClassId, SiteId};
 use std::alloc::Global;
 
 /// The structs of a program: struct 0 is that of strings; then come those of vtables, one for each
-/// family of classes, those of the classes, and one for each shape of tuples, from `first_tuple` on.
+/// family of classes, those of the classes, two for the lists of each class of sites, from `first_list` on,
+/// that of the list and that of its array, and one for each shape of tuples, from `first_tuple` on.
 /// For each class its structs, where it has some; the classes that have, each behind its base; and
 /// for each vtable the names of its methods.
 #[derive(Drop)]
@@ -21,6 +25,8 @@ pub struct Layout {
     pub classes: Seq<Option<Laid>>,
     pub order: Seq<ClassId>,
     pub methods: Seq<Seq<Text>>,
+    pub first_list: u64,
+    pub lists: Seq<SiteId>,
     pub first_tuple: u64,
     pub shapes: Seq<Seq<LlType>>,
 }
@@ -90,15 +96,71 @@ fn with_classes(
     let methods = all_methods(alloc, program, classes, order.as_slice())?;
     let laid = laid_classes(alloc, classes, order.as_slice())?;
     let before = methods.len() as u64;
-    let first_tuple = before.saturating_add(order.len() as u64).saturating_add(1);
+    let first_list = before.saturating_add(order.len() as u64).saturating_add(1);
     Ok(Layout {
         structs: Seq::new(alloc),
         classes: laid,
         order,
         methods,
-        first_tuple,
+        first_list,
+        lists: Seq::new(alloc),
+        first_tuple: first_list,
         shapes: Seq::new(alloc),
     })
+}
+
+// The sites of all lists. The arguments of the program are site 0.
+fn sites_of(alloc: Global, annotation: &Annotation) -> Result<Seq<SiteId>, NoMem> {
+    let mut sites = Seq::new(alloc);
+    sites.push(0)?;
+    push_all_sites(annotation.params.as_slice(), &mut sites)?;
+    push_sites_in(annotation.results.as_slice(), &mut sites)?;
+    push_all_sites(annotation.vars.as_slice(), &mut sites)?;
+    push_attribute_sites(annotation.attributes.as_slice(), &mut sites)?;
+    push_sites_in(annotation.items.as_slice(), &mut sites)?;
+    push_sites_in(annotation.keys.as_slice(), &mut sites)?;
+    Ok(sites)
+}
+
+fn push_list(
+    alloc: Global,
+    layout: &Layout,
+    annotation: &Annotation,
+    site: SiteId,
+    structs: &mut Seq<LlStruct>,
+) -> Result<(), NoMem> {
+    let item = match annotation.items.get(site as usize) {
+        None => LlType::Bool,
+        Some(element) => field_type(repr(layout, element)),
+    };
+    let array = (structs.len() as u64).saturating_add(1);
+    let mut fields = Seq::new(alloc);
+    fields.push(LlType::Signed)?;
+    fields.push(LlType::Ptr(array))?;
+    structs.push(LlStruct {
+        base: None,
+        fields,
+        items: None,
+    })?;
+    let mut fields = Seq::new(alloc);
+    fields.push(LlType::Signed)?;
+    structs.push(LlStruct {
+        base: None,
+        fields,
+        items: Some(item),
+    })
+}
+
+fn push_lists(
+    alloc: Global,
+    layout: &Layout,
+    annotation: &Annotation,
+    structs: &mut Seq<LlStruct>,
+) -> Result<(), NoMem> {
+    for site in layout.lists.as_slice() {
+        push_list(alloc, layout, annotation, *site, structs)?;
+    }
+    Ok(())
 }
 
 fn push_shapes_of(
@@ -125,6 +187,7 @@ fn structs_of(
     push_vtables(alloc, layout.methods.as_slice(), &mut structs)?;
     let order = layout.order.as_slice();
     push_class_structs(alloc, layout, classes, annotation, order, &mut structs)?;
+    push_lists(alloc, layout, annotation, &mut structs)?;
     push_tuples(alloc, layout.shapes.as_slice(), &mut structs)?;
     Ok(structs)
 }
@@ -141,6 +204,9 @@ impl Layout {
     ) -> Result<Layout, NoMem> {
         let made = annotation.made.as_slice();
         let mut layout = with_classes(alloc, program, classes, made, raises)?;
+        layout.lists = sites_of(alloc, annotation)?;
+        let lists = (layout.lists.len() as u64).saturating_mul(2);
+        layout.first_tuple = layout.first_list.saturating_add(lists);
         push_shapes_of(alloc, annotation, &mut layout)?;
         let structs = structs_of(alloc, &layout, classes, annotation)?;
         layout.structs = structs;
@@ -158,6 +224,18 @@ impl Layout {
     /// Whether a struct is that of tuples.
     pub fn is_tuple(&self, number: u64) -> bool {
         self.first_tuple <= number && number - self.first_tuple < self.shapes.len() as u64
+    }
+
+    /// Whether a struct is that of lists.
+    pub fn is_list(&self, number: u64) -> bool {
+        let mut list = self.first_list;
+        for _ in 0..self.lists.len() {
+            if number == list {
+                return true;
+            }
+            list = list.saturating_add(2);
+        }
+        false
     }
 
     /// The types of the fields of a struct, those of its base aside.

@@ -3,7 +3,8 @@ use crate::kind::{Kind, kind_of};
 use crate::layout::Layout;
 use ann_element::Element;
 use ll_code::LlType;
-use rpy_base::{NoMem, Seq};
+use rpy_base::{NoMem, Seq, Text};
+use rpy_tree::{ClassId, SiteId};
 use std::alloc::Global;
 
 /// The type of a field: what is never there may have any.
@@ -16,14 +17,18 @@ pub fn field_type(kind: LlType) -> LlType {
 
 fn plain_type(kind: Kind) -> LlType {
     match kind {
-        Kind::Word | Kind::Count => LlType::Signed,
+        Kind::Word => LlType::Signed,
         Kind::Flag | Kind::Nothing => LlType::Bool,
         Kind::Byte => LlType::Char,
         Kind::Text | Kind::MaybeText => LlType::Ptr(0),
         Kind::Function | Kind::MaybeFunction => LlType::Fn,
-        Kind::Tuple | Kind::Instance | Kind::MaybeInstance | Kind::Never | Kind::Other => {
-            LlType::Void
-        }
+        Kind::Tuple
+        | Kind::Instance
+        | Kind::MaybeInstance
+        | Kind::List
+        | Kind::MaybeList
+        | Kind::Never
+        | Kind::Other => LlType::Void,
     }
 }
 
@@ -60,6 +65,17 @@ fn place_of(layout: &Layout, parts: &[Element]) -> Option<u64> {
     None
 }
 
+// Each class of sites has a struct, that of its arrays follows it.
+fn list_type(layout: &Layout, site: SiteId) -> LlType {
+    match place_of_site(layout.lists.as_slice(), site) {
+        None => LlType::Void,
+        Some(place) => {
+            let before = place.saturating_mul(2);
+            LlType::Ptr(layout.first_list.saturating_add(before))
+        }
+    }
+}
+
 /// The type of the values of an element. What has a kind that is not translated has none.
 #[cycle(repr)]
 pub fn repr(layout: &Layout, element: &Element) -> LlType {
@@ -68,6 +84,7 @@ pub fn repr(layout: &Layout, element: &Element) -> LlType {
             None => LlType::Void,
             Some(place) => LlType::Ptr(layout.first_tuple.saturating_add(place)),
         },
+        Element::List(site, _) => list_type(layout, *site),
         Element::Instance(class, _) => match layout.laid(*class) {
             None => LlType::Void,
             Some(laid) => LlType::Ptr(laid.root),
@@ -82,6 +99,62 @@ pub fn repr_seen(layout: &Layout, element: Option<&Element>) -> LlType {
         None => LlType::Void,
         Some(element) => repr(layout, element),
     }
+}
+
+// ---- lists
+
+fn place_of_site(sites: &[SiteId], site: SiteId) -> Option<u64> {
+    let mut place: u64 = 0;
+    for each in sites {
+        if *each == site {
+            return Some(place);
+        }
+        place = place.saturating_add(1);
+    }
+    None
+}
+
+// The sites of lists inside an element.
+#[cycle(sites)]
+fn push_sites(element: &Element, sites: &mut Seq<SiteId>) -> Result<(), NoMem> {
+    match element {
+        Element::Tuple(parts) => push_sites_in(parts.as_slice(), sites),
+        Element::List(site, _) => {
+            if place_of_site(sites.as_slice(), *site).is_some() {
+                return Ok(());
+            }
+            sites.push(*site)
+        }
+        _ => Ok(()),
+    }
+}
+
+/// The sites of lists inside elements.
+#[cycle(sites)]
+pub fn push_sites_in(elements: &[Element], sites: &mut Seq<SiteId>) -> Result<(), NoMem> {
+    for element in elements {
+        push_sites(element, sites)?;
+    }
+    Ok(())
+}
+
+/// The sites of lists inside rows of elements.
+pub fn push_all_sites(rows: &[Seq<Element>], sites: &mut Seq<SiteId>) -> Result<(), NoMem> {
+    for row in rows {
+        push_sites_in(row.as_slice(), sites)?;
+    }
+    Ok(())
+}
+
+/// The sites of lists inside the elements of attributes.
+pub fn push_attribute_sites(
+    attributes: &[(ClassId, Text, Element)],
+    sites: &mut Seq<SiteId>,
+) -> Result<(), NoMem> {
+    for attribute in attributes {
+        push_sites(&attribute.2, sites)?;
+    }
+    Ok(())
 }
 
 // ---- shapes
@@ -142,7 +215,7 @@ pub fn push_all_shapes(
 /// The shapes inside the elements of attributes.
 pub fn push_attribute_shapes(
     alloc: Global,
-    attributes: &[(rpy_tree::ClassId, rpy_base::Text, Element)],
+    attributes: &[(ClassId, Text, Element)],
     layout: &mut Layout,
 ) -> Result<(), NoMem> {
     for attribute in attributes {

@@ -155,7 +155,7 @@ fn branch(
     found: &mut Found,
     body: &mut Body,
 ) -> Result<LlExit, NoMem> {
-    match truth_of(alloc, operand_of(lowered, v), found, body)? {
+    match truth_of(alloc, lowered.around, operand_of(lowered, v), found, body)? {
         Test::Known(true) => Ok(LlExit::Goto(link_of(alloc, lowered, there, None, found, body)?)),
         Test::Known(false) => Ok(LlExit::Goto(link_of(
             alloc, lowered, elsewhere, None, found, body,

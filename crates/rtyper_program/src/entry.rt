@@ -35,16 +35,16 @@ fn given_back(into: Option<u64>) -> COperand {
     }
 }
 
-fn ops(alloc: Global, number: u64, into: Option<u64>) -> Result<Seq<LlOp>, NoMem> {
+fn ops(alloc: Global, number: u64, into: Option<u64>, arguments: u64) -> Result<Seq<LlOp>, NoMem> {
     let mut ops = Seq::new(alloc);
-    ops.push(LlOp::Argc(0))?;
+    ops.push(LlOp::Call(Some(0), arguments, Seq::new(alloc)))?;
     ops.push(LlOp::Call(into, number, operands(alloc, COperand::Var(0))?))?;
     Ok(ops)
 }
 
-fn types(alloc: Global, laid: Option<Laid>) -> Result<Seq<LlType>, NoMem> {
+fn types(alloc: Global, list: u64, laid: Option<Laid>) -> Result<Seq<LlType>, NoMem> {
     let mut types = Seq::new(alloc);
-    types.push(LlType::Signed)?;
+    types.push(LlType::Ptr(list))?;
     types.push(LlType::Signed)?;
     if let Some(laid) = laid {
         types.push(LlType::Ptr(laid.root))?;
@@ -87,10 +87,11 @@ fn blocks(
     alloc: Global,
     number: u64,
     into: Option<u64>,
+    arguments: u64,
     laid: Option<Laid>,
 ) -> Result<Seq<LlBlock>, NoMem> {
     let mut blocks = Seq::new(alloc);
-    let ops = ops(alloc, number, into)?;
+    let ops = ops(alloc, number, into, arguments)?;
     let Some(laid) = laid else {
         blocks.push(LlBlock {
             inputs: Seq::new(alloc),
@@ -111,9 +112,14 @@ fn blocks(
     Ok(blocks)
 }
 
-/// It calls the entry point with the count of the arguments. An exception that leaves the entry point
-/// ends the run.
-pub fn entry_graph(alloc: Global, known: Known<'_>, around: Around<'_>) -> Result<LlGraph, NoMem> {
+/// It calls the entry point with the list of arguments, which the graph of that number makes. An
+/// exception that leaves the entry point ends the run.
+pub fn entry_graph(
+    alloc: Global,
+    known: Known<'_>,
+    around: Around<'_>,
+    arguments: u64,
+) -> Result<LlGraph, NoMem> {
     let entry = known.program.entry as usize;
     let number = match around.numbers.get(entry) {
         None => 0,
@@ -125,7 +131,7 @@ pub fn entry_graph(alloc: Global, known: Known<'_>, around: Around<'_>) -> Resul
         name: Text::from_bytes(alloc, b"entry")?,
         params: Seq::new(alloc),
         result: LlType::Signed,
-        types: types(alloc, laid)?,
-        blocks: blocks(alloc, number, into, laid)?,
+        types: types(alloc, around.layout.first_list, laid)?,
+        blocks: blocks(alloc, number, into, arguments, laid)?,
     })
 }

@@ -1,31 +1,16 @@
-// What has no lowering yet: lists and dicts, and what reads the arguments of the program for more than
-// their count.
+// What has no lowering yet: dicts.
 use crate::known::variable_kind;
 use ann_element::Annotation;
 use flow_graph::{Exit, Graph, Link, Op};
-use rpy_meaning::RowOp;
 use rtyper_layout::Kind;
 
-// A value of such a program. The arguments have another kind.
 fn is_plain(kind: Kind) -> bool {
-    match kind {
-        Kind::Count | Kind::Other => false,
-        _ => true,
-    }
-}
-
-// The arguments are read where their count is asked, and nowhere else.
-fn reads_arguments(op: &Op) -> bool {
-    match &op.op {
-        RowOp::Copy => op.value,
-        _ => false,
-    }
+    kind != Kind::Other
 }
 
 /// Whether an operation may have a lowering, as far as its result says.
 pub fn is_op_known(annotation: &Annotation, graph: usize, op: &Op) -> bool {
-    let given = variable_kind(annotation, graph, op.result);
-    is_plain(given) || reads_arguments(op)
+    is_plain(variable_kind(annotation, graph, op.result))
 }
 
 /// Whether exceptions leave the graph from where they are raised.

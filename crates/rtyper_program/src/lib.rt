@@ -1,7 +1,6 @@
 //! Flow graphs and their annotation to low-level programs.
 #![tactic(auto)]
 
-mod arguments;
 mod blocks;
 mod entry;
 mod exits;

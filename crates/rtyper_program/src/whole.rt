@@ -1,5 +1,4 @@
 // Whole programs.
-use crate::arguments::are_arguments_in_place;
 use crate::entry::entry_graph;
 use crate::graph::graph_of;
 use crate::known::{Known, is_reached};
@@ -12,7 +11,7 @@ use rpy_base::{NoMem, Seq};
 use rpy_meaning::Covers;
 use rpy_resolved::Resolved;
 use rtyper_class::{class_graph, push_exceptions, push_vtables};
-use rtyper_data::{Around, Found};
+use rtyper_data::{Around, Found, Listed, Small, push_prebuilt, small_number};
 use rtyper_layout::{Layout, repr_seen};
 use std::alloc::Global;
 
@@ -94,7 +93,14 @@ fn around_of<'a>(
         attributes: known.annotation.attributes.as_slice(),
         first_vtable,
         first_exception: first_vtable.saturating_add(vtables),
+        sites: known.program.sites.as_slice(),
+        same: &known.annotation.same,
     }
+}
+
+// The number of the graph that makes the list of arguments, whose site is the first.
+fn arguments_number(layout: &Layout, found: &mut Found) -> Result<u64, NoMem> {
+    small_number(Small::Listed(Listed::Arguments(layout.first_list)), found)
 }
 
 // What the program asks for. The graphs that are written on the way have numbers that mean nothing.
@@ -107,8 +113,10 @@ fn found_in(
     let mut found = Found::new(alloc);
     let numbers = numbers_of(alloc, known, 0)?;
     let around = around_of(known, classes, layout, numbers.as_slice(), 0);
+    push_prebuilt(alloc, around, &mut found)?;
     let mut written = Seq::new(alloc);
     push_functions(alloc, known, around, &mut found, &mut written)?;
+    arguments_number(layout, &mut found)?;
     push_smalls(alloc, around, &mut found, &mut written)?;
     Ok(found)
 }
@@ -143,11 +151,13 @@ fn program_of(
     push_vtables(alloc, around, known.program, reached, &mut given)?;
     push_exceptions(alloc, around, &mut given)?;
     let mut found = Found::again(alloc, needs, caught, given, first_small);
+    push_prebuilt(alloc, around, &mut found)?;
     let mut made = raising_graphs(alloc, plain, &mut found)?;
     push_functions(alloc, known, around, &mut found, &mut made)?;
+    let arguments = arguments_number(layout, &mut found)?;
     push_smalls(alloc, around, &mut found, &mut made)?;
     let entry = made.len() as u64;
-    made.push(entry_graph(alloc, known, around)?)?;
+    made.push(entry_graph(alloc, known, around, arguments)?)?;
     Ok(LlProgram {
         stage,
         structs,
@@ -169,9 +179,6 @@ pub fn rtype(
     classes: &Classes,
 ) -> Result<Option<LlProgram>, NoMem> {
     let known = Known::new(program, graphs, annotation);
-    if !are_arguments_in_place(annotation, known.graphs, program.entry) {
-        return Ok(None);
-    }
     let layout = Layout::new(alloc, program, classes, annotation, raises(known))?;
     let found = found_in(alloc, known, classes, &layout)?;
     if found.unknown {

@@ -1,0 +1,16 @@
+//! The lowering of operations on lists, and of what strings make of lists. A list is a struct with its
+//! length and a pointer to an array, which may be longer.
+#![tactic(auto)]
+
+mod arguments;
+mod build;
+mod change;
+mod graph;
+mod loops;
+mod make;
+mod operation;
+mod shape;
+mod splits;
+
+pub use graph::list_graph;
+pub use operation::lower_list_op;
