@@ -17,6 +17,7 @@ mod prebuilt;
 mod small;
 mod text;
 mod tuple;
+mod write;
 
 pub use body::{Around, Body, Operand, Place, operand_at};
 pub use call::{arguments, push_call};
@@ -36,3 +37,4 @@ pub use small::{
 };
 pub use text::{Test, truth_of};
 pub use tuple::variable_of;
+pub use write::{and, goto, op, op_made, ops, written};

@@ -1,10 +1,10 @@
 // Lists that are made: all is paid before.
 use crate::build::{block, fork, link, none, var, word};
-use crate::shape::{Shape, array, call, give, graph_of, kinds, length, set_length};
+use crate::shape::{Shape, array, call, give, graph_of, graph_written, kinds, length, set_length};
 use csub_tree::{CBinary, COperand};
 use ll_code::{LlBlock, LlExit, LlGraph, LlOp, LlType};
 use rpy_base::{NoMem, Seq};
-use rtyper_data::{Found, Listed};
+use rtyper_data::{Found, Listed, and, op, op_made, ops, written};
 use std::alloc::Global;
 
 const SIGNED: LlType = LlType::Signed;
@@ -158,15 +158,46 @@ pub fn repeat(alloc: Global, a: Shape, r: Shape, found: &mut Found) -> Result<Ll
 
 fn cut_out(alloc: Global, a: Shape, r: Shape, found: &mut Found) -> Result<LlBlock, NoMem> {
     let xs = [var(7), var(1), var(6), word(0), var(8)];
-    let mut ops = Seq::new(alloc);
-    ops.push(LlOp::Binary(8, CBinary::Sub, var(2), var(1)))?;
-    ops.push(LlOp::Step(word(1)))?;
-    ops.push(LlOp::Step(var(8)))?;
-    ops.push(call(alloc, Some(5), Listed::Make(r.list), [var(8)], found)?)?;
-    ops.push(array(6, r, 5))?;
-    ops.push(array(7, a, 0))?;
-    ops.push(call(alloc, None, Listed::Copy(a.array, r.array), xs, found)?)?;
-    block(alloc, [0, 1, 2], ops, give(5))
+    let made = call(alloc, Some(5), Listed::Make(r.list), [var(8)], found);
+    let copied = call(alloc, None, Listed::Copy(a.array, r.array), xs, found);
+    let count = ops(
+        alloc,
+        [
+            LlOp::Binary(8, CBinary::Sub, var(2), var(1)),
+            LlOp::Step(word(1)),
+            LlOp::Step(var(8)),
+        ],
+    );
+    let list = op_made(count, made);
+    let both = op(op(list, array(6, r, 5)), array(7, a, 0));
+    written(alloc, [0, 1, 2], op_made(both, copied), Ok(give(5)))
+}
+
+// A test of the bounds, which goes on at one of two blocks.
+fn bound<const N: usize>(
+    alloc: Global,
+    test: LlOp,
+    there: u64,
+    xs: [COperand; N],
+    elsewhere: u64,
+) -> Result<LlBlock, NoMem> {
+    let all = [var(0), var(1), var(2)];
+    let exit = fork(alloc, 4, there, xs, elsewhere, all);
+    written(alloc, [0, 1, 2], ops(alloc, [test]), exit)
+}
+
+// Whether the end lies within the list.
+fn ended(alloc: Global, a: Shape) -> Result<LlBlock, NoMem> {
+    let exit = fork(
+        alloc,
+        4,
+        3,
+        [var(0), var(1), var(3)],
+        3,
+        [var(0), var(1), var(2)],
+    );
+    let asked = [length(3, a, 0), LlOp::Binary(4, CBinary::Lt, var(3), var(2))];
+    written(alloc, [0, 1, 2], ops(alloc, asked), exit)
 }
 
 /// The items between two bounds, which are cut at the length.
@@ -184,28 +215,18 @@ pub fn slice(alloc: Global, a: Shape, r: Shape, found: &mut Found) -> Result<LlG
             LlType::Ptr(a.array),
             SIGNED,
         ],
-    )?;
-    let all = [var(0), var(1), var(2)];
-    let mut low = Seq::new(alloc);
-    low.push(LlOp::Binary(4, CBinary::Lt, var(1), word(0)))?;
-    let mut high = Seq::new(alloc);
-    high.push(LlOp::Binary(4, CBinary::Lt, var(2), word(0)))?;
-    let end = LlOp::Binary(4, CBinary::Lt, var(3), var(2));
-    let mut ended = Seq::new(alloc);
-    ended.push(length(3, a, 0))?;
-    ended.push(end)?;
-    let at_end = [var(0), var(1), var(3)];
-    let mut past = Seq::new(alloc);
-    past.push(LlOp::Binary(4, CBinary::Lt, var(2), var(1)))?;
-    let empty = [var(0), var(2), var(2)];
-    let mut blocks = Seq::new(alloc);
-    blocks.push(block(alloc, [0, 1, 2], low, fork(alloc, 4, 5, [], 1, all)?)?)?;
-    blocks.push(block(alloc, [0, 1, 2], high, fork(alloc, 4, 5, [], 2, all)?)?)?;
-    blocks.push(block(alloc, [0, 1, 2], ended, fork(alloc, 4, 3, at_end, 3, all)?)?)?;
-    blocks.push(block(alloc, [0, 1, 2], past, fork(alloc, 4, 4, empty, 4, all)?)?)?;
-    blocks.push(cut_out(alloc, a, r, found)?)?;
-    blocks.push(negative(alloc)?)?;
-    graph_of(alloc, b"list_slice", 3, LlType::Ptr(r.list), types, blocks)
+    );
+    let low = LlOp::Binary(4, CBinary::Lt, var(1), word(0));
+    let high = LlOp::Binary(4, CBinary::Lt, var(2), word(0));
+    let past = LlOp::Binary(4, CBinary::Lt, var(2), var(1));
+    let blocks = Ok(Seq::new(alloc));
+    let blocks = and(blocks, bound(alloc, low, 5, [], 1));
+    let blocks = and(blocks, bound(alloc, high, 5, [], 2));
+    let blocks = and(blocks, ended(alloc, a));
+    let blocks = and(blocks, bound(alloc, past, 4, [var(0), var(2), var(2)], 4));
+    let blocks = and(blocks, cut_out(alloc, a, r, found));
+    let blocks = and(blocks, negative(alloc));
+    graph_written(alloc, b"list_slice", 3, LlType::Ptr(r.list), types, blocks)
 }
 
 /// All items but the last.

@@ -88,6 +88,18 @@ pub fn graph_of(
     })
 }
 
+/// A graph, where there was memory for its parts.
+pub fn graph_written(
+    alloc: Global,
+    name: &[u8],
+    params: u64,
+    gives: LlType,
+    types: Result<Seq<LlType>, NoMem>,
+    blocks: Result<Seq<LlBlock>, NoMem>,
+) -> Result<LlGraph, NoMem> {
+    graph_of(alloc, name, params, gives, types?, blocks?)
+}
+
 pub fn give(v: VarId) -> LlExit {
     LlExit::Return(Some(COperand::Var(v)))
 }
