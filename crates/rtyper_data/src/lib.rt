@@ -37,4 +37,4 @@ pub use small::{
 };
 pub use text::{Test, truth_of};
 pub use tuple::variable_of;
-pub use write::{and, goto, op, op_made, ops, written};
+pub use write::{and, goto, op, op_made, ops, passes, written};

@@ -47,6 +47,16 @@ pub fn written<const N: usize>(
     crate::small::block(alloc, inputs, ops?, exit?)
 }
 
+/// A block without operations.
+pub fn passes<const N: usize>(
+    alloc: Global,
+    inputs: [VarId; N],
+    exit: Result<LlExit, NoMem>,
+) -> Result<LlBlock, NoMem> {
+    let none: Seq<LlOp> = Seq::new(alloc);
+    crate::small::block(alloc, inputs, none, exit?)
+}
+
 /// One block more.
 pub fn and(
     blocks: Result<Seq<LlBlock>, NoMem>,

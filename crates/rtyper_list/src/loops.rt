@@ -1,10 +1,10 @@
 // The loops over arrays. None of them pays a step.
-use crate::build::{block, flag, fork, link, none, var, word};
-use crate::shape::{Shape, give, graph_of, item_of, kinds};
+use crate::build::{flag, fork, none, var, word};
+use crate::shape::{Shape, give, graph_written, item_of, kinds};
 use csub_tree::{CBinary, COperand};
 use ll_code::{LlBlock, LlExit, LlGraph, LlOp, LlType};
 use rpy_base::{NoMem, Seq};
-use rtyper_data::{Body, Found, equal, value_as};
+use rtyper_data::{Body, Found, and, equal, goto, ops, passes, value_as, written};
 use rtyper_layout::Layout;
 use std::alloc::Global;
 
@@ -69,19 +69,18 @@ pub fn copy_items(
         ],
     )?;
     copied(alloc, layout, from, to, found, &mut body)?;
-    let Body { types, ops } = body;
+    let Body { types, ops: turn } = body;
     let all = [var(0), var(1), var(2), var(3), var(4)];
-    let start = LlExit::Goto(link(alloc, 1, all)?);
-    let again = LlExit::Goto(link(alloc, 1, [var(0), var(6), var(2), var(7), var(8)])?);
-    let mut asked = Seq::new(alloc);
-    asked.push(LlOp::Binary(5, CBinary::Gt, var(4), word(0)))?;
-    let more = fork(alloc, 5, 2, all, 3, [])?;
-    let mut blocks = Seq::new(alloc);
-    blocks.push(none(alloc, [0, 1, 2, 3, 4], start)?)?;
-    blocks.push(block(alloc, [0, 1, 2, 3, 4], asked, more)?)?;
-    blocks.push(block(alloc, [0, 1, 2, 3, 4], ops, again)?)?;
-    blocks.push(nothing_left(alloc)?)?;
-    graph_of(alloc, b"copy_items", 5, LlType::Void, types, blocks)
+    let start = goto(alloc, 1, all);
+    let again = goto(alloc, 1, [var(0), var(6), var(2), var(7), var(8)]);
+    let asked = ops(alloc, [LlOp::Binary(5, CBinary::Gt, var(4), word(0))]);
+    let more = fork(alloc, 5, 2, all, 3, []);
+    let blocks = Ok(Seq::new(alloc));
+    let blocks = and(blocks, passes(alloc, [0, 1, 2, 3, 4], start));
+    let blocks = and(blocks, written(alloc, [0, 1, 2, 3, 4], asked, more));
+    let blocks = and(blocks, written(alloc, [0, 1, 2, 3, 4], Ok(turn), again));
+    let blocks = and(blocks, nothing_left(alloc));
+    graph_written(alloc, b"copy_items", 5, LlType::Void, Ok(types), blocks)
 }
 
 // ---- so many items of an array, from a place on, one place up, the last one first
@@ -101,25 +100,28 @@ pub fn move_up(alloc: Global, layout: &Layout, array: u64) -> Result<LlGraph, No
             item,
             SIGNED,
         ],
-    )?;
+    );
     let all = [var(0), var(1), var(2)];
-    let start = LlExit::Goto(link(alloc, 1, all)?);
-    let again = LlExit::Goto(link(alloc, 1, [var(0), var(1), var(4)])?);
-    let mut asked = Seq::new(alloc);
-    asked.push(LlOp::Binary(3, CBinary::Gt, var(2), word(0)))?;
-    let more = fork(alloc, 3, 2, all, 3, [])?;
-    let mut ops = Seq::new(alloc);
-    ops.push(LlOp::Binary(4, CBinary::Sub, var(2), word(1)))?;
-    ops.push(LlOp::Binary(5, CBinary::Add, var(1), var(4)))?;
-    ops.push(LlOp::GetItem(6, array, 0, var(5)))?;
-    ops.push(LlOp::Binary(7, CBinary::Add, var(5), word(1)))?;
-    ops.push(LlOp::SetItem(array, 0, var(7), var(6)))?;
-    let mut blocks = Seq::new(alloc);
-    blocks.push(none(alloc, [0, 1, 2], start)?)?;
-    blocks.push(block(alloc, [0, 1, 2], asked, more)?)?;
-    blocks.push(block(alloc, [0, 1, 2], ops, again)?)?;
-    blocks.push(nothing_left(alloc)?)?;
-    graph_of(alloc, b"move_up", 3, LlType::Void, types, blocks)
+    let start = goto(alloc, 1, all);
+    let again = goto(alloc, 1, [var(0), var(1), var(4)]);
+    let asked = ops(alloc, [LlOp::Binary(3, CBinary::Gt, var(2), word(0))]);
+    let more = fork(alloc, 3, 2, all, 3, []);
+    let ops = ops(
+        alloc,
+        [
+            LlOp::Binary(4, CBinary::Sub, var(2), word(1)),
+            LlOp::Binary(5, CBinary::Add, var(1), var(4)),
+            LlOp::GetItem(6, array, 0, var(5)),
+            LlOp::Binary(7, CBinary::Add, var(5), word(1)),
+            LlOp::SetItem(array, 0, var(7), var(6)),
+        ],
+    );
+    let blocks = Ok(Seq::new(alloc));
+    let blocks = and(blocks, passes(alloc, [0, 1, 2], start));
+    let blocks = and(blocks, written(alloc, [0, 1, 2], asked, more));
+    let blocks = and(blocks, written(alloc, [0, 1, 2], ops, again));
+    let blocks = and(blocks, nothing_left(alloc));
+    graph_written(alloc, b"move_up", 3, LlType::Void, types, blocks)
 }
 
 // ---- the items of a list in the opposite order
@@ -139,29 +141,36 @@ pub fn reverse(alloc: Global, shape: Shape) -> Result<LlGraph, NoMem> {
             SIGNED,
             SIGNED,
         ],
-    )?;
-    let mut first = Seq::new(alloc);
-    first.push(crate::shape::length(7, shape, 0))?;
-    first.push(LlOp::Binary(3, CBinary::Sub, var(7), word(1)))?;
-    first.push(crate::shape::array(1, shape, 0))?;
-    let start = LlExit::Goto(link(alloc, 1, [var(1), word(0), var(3)])?);
-    let mut asked = Seq::new(alloc);
-    asked.push(LlOp::Binary(4, CBinary::Lt, var(2), var(3)))?;
-    let more = fork(alloc, 4, 2, [var(1), var(2), var(3)], 3, [])?;
-    let mut swapped = Seq::new(alloc);
-    swapped.push(LlOp::GetItem(5, shape.array, 1, var(2)))?;
-    swapped.push(LlOp::GetItem(6, shape.array, 1, var(3)))?;
-    swapped.push(LlOp::SetItem(shape.array, 1, var(2), var(6)))?;
-    swapped.push(LlOp::SetItem(shape.array, 1, var(3), var(5)))?;
-    swapped.push(LlOp::Binary(7, CBinary::Add, var(2), word(1)))?;
-    swapped.push(LlOp::Binary(8, CBinary::Sub, var(3), word(1)))?;
-    let again = LlExit::Goto(link(alloc, 1, [var(1), var(7), var(8)])?);
-    let mut blocks = Seq::new(alloc);
-    blocks.push(block(alloc, [0], first, start)?)?;
-    blocks.push(block(alloc, [1, 2, 3], asked, more)?)?;
-    blocks.push(block(alloc, [1, 2, 3], swapped, again)?)?;
-    blocks.push(nothing_left(alloc)?)?;
-    graph_of(alloc, b"list_reverse", 1, LlType::Void, types, blocks)
+    );
+    let first = ops(
+        alloc,
+        [
+            crate::shape::length(7, shape, 0),
+            LlOp::Binary(3, CBinary::Sub, var(7), word(1)),
+            crate::shape::array(1, shape, 0),
+        ],
+    );
+    let start = goto(alloc, 1, [var(1), word(0), var(3)]);
+    let asked = ops(alloc, [LlOp::Binary(4, CBinary::Lt, var(2), var(3))]);
+    let more = fork(alloc, 4, 2, [var(1), var(2), var(3)], 3, []);
+    let swapped = ops(
+        alloc,
+        [
+            LlOp::GetItem(5, shape.array, 1, var(2)),
+            LlOp::GetItem(6, shape.array, 1, var(3)),
+            LlOp::SetItem(shape.array, 1, var(2), var(6)),
+            LlOp::SetItem(shape.array, 1, var(3), var(5)),
+            LlOp::Binary(7, CBinary::Add, var(2), word(1)),
+            LlOp::Binary(8, CBinary::Sub, var(3), word(1)),
+        ],
+    );
+    let again = goto(alloc, 1, [var(1), var(7), var(8)]);
+    let blocks = Ok(Seq::new(alloc));
+    let blocks = and(blocks, written(alloc, [0], first, start));
+    let blocks = and(blocks, written(alloc, [1, 2, 3], asked, more));
+    let blocks = and(blocks, written(alloc, [1, 2, 3], swapped, again));
+    let blocks = and(blocks, nothing_left(alloc));
+    graph_written(alloc, b"list_reverse", 1, LlType::Void, types, blocks)
 }
 
 // ---- whether a value is one of the items
@@ -224,24 +233,27 @@ pub fn contains(
     )?;
     let same = same_item(alloc, layout, kind, shape, found, &mut body)?;
     let same = tested(same, &mut body)?;
-    let Body { types, ops } = body;
-    let mut first = Seq::new(alloc);
-    first.push(crate::shape::length(3, shape, 1))?;
-    first.push(crate::shape::array(2, shape, 1))?;
-    let start = LlExit::Goto(link(alloc, 1, [var(0), var(2), var(3), word(0)])?);
-    let mut asked = Seq::new(alloc);
-    asked.push(LlOp::Binary(5, CBinary::Lt, var(4), var(3)))?;
+    let Body { types, ops: turn } = body;
+    let first = ops(
+        alloc,
+        [
+            crate::shape::length(3, shape, 1),
+            crate::shape::array(2, shape, 1),
+        ],
+    );
+    let start = goto(alloc, 1, [var(0), var(2), var(3), word(0)]);
+    let asked = ops(alloc, [LlOp::Binary(5, CBinary::Lt, var(4), var(3))]);
     let all = [var(0), var(2), var(3), var(4)];
-    let more = fork(alloc, 5, 2, all, 4, [])?;
+    let more = fork(alloc, 5, 2, all, 4, []);
     let next = [var(0), var(2), var(3), var(6)];
-    let further = fork(alloc, same, 3, [], 1, next)?;
-    let mut blocks = Seq::new(alloc);
-    blocks.push(block(alloc, [0, 1], first, start)?)?;
-    blocks.push(block(alloc, [0, 2, 3, 4], asked, more)?)?;
-    blocks.push(block(alloc, [0, 2, 3, 4], ops, further)?)?;
-    blocks.push(none(alloc, [], LlExit::Return(Some(flag(true))))?)?;
-    blocks.push(none(alloc, [], LlExit::Return(Some(flag(false))))?)?;
-    graph_of(alloc, b"list_contains", 2, LlType::Bool, types, blocks)
+    let further = fork(alloc, same, 3, [], 1, next);
+    let blocks = Ok(Seq::new(alloc));
+    let blocks = and(blocks, written(alloc, [0, 1], first, start));
+    let blocks = and(blocks, written(alloc, [0, 2, 3, 4], asked, more));
+    let blocks = and(blocks, written(alloc, [0, 2, 3, 4], Ok(turn), further));
+    let blocks = and(blocks, none(alloc, [], LlExit::Return(Some(flag(true)))));
+    let blocks = and(blocks, none(alloc, [], LlExit::Return(Some(flag(false)))));
+    graph_written(alloc, b"list_contains", 2, LlType::Bool, Ok(types), blocks)
 }
 
 // ---- the place that an index names: one below zero counts from the end; outside there is none
@@ -256,41 +268,51 @@ pub fn place(alloc: Global, shape: Shape, outside: LlBlock) -> Result<LlGraph, N
             LlType::Bool,
             SIGNED,
         ],
-    )?;
+    );
     let below = LlOp::Binary(3, CBinary::Lt, var(1), word(0));
-    let mut first = Seq::new(alloc);
-    first.push(crate::shape::length(2, shape, 0))?;
-    first.push(below)?;
+    let first = ops(alloc, [crate::shape::length(2, shape, 0), below]);
     let both = [var(1), var(2)];
-    let mut moved = Seq::new(alloc);
-    moved.push(LlOp::Binary(4, CBinary::Add, var(1), var(2)))?;
-    let mut low = Seq::new(alloc);
-    low.push(LlOp::Binary(3, CBinary::Lt, var(1), word(0)))?;
-    let mut high = Seq::new(alloc);
-    high.push(LlOp::Binary(3, CBinary::Lt, var(1), var(2)))?;
-    let goes_on = LlExit::Goto(link(alloc, 2, [var(4), var(2)])?);
-    let mut blocks = Seq::new(alloc);
-    blocks.push(block(alloc, [0, 1], first, fork(alloc, 3, 1, both, 2, both)?)?)?;
-    blocks.push(block(alloc, [1, 2], moved, goes_on)?)?;
-    blocks.push(block(alloc, [1, 2], low, fork(alloc, 3, 4, [], 3, both)?)?)?;
-    blocks.push(block(alloc, [1, 2], high, fork(alloc, 3, 5, [var(1)], 4, [])?)?)?;
-    blocks.push(outside)?;
-    blocks.push(none(alloc, [1], give(1))?)?;
-    graph_of(alloc, b"list_place", 2, SIGNED, types, blocks)
+    let moved = ops(alloc, [LlOp::Binary(4, CBinary::Add, var(1), var(2))]);
+    let low = ops(alloc, [LlOp::Binary(3, CBinary::Lt, var(1), word(0))]);
+    let high = ops(alloc, [LlOp::Binary(3, CBinary::Lt, var(1), var(2))]);
+    let goes_on = goto(alloc, 2, [var(4), var(2)]);
+    let blocks = Ok(Seq::new(alloc));
+    let blocks = and(
+        blocks,
+        written(alloc, [0, 1], first, fork(alloc, 3, 1, both, 2, both)),
+    );
+    let blocks = and(blocks, written(alloc, [1, 2], moved, goes_on));
+    let blocks = and(
+        blocks,
+        written(alloc, [1, 2], low, fork(alloc, 3, 4, [], 3, both)),
+    );
+    let blocks = and(
+        blocks,
+        written(alloc, [1, 2], high, fork(alloc, 3, 5, [var(1)], 4, [])),
+    );
+    let blocks = and(blocks, Ok(outside));
+    let blocks = and(blocks, none(alloc, [1], give(1)));
+    graph_written(alloc, b"list_place", 2, SIGNED, types, blocks)
 }
 
 /// Whether a list, or `None`, has items.
 pub fn truth(alloc: Global, shape: Shape) -> Result<LlGraph, NoMem> {
-    let types = kinds(alloc, [LlType::Ptr(shape.list), LlType::Bool, SIGNED])?;
+    let types = kinds(alloc, [LlType::Ptr(shape.list), LlType::Bool, SIGNED]);
     let null = COperand::Const(csub_tree::CConst::Null);
-    let mut asked = Seq::new(alloc);
-    asked.push(LlOp::Binary(1, CBinary::Peq, var(0), null))?;
-    let mut ops = Seq::new(alloc);
-    ops.push(crate::shape::length(2, shape, 0))?;
-    ops.push(LlOp::Binary(1, CBinary::Ne, var(2), word(0)))?;
-    let mut blocks = Seq::new(alloc);
-    blocks.push(block(alloc, [0], asked, fork(alloc, 1, 1, [], 2, [var(0)])?)?)?;
-    blocks.push(none(alloc, [], LlExit::Return(Some(flag(false))))?)?;
-    blocks.push(block(alloc, [0], ops, give(1))?)?;
-    graph_of(alloc, b"list_truth", 1, LlType::Bool, types, blocks)
+    let asked = ops(alloc, [LlOp::Binary(1, CBinary::Peq, var(0), null)]);
+    let ops = ops(
+        alloc,
+        [
+            crate::shape::length(2, shape, 0),
+            LlOp::Binary(1, CBinary::Ne, var(2), word(0)),
+        ],
+    );
+    let blocks = Ok(Seq::new(alloc));
+    let blocks = and(
+        blocks,
+        written(alloc, [0], asked, fork(alloc, 1, 1, [], 2, [var(0)])),
+    );
+    let blocks = and(blocks, none(alloc, [], LlExit::Return(Some(flag(false)))));
+    let blocks = and(blocks, written(alloc, [0], ops, Ok(give(1))));
+    graph_written(alloc, b"list_truth", 1, LlType::Bool, types, blocks)
 }

@@ -1,10 +1,10 @@
 // Lists that are made: all is paid before.
-use crate::build::{block, fork, link, none, var, word};
-use crate::shape::{Shape, array, call, give, graph_of, graph_written, kinds, length, set_length};
+use crate::build::{fork, none, var, word};
+use crate::shape::{Shape, array, call, give, graph_written, kinds, length, set_length};
 use csub_tree::{CBinary, COperand};
 use ll_code::{LlBlock, LlExit, LlGraph, LlOp, LlType};
 use rpy_base::{NoMem, Seq};
-use rtyper_data::{Found, Listed, and, op, op_made, ops, written};
+use rtyper_data::{Found, Listed, and, goto, op, op_made, ops, written};
 use std::alloc::Global;
 
 const SIGNED: LlType = LlType::Signed;
@@ -22,16 +22,20 @@ pub fn make(alloc: Global, shape: Shape) -> Result<LlGraph, NoMem> {
     let types = kinds(
         alloc,
         [SIGNED, LlType::Ptr(shape.array), LlType::Ptr(shape.list)],
-    )?;
-    let mut ops = Seq::new(alloc);
-    ops.push(LlOp::NewArray(1, shape.array, shape.array, var(0)))?;
-    ops.push(LlOp::SetField(shape.array, 1, 0, var(0)))?;
-    ops.push(LlOp::New(2, shape.list, shape.list))?;
-    ops.push(set_length(shape, 2, var(0)))?;
-    ops.push(LlOp::SetField(shape.list, 2, 1, var(1)))?;
-    let mut blocks = Seq::new(alloc);
-    blocks.push(block(alloc, [0], ops, give(2))?)?;
-    graph_of(
+    );
+    let ops = ops(
+        alloc,
+        [
+            LlOp::NewArray(1, shape.array, shape.array, var(0)),
+            LlOp::SetField(shape.array, 1, 0, var(0)),
+            LlOp::New(2, shape.list, shape.list),
+            set_length(shape, 2, var(0)),
+            LlOp::SetField(shape.list, 2, 1, var(1)),
+        ],
+    );
+    let blocks = Ok(Seq::new(alloc));
+    let blocks = and(blocks, written(alloc, [0], ops, Ok(give(2))));
+    graph_written(
         alloc,
         b"list_make",
         1,
@@ -62,51 +66,74 @@ pub fn concat(
             LlType::Ptr(a.array),
             LlType::Ptr(b.array),
         ],
-    )?;
+    );
     let from_a = [var(7), word(0), var(6), word(0), var(2)];
     let from_b = [var(8), word(0), var(6), var(2), var(3)];
-    let mut ops = Seq::new(alloc);
-    ops.push(length(2, a, 0))?;
-    ops.push(length(3, b, 1))?;
-    ops.push(LlOp::Step(word(1)))?;
-    ops.push(LlOp::Step(var(2)))?;
-    ops.push(LlOp::Step(var(3)))?;
-    ops.push(LlOp::Binary(4, CBinary::Add, var(2), var(3)))?;
-    ops.push(call(alloc, Some(5), Listed::Make(r.list), [var(4)], found)?)?;
-    ops.push(array(6, r, 5))?;
-    ops.push(array(7, a, 0))?;
-    ops.push(call(alloc, None, Listed::Copy(a.array, r.array), from_a, found)?)?;
-    ops.push(array(8, b, 1))?;
-    ops.push(call(alloc, None, Listed::Copy(b.array, r.array), from_b, found)?)?;
-    let mut blocks = Seq::new(alloc);
-    blocks.push(block(alloc, [0, 1], ops, give(5))?)?;
-    graph_of(alloc, b"list_concat", 2, LlType::Ptr(r.list), types, blocks)
+    let ops = ops(
+        alloc,
+        [
+            length(2, a, 0),
+            length(3, b, 1),
+            LlOp::Step(word(1)),
+            LlOp::Step(var(2)),
+            LlOp::Step(var(3)),
+            LlOp::Binary(4, CBinary::Add, var(2), var(3)),
+        ],
+    );
+    let ops = op_made(
+        ops,
+        call(alloc, Some(5), Listed::Make(r.list), [var(4)], found),
+    );
+    let ops = op(ops, array(6, r, 5));
+    let ops = op(ops, array(7, a, 0));
+    let ops = op_made(
+        ops,
+        call(alloc, None, Listed::Copy(a.array, r.array), from_a, found),
+    );
+    let ops = op(ops, array(8, b, 1));
+    let ops = op_made(
+        ops,
+        call(alloc, None, Listed::Copy(b.array, r.array), from_b, found),
+    );
+    let blocks = Ok(Seq::new(alloc));
+    let blocks = and(blocks, written(alloc, [0, 1], ops, Ok(give(5))));
+    graph_written(alloc, b"list_concat", 2, LlType::Ptr(r.list), types, blocks)
 }
 
 // ---- a list so many times
 
 // What it costs, where that is a word.
 fn paid(alloc: Global, r: Shape, a: Shape, found: &mut Found) -> Result<LlBlock, NoMem> {
-    let mut ops = Seq::new(alloc);
-    ops.push(LlOp::Binary(4, CBinary::Mul, var(2), var(1)))?;
-    ops.push(LlOp::Step(word(1)))?;
-    ops.push(LlOp::Step(var(4)))?;
-    ops.push(call(alloc, Some(5), Listed::Make(r.list), [var(4)], found)?)?;
-    ops.push(array(6, r, 5))?;
-    ops.push(array(7, a, 0))?;
+    let ops = ops(
+        alloc,
+        [
+            LlOp::Binary(4, CBinary::Mul, var(2), var(1)),
+            LlOp::Step(word(1)),
+            LlOp::Step(var(4)),
+        ],
+    );
+    let ops = op_made(
+        ops,
+        call(alloc, Some(5), Listed::Make(r.list), [var(4)], found),
+    );
+    let ops = op(ops, array(6, r, 5));
+    let ops = op(ops, array(7, a, 0));
     let xs = [var(5), var(6), var(7), var(4), var(2), word(0)];
-    let exit = LlExit::Goto(link(alloc, 5, xs)?);
-    block(alloc, [0, 1, 2], ops, exit)
+    let exit = goto(alloc, 5, xs);
+    written(alloc, [0, 1, 2], ops, exit)
 }
 
 fn once_more(alloc: Global, r: Shape, a: Shape, found: &mut Found) -> Result<LlBlock, NoMem> {
     let xs = [var(7), word(0), var(6), var(8), var(2)];
-    let mut ops = Seq::new(alloc);
-    ops.push(call(alloc, None, Listed::Copy(a.array, r.array), xs, found)?)?;
-    ops.push(LlOp::Binary(9, CBinary::Add, var(8), var(2)))?;
+    let ops = ops(alloc, []);
+    let ops = op_made(
+        ops,
+        call(alloc, None, Listed::Copy(a.array, r.array), xs, found),
+    );
+    let ops = op(ops, LlOp::Binary(9, CBinary::Add, var(8), var(2)));
     let next = [var(5), var(6), var(7), var(4), var(2), var(9)];
-    let exit = LlExit::Goto(link(alloc, 5, next)?);
-    block(alloc, [5, 6, 7, 4, 2, 8], ops, exit)
+    let exit = goto(alloc, 5, next);
+    written(alloc, [5, 6, 7, 4, 2, 8], ops, exit)
 }
 
 pub fn repeat(alloc: Global, a: Shape, r: Shape, found: &mut Found) -> Result<LlGraph, NoMem> {
@@ -124,34 +151,38 @@ pub fn repeat(alloc: Global, a: Shape, r: Shape, found: &mut Found) -> Result<Ll
             SIGNED,
             SIGNED,
         ],
-    )?;
+    );
     let below = LlOp::Binary(3, CBinary::Lt, var(1), word(0));
-    let mut first = Seq::new(alloc);
-    first.push(length(2, a, 0))?;
-    first.push(below)?;
+    let first = ops(alloc, [length(2, a, 0), below]);
     let zero = [var(0), word(0), var(2)];
     let all = [var(0), var(1), var(2)];
-    let mut asked = Seq::new(alloc);
-    asked.push(LlOp::Binary(3, CBinary::MulOvf, var(2), var(1)))?;
-    let mut beyond = Seq::new(alloc);
-    beyond.push(LlOp::Step(word(TOO_MUCH)))?;
-    let mut more = Seq::new(alloc);
-    more.push(LlOp::Binary(3, CBinary::Lt, var(8), var(4)))?;
+    let asked = ops(alloc, [LlOp::Binary(3, CBinary::MulOvf, var(2), var(1))]);
+    let beyond = ops(alloc, [LlOp::Step(word(TOO_MUCH))]);
+    let more = ops(alloc, [LlOp::Binary(3, CBinary::Lt, var(8), var(4))]);
     let turn = [var(5), var(6), var(7), var(4), var(2), var(8)];
-    let mut blocks = Seq::new(alloc);
-    blocks.push(block(alloc, [0, 1], first, fork(alloc, 3, 1, zero, 1, all)?)?)?;
-    blocks.push(block(alloc, [0, 1, 2], asked, fork(alloc, 3, 2, [], 3, all)?)?)?;
-    blocks.push(block(alloc, [], beyond, LlExit::Fail(5))?)?;
-    blocks.push(paid(alloc, r, a, found)?)?;
-    blocks.push(once_more(alloc, r, a, found)?)?;
-    blocks.push(block(
-        alloc,
-        [5, 6, 7, 4, 2, 8],
-        more,
-        fork(alloc, 3, 4, turn, 6, [var(5)])?,
-    )?)?;
-    blocks.push(none(alloc, [5], give(5))?)?;
-    graph_of(alloc, b"list_repeat", 2, LlType::Ptr(r.list), types, blocks)
+    let blocks = Ok(Seq::new(alloc));
+    let blocks = and(
+        blocks,
+        written(alloc, [0, 1], first, fork(alloc, 3, 1, zero, 1, all)),
+    );
+    let blocks = and(
+        blocks,
+        written(alloc, [0, 1, 2], asked, fork(alloc, 3, 2, [], 3, all)),
+    );
+    let blocks = and(blocks, written(alloc, [], beyond, Ok(LlExit::Fail(5))));
+    let blocks = and(blocks, paid(alloc, r, a, found));
+    let blocks = and(blocks, once_more(alloc, r, a, found));
+    let blocks = and(
+        blocks,
+        written(
+            alloc,
+            [5, 6, 7, 4, 2, 8],
+            more,
+            fork(alloc, 3, 4, turn, 6, [var(5)]),
+        ),
+    );
+    let blocks = and(blocks, none(alloc, [5], give(5)));
+    graph_written(alloc, b"list_repeat", 2, LlType::Ptr(r.list), types, blocks)
 }
 
 // ---- slices
@@ -196,7 +227,10 @@ fn ended(alloc: Global, a: Shape) -> Result<LlBlock, NoMem> {
         3,
         [var(0), var(1), var(2)],
     );
-    let asked = [length(3, a, 0), LlOp::Binary(4, CBinary::Lt, var(3), var(2))];
+    let asked = [
+        length(3, a, 0),
+        LlOp::Binary(4, CBinary::Lt, var(3), var(2)),
+    ];
     written(alloc, [0, 1, 2], ops(alloc, asked), exit)
 }
 
@@ -240,29 +274,29 @@ pub fn but_last(alloc: Global, a: Shape, r: Shape, found: &mut Found) -> Result<
             SIGNED,
             LlType::Ptr(r.list),
         ],
-    )?;
+    );
     let any = LlOp::Binary(2, CBinary::Gt, var(1), word(0));
-    let mut first = Seq::new(alloc);
-    first.push(length(1, a, 0))?;
-    first.push(any)?;
-    let mut shorter = Seq::new(alloc);
-    shorter.push(LlOp::Binary(3, CBinary::Sub, var(1), word(1)))?;
-    let taken = LlExit::Goto(link(alloc, 2, [var(0), var(3)])?);
+    let first = ops(alloc, [length(1, a, 0), any]);
+    let shorter = ops(alloc, [LlOp::Binary(3, CBinary::Sub, var(1), word(1))]);
+    let taken = goto(alloc, 2, [var(0), var(3)]);
     let sliced = [var(0), word(0), var(3)];
     let listed = Listed::Slice(a.list, r.list);
-    let mut ops = Seq::new(alloc);
-    ops.push(call(alloc, Some(4), listed, sliced, found)?)?;
+    let ops = ops(alloc, []);
+    let ops = op_made(ops, call(alloc, Some(4), listed, sliced, found));
     let nothing: [COperand; 2] = [var(0), word(0)];
-    let mut blocks = Seq::new(alloc);
-    blocks.push(block(
-        alloc,
-        [0],
-        first,
-        fork(alloc, 2, 1, [var(0), var(1)], 2, nothing)?,
-    )?)?;
-    blocks.push(block(alloc, [0, 1], shorter, taken)?)?;
-    blocks.push(block(alloc, [0, 3], ops, give(4))?)?;
-    graph_of(
+    let blocks = Ok(Seq::new(alloc));
+    let blocks = and(
+        blocks,
+        written(
+            alloc,
+            [0],
+            first,
+            fork(alloc, 2, 1, [var(0), var(1)], 2, nothing),
+        ),
+    );
+    let blocks = and(blocks, written(alloc, [0, 1], shorter, taken));
+    let blocks = and(blocks, written(alloc, [0, 3], ops, Ok(give(4))));
+    graph_written(
         alloc,
         b"list_but_last",
         1,
