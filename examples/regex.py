@@ -15,13 +15,33 @@ class PatternError(Exception):
     pass
 
 
-class State(object):
-    def __init__(self, kind, c):
-        self.kind = kind
-        self.c = c
-        self.first = None
-        self.second = None
-        self.mark = -1
+class Program(object):
+    """States by their numbers, so that a loop among them is no cycle of references."""
+
+    def __init__(self):
+        self.kinds = []
+        self.characters = []
+        self.first = []
+        self.second = []
+
+    def state(self, kind, c):
+        self.kinds.append(kind)
+        self.characters.append(c)
+        self.first.append(-1)
+        self.second.append(-1)
+        return len(self.kinds) - 1
+
+    def split(self, first):
+        state = self.state(SPLIT, '\0')
+        self.first[state] = first
+        return state
+
+    def close(self, fragment, state):
+        for end in fragment.ends:
+            if self.first[end] < 0:
+                self.first[end] = state
+            else:
+                self.second[end] = state
 
 
 class Fragment(object):
@@ -31,18 +51,12 @@ class Fragment(object):
         self.start = start
         self.ends = ends
 
-    def close(self, state):
-        for end in self.ends:
-            if end.first is None:
-                end.first = state
-            else:
-                end.second = state
-
 
 class Parser(object):
     def __init__(self, pattern):
         self.pattern = pattern
         self.at = 0
+        self.program = Program()
 
     def peek(self):
         if self.at < len(self.pattern):
@@ -54,9 +68,8 @@ class Parser(object):
         while self.peek() == '|':
             self.at += 1
             right = self.sequence()
-            split = State(SPLIT, '\0')
-            split.first = left.start
-            split.second = right.start
+            split = self.program.split(left.start)
+            self.program.second[split] = right.start
             left = Fragment(split, left.ends + right.ends)
         return left
 
@@ -64,7 +77,7 @@ class Parser(object):
         left = self.repeated()
         while self.at < len(self.pattern) and self.peek() != '|' and self.peek() != ')':
             right = self.repeated()
-            left.close(right.start)
+            self.program.close(left, right.start)
             left = Fragment(left.start, right.ends)
         return left
 
@@ -73,13 +86,12 @@ class Parser(object):
         while self.peek() == '*' or self.peek() == '+' or self.peek() == '?':
             c = self.peek()
             self.at += 1
-            split = State(SPLIT, '\0')
-            split.first = inner.start
+            split = self.program.split(inner.start)
             if c == '*':
-                inner.close(split)
+                self.program.close(inner, split)
                 inner = Fragment(split, [split])
             elif c == '+':
-                inner.close(split)
+                self.program.close(inner, split)
                 inner = Fragment(inner.start, [split])
             else:
                 inner = Fragment(split, inner.ends + [split])
@@ -101,45 +113,52 @@ class Parser(object):
         kind = CHARACTER
         if c == '.':
             kind = ANY
-        state = State(kind, c)
+        state = self.program.state(kind, c)
         return Fragment(state, [state])
 
 
-def compiled(pattern):
-    parser = Parser(pattern)
-    whole = parser.alternatives()
-    if parser.at < len(pattern):
-        raise PatternError
-    whole.close(State(MATCH, '\0'))
-    return whole.start
+class Matcher(object):
+    def __init__(self, pattern):
+        parser = Parser(pattern)
+        whole = parser.alternatives()
+        if parser.at < len(pattern):
+            raise PatternError
+        self.program = parser.program
+        self.program.close(whole, self.program.state(MATCH, '\0'))
+        self.start = whole.start
+        self.marks = [-1] * len(self.program.kinds)
+        self.step = 0
 
+    def follow(self, state, states):
+        """Adds a state, and what is reached from it without a character."""
+        if state < 0 or self.marks[state] == self.step:
+            return
+        self.marks[state] = self.step
+        if self.program.kinds[state] == SPLIT:
+            self.follow(self.program.first[state], states)
+            self.follow(self.program.second[state], states)
+        else:
+            states.append(state)
 
-def follow(state, step, states):
-    """Adds a state, and what is reached from it without a character."""
-    if state is None or state.mark == step:
-        return
-    state.mark = step
-    if state.kind == SPLIT:
-        follow(state.first, step, states)
-        follow(state.second, step, states)
-    else:
-        states.append(state)
+    def takes(self, state, c):
+        kind = self.program.kinds[state]
+        return kind == ANY or (kind == CHARACTER and self.program.characters[state] == c)
 
-
-def matches(start, text, step):
-    states = []
-    follow(start, step, states)
-    for c in text:
-        step += 1
-        later = []
+    def matches(self, text):
+        self.step += 1
+        states = []
+        self.follow(self.start, states)
+        for c in text:
+            self.step += 1
+            later = []
+            for state in states:
+                if self.takes(state, c):
+                    self.follow(self.program.first[state], later)
+            states = later
         for state in states:
-            if state.kind == ANY or (state.kind == CHARACTER and state.c == c):
-                follow(state.first, step, later)
-        states = later
-    for state in states:
-        if state.kind == MATCH:
-            return True
-    return False
+            if self.program.kinds[state] == MATCH:
+                return True
+        return False
 
 
 DEMO = ['(a|b)*abb', 'abb', 'babaabb', 'abab', '']
@@ -150,17 +169,15 @@ def entry_point(argv):
     if len(argv) > 2:
         words = argv[1:]
     try:
-        start = compiled(words[0])
+        matcher = Matcher(words[0])
     except PatternError:
         print 'no pattern: ' + words[0]
         return 1
-    step = 0
     for text in words[1:]:
-        if matches(start, text, step):
+        if matcher.matches(text):
             print 'matches', text
         else:
             print 'fails', text
-        step += len(text) + 1
     return 0
 
 

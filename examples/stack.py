@@ -50,11 +50,13 @@ class Primitive(Op):
 
 
 class Call(Op):
-    def __init__(self, code):
-        self.code = code
+    """Calls a word by its number, so that one that calls itself is no cycle of references."""
+
+    def __init__(self, number):
+        self.number = number
 
     def run(self, machine, at):
-        machine.run(self.code)
+        machine.run(machine.words[self.number])
         return at + 1
 
 
@@ -76,7 +78,8 @@ class Branch(Jump):
 
 
 class Machine(object):
-    def __init__(self):
+    def __init__(self, words):
+        self.words = words
         self.stack = []
 
     def push(self, value):
@@ -152,7 +155,8 @@ class Compiler(object):
     def __init__(self, words):
         self.words = words
         self.at = 0
-        self.own = {}
+        self.numbers = {}
+        self.codes = []
 
     def next(self):
         if not self.more():
@@ -176,14 +180,14 @@ class Compiler(object):
 
     def word(self, word, code):
         if word == ':':
-            name = self.next()
             body = []
-            self.own[name] = body
+            self.numbers[self.next()] = len(self.codes)
+            self.codes.append(body)
             body.extend(self.block([';']))
         elif word == 'IF':
             self.branch(code)
-        elif word in self.own:
-            code.append(Call(self.own[word]))
+        elif word in self.numbers:
+            code.append(Call(self.numbers[word]))
         elif word in WORDS:
             code.append(Primitive(WORDS[word]))
         else:
@@ -223,9 +227,10 @@ def entry_point(argv):
     words = DEMO
     if len(argv) > 1:
         words = argv[1:]
-    machine = Machine()
+    compiler = Compiler(words)
     try:
-        machine.run(Compiler(words).block([]))
+        code = compiler.block([])
+        Machine(compiler.codes).run(code)
     except StackUnderflow:
         print 'the stack is empty'
         return 1
