@@ -74,10 +74,10 @@ fn tuple_cells(
     Ok(cells)
 }
 
-// The static of a list, which was made before.
-fn prebuilt_list(site: SiteId, to: LlType, found: &Found) -> CConst {
+// The static of a list or dict, which was made before.
+fn prebuilt(site: SiteId, to: LlType, found: &Found) -> CConst {
     match (to, static_of_site(found, site)) {
-        (LlType::Ptr(list), Some(number)) => CConst::Static(list, number),
+        (LlType::Ptr(kind), Some(number)) => CConst::Static(kind, number),
         _ => default_constant(to),
     }
 }
@@ -108,11 +108,7 @@ pub fn constant_of(
             _ => Ok(default_constant(to)),
         },
         Const::Function(function) => Ok(function_of(around, *function, to)),
-        Const::List(site) => Ok(prebuilt_list(*site, to, found)),
-        Const::Dict(_) => {
-            found.unknown = true;
-            Ok(default_constant(to))
-        }
+        Const::List(site) | Const::Dict(site) => Ok(prebuilt(*site, to, found)),
     }
 }
 

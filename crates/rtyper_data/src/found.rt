@@ -11,7 +11,7 @@ use std::alloc::Global;
 /// The helpers that are needed, in the order in which they were first asked for: the graph of each
 /// has its number, and raises the failures that it was asked for to raise. For which failures the
 /// operation that is lowered asks so. The statics, by their numbers, with those of
-/// the lists that are constants, by their sites, and the small graphs, the first of which has the
+/// the lists and dicts that are constants, by their sites, and the small graphs, the first of which has the
 /// number `first_small`. Whether something had no lowering.
 #[derive(Drop)]
 pub struct Found {
@@ -195,7 +195,7 @@ fn place_of_static(statics: &[LlStatic], kind: u64, cells: &[CCell]) -> Option<u
     None
 }
 
-/// The static of the list of a site, where that is a constant that was made.
+/// The static of the list or dict of a site, where that is a constant that was made.
 pub fn static_of_site(found: &Found, site: SiteId) -> Option<u64> {
     for each in found.prebuilt.as_slice() {
         if each.0 == site {

@@ -9,6 +9,7 @@ mod compare;
 mod constant;
 mod convert;
 mod found;
+mod mapped;
 mod number;
 mod operation;
 mod parse;
@@ -28,13 +29,16 @@ pub use convert::{
     value_as,
 };
 pub use found::{Found, NOTHING, helper_number, small_number, static_of};
+pub use mapped::{HASH_FACTOR, MIX_FACTOR};
 pub use number::{give_binary, word};
 pub use operation::{lower_op, push_failure};
 pub use prebuilt::push_prebuilt;
 pub use small::{
-    ATTRIBUTE, ATTRIBUTE_ERROR, Listed, Small, asks_null, block, failing, link, small_graph,
+    ATTRIBUTE, ATTRIBUTE_ERROR, Keyed, Listed, Small, asks_null, block, failing, link, small_graph,
     small_raises, variables,
 };
 pub use text::{Test, truth_of};
 pub use tuple::variable_of;
-pub use write::{and, goto, op, op_made, ops, passes, written};
+pub use write::{
+    and, ends, fork, gives, goto, graph_of, graph_written, kinds, op, op_made, ops, passes, var, written,
+};

@@ -1,8 +1,9 @@
-// Lists that are constants of modules. Each is two statics, the array and the list, and stands behind those
-// of the lists that it holds.
+// Lists and dicts that are constants of modules. A list is two statics, the array and the list, a dict three. Each
+// stands behind those of the lists and dicts that it holds.
 use crate::body::Around;
 use crate::constant::constant_of;
 use crate::found::{Found, static_of, static_of_site};
+use crate::mapped::push_mapped;
 use ann_element::Element;
 use csub_tree::{CCell, CConst, CStatic};
 use ll_code::LlType;
@@ -11,11 +12,11 @@ use rpy_tree::{Const, SiteId};
 use rtyper_layout::repr;
 use std::alloc::Global;
 
-// Whether the lists inside a constant are made.
+// Whether the lists and dicts inside a constant are made.
 #[cycle(ready)]
 fn is_ready(found: &Found, constant: &Const) -> bool {
     match constant {
-        Const::List(site) => static_of_site(found, *site).is_some(),
+        Const::List(site) | Const::Dict(site) => static_of_site(found, *site).is_some(),
         Const::Tuple(parts) => are_ready(found, parts.as_slice()),
         _ => true,
     }
@@ -96,7 +97,17 @@ fn push_list(
     found.prebuilt.push((site, number))
 }
 
-// The list of a site, where it is a constant whose parts are made and it is not.
+// What a site makes.
+fn element_of(around: Around<'_>, site: SiteId, is_dict: bool) -> Element {
+    let leader = around.same.leader(site);
+    if is_dict {
+        Element::Dict(leader, false)
+    } else {
+        Element::List(leader, false)
+    }
+}
+
+// The list or dict of a site, where it is a constant whose parts are made and it is not.
 fn push_site(
     alloc: Global,
     around: Around<'_>,
@@ -109,13 +120,16 @@ fn push_site(
     let Some(of) = around.sites.get(site as usize) else {
         return Ok(());
     };
-    let element = Element::List(around.same.leader(site), false);
+    let element = element_of(around, site, of.dict);
     match (&of.prebuilt, repr(around.layout, &element)) {
-        (Some(pairs), LlType::Ptr(list)) => {
-            if of.dict || !all_ready(found, pairs.as_slice()) {
+        (Some(pairs), LlType::Ptr(kind)) => {
+            if !all_ready(found, pairs.as_slice()) {
                 return Ok(());
             }
-            push_list(alloc, around, site, list, pairs.as_slice(), found)
+            if of.dict {
+                return push_mapped(alloc, around, site, kind, pairs.as_slice(), found);
+            }
+            push_list(alloc, around, site, kind, pairs.as_slice(), found)
         }
         _ => Ok(()),
     }
@@ -130,7 +144,7 @@ fn push_round(alloc: Global, around: Around<'_>, found: &mut Found) -> Result<()
     Ok(())
 }
 
-/// The lists that are constants. Each round makes those whose parts are made.
+/// The lists and dicts that are constants. Each round makes those whose parts are made.
 pub fn push_prebuilt(alloc: Global, around: Around<'_>, found: &mut Found) -> Result<(), NoMem> {
     for _ in 0..around.sites.len() {
         let before = found.prebuilt.len();

@@ -53,6 +53,44 @@ pub enum Listed {
     Part,
 }
 
+/// A graph of dicts. The first number is that of the struct of a dict, those of whose arrays follow it; keys and
+/// values are as they stand there.
+#[derive(Clone, Copy, Debug, PartialEq, Eq)]
+pub enum Keyed {
+    /// The hash of a value of this type.
+    Hash(LlType),
+    /// A dict without entries and arrays.
+    Make(u64),
+    /// The length of an index for so many places.
+    Size,
+    /// Items of an array up to its end hold nothing.
+    Fill(u64),
+    /// The place of the entry of a key, or -1.
+    Find(u64),
+    /// The same; a key that is missing raises.
+    Entry(u64),
+    /// The entry of a key at a place comes into the index.
+    Enter(u64),
+    /// The index is made anew.
+    Index(u64),
+    /// The arrays are made anew for more entries.
+    Grow(u64),
+    /// An entry behind the last.
+    Add(u64),
+    Store(u64),
+    /// The entry at a place is taken out.
+    Remove(u64),
+    /// The value at a place.
+    Value(u64),
+    /// The value of a key as one of this type, or another.
+    Get(u64, LlType),
+    Truth(u64),
+    /// Lists of the keys, of the values and of both, as tuples.
+    Keys(u64, u64),
+    Values(u64, u64),
+    Items(u64, u64),
+}
+
 /// A graph that a program asks for by its structs.
 #[derive(Clone, Copy, Debug, PartialEq, Eq)]
 pub enum Small {
@@ -78,6 +116,7 @@ pub enum Small {
     /// `int` of a string.
     IntOfText,
     Listed(Listed),
+    Keyed(Keyed),
     /// Whether an instance, or `None`, of a family with this struct and these vtables is of a class
     /// with a number in this range.
     IsInstance(u64, u64, u32, u32),
@@ -89,7 +128,9 @@ pub fn small_raises(small: Small) -> bool {
         Small::Fail(raises) | Small::Present(_, raises) | Small::Attribute(_, _, raises) => raises,
         Small::Raise(_) | Small::Checked(_, _) | Small::CheckedNeg | Small::IntOfText => true,
         Small::Listed(Listed::Place(_, raises)) => raises,
+        Small::Keyed(Keyed::Entry(_)) => true,
         Small::Listed(_)
+        | Small::Keyed(_)
         | Small::Cast(_, _)
         | Small::Equal(_, _)
         | Small::New(_)
@@ -354,6 +395,7 @@ pub fn small_graph(
         Small::IntOfText => int_graph(alloc, found),
         Small::New(_)
         | Small::Listed(_)
+        | Small::Keyed(_)
         | Small::Attribute(_, _, _)
         | Small::Raise(_)
         | Small::IsInstance(_, _, _, _) => failure(alloc, false, found),

@@ -4,7 +4,7 @@ use crate::compare::{is_no_function, is_null, opposite_if};
 use crate::convert::{by_small, give, give_helped, give_nothing, given, helped, operands};
 use crate::found::{Found, helper_number};
 use crate::number::{give_unary, word};
-use crate::small::{Listed, Small};
+use crate::small::{Keyed, Listed, Small};
 use csub_tree::{CBinary, COperand, CUnary};
 use ll_code::{LlOp, LlType};
 use ll_helpers::Helper;
@@ -60,6 +60,13 @@ pub fn truth_of(
         Kind::List | Kind::MaybeList => match around.type_of(a) {
             LlType::Ptr(list) => {
                 let small = Small::Listed(Listed::Truth(list));
+                Ok(Test::By(by_small(alloc, small, LlType::Bool, [a.x], found, body)?))
+            }
+            _ => Ok(Test::Known(true)),
+        },
+        Kind::Dict | Kind::MaybeDict => match around.type_of(a) {
+            LlType::Ptr(dict) => {
+                let small = Small::Keyed(Keyed::Truth(dict));
                 Ok(Test::By(by_small(alloc, small, LlType::Bool, [a.x], found, body)?))
             }
             _ => Ok(Test::Known(true)),

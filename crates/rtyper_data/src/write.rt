@@ -1,8 +1,9 @@
 // The parts of a graph. Each writer hands on want of memory, so a graph is written without a test of its own.
 
+use crate::small::{block, link};
 use csub_tree::COperand;
-use ll_code::{LlBlock, LlExit, LlOp, VarId};
-use rpy_base::{NoMem, Seq};
+use ll_code::{LlBlock, LlExit, LlGraph, LlOp, LlType, VarId};
+use rpy_base::{NoMem, Seq, Text};
 use std::alloc::Global;
 
 /// The operations of a block.
@@ -34,7 +35,7 @@ pub fn goto<const N: usize>(
     to: u64,
     args: [COperand; N],
 ) -> Result<LlExit, NoMem> {
-    Ok(LlExit::Goto(crate::small::link(alloc, to, args)?))
+    Ok(LlExit::Goto(link(alloc, to, args)?))
 }
 
 /// A block with its operations and its exit.
@@ -44,7 +45,7 @@ pub fn written<const N: usize>(
     ops: Result<Seq<LlOp>, NoMem>,
     exit: Result<LlExit, NoMem>,
 ) -> Result<LlBlock, NoMem> {
-    crate::small::block(alloc, inputs, ops?, exit?)
+    block(alloc, inputs, ops?, exit?)
 }
 
 /// A block without operations.
@@ -54,7 +55,7 @@ pub fn passes<const N: usize>(
     exit: Result<LlExit, NoMem>,
 ) -> Result<LlBlock, NoMem> {
     let none: Seq<LlOp> = Seq::new(alloc);
-    crate::small::block(alloc, inputs, none, exit?)
+    block(alloc, inputs, none, exit?)
 }
 
 /// One block more.
@@ -65,4 +66,75 @@ pub fn and(
     let mut blocks = blocks?;
     blocks.push(block?)?;
     Ok(blocks)
+}
+
+// ---- operands and exits
+
+pub fn var(v: VarId) -> COperand {
+    COperand::Var(v)
+}
+
+/// The graph gives the value of a variable.
+pub fn gives(v: VarId) -> Result<LlExit, NoMem> {
+    Ok(LlExit::Return(Some(COperand::Var(v))))
+}
+
+/// The graph ends, and gives nothing.
+pub fn ends() -> Result<LlExit, NoMem> {
+    Ok(LlExit::Return(None))
+}
+
+/// By the truth of a variable.
+pub fn fork<const N: usize, const M: usize>(
+    alloc: Global,
+    a: VarId,
+    there: u64,
+    xs: [COperand; N],
+    elsewhere: u64,
+    ys: [COperand; M],
+) -> Result<LlExit, NoMem> {
+    let there = link(alloc, there, xs)?;
+    let elsewhere = link(alloc, elsewhere, ys)?;
+    Ok(LlExit::If(a, there, elsewhere))
+}
+
+// ---- graphs
+
+pub fn kinds<const N: usize>(alloc: Global, items: [LlType; N]) -> Result<Seq<LlType>, NoMem> {
+    let items = Vec::from_array(alloc, items)?;
+    Ok(Seq::from_vec(items))
+}
+
+/// A graph whose parameters are the first so many variables.
+pub fn graph_of(
+    alloc: Global,
+    name: &[u8],
+    params: u64,
+    gives: LlType,
+    types: Seq<LlType>,
+    blocks: Seq<LlBlock>,
+) -> Result<LlGraph, NoMem> {
+    let mut variables = Seq::new(alloc);
+    for v in 0..params {
+        variables.push(v)?;
+    }
+    Ok(LlGraph {
+        name: Text::from_bytes(alloc, name)?,
+        params: variables,
+        result: gives,
+        types,
+        blocks,
+    })
+}
+
+/// A graph, where there was memory for its parts.
+pub fn graph_written(
+    alloc: Global,
+    name: &[u8],
+    params: u64,
+    gives: LlType,
+    types: Result<Seq<LlType>, NoMem>,
+    blocks: Result<Seq<LlBlock>, NoMem>,
+) -> Result<LlGraph, NoMem> {
+    graph_of(alloc, name, params, gives, types?, blocks?)
 }

@@ -3,10 +3,13 @@ use Rattle.std.specs.Prelude.{Bool, cond}
 use Rattle.ann_element.specs.declared.element.Element.{Element}
 use Rattle.ann_element.specs.declared.element.Element.TheVariants as e
 use Rattle.rtyper_layout.specs.declared.kind.Kind.{Kind}
-use Rattle.rtyper_layout.specs.declared.kind.Kind.TheVariants.{Word, Flag, Byte, Text, MaybeText, Nothing, Tuple, Instance, MaybeInstance, Function, MaybeFunction, List, MaybeList, Never, Other}
+use Rattle.rtyper_layout.specs.declared.kind.Kind.TheVariants.{Word, Flag, Byte, Text, MaybeText, Nothing, Tuple, Instance, MaybeInstance, Function, MaybeFunction, List, MaybeList, Dict, MaybeDict, Never, Other}
 
 abbrev pub of_list : Bool → Kind
 of_list or_none = cond or_none MaybeList List
+
+abbrev pub of_dict : Bool → Kind
+of_dict or_none = cond or_none MaybeDict Dict
 
 abbrev pub of_instance : Bool → Kind
 of_instance or_none = cond or_none MaybeInstance Instance
@@ -28,6 +31,6 @@ kind_of e.StrOrNone = MaybeText
 kind_of (e.List site or_none) = of_list or_none
 kind_of (e.Instance class or_none) = of_instance or_none
 kind_of (e.Func functions or_none) = of_function or_none
-kind_of (e.Dict site or_none) = Other
+kind_of (e.Dict site or_none) = of_dict or_none
 kind_of (e.Conflict lists dicts) = Other
 kind_of other = Tuple

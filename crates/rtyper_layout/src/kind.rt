@@ -6,7 +6,7 @@ use ann_element::Element;
 
 /// A word; a truth value; a string of length one; a string, or a string or `None`; `None`; a tuple; an
 /// instance, or an instance or `None`; a function, or a function or `None`; a list, or a list or `None`;
-/// nothing, since no value comes here; or a value of another kind.
+/// a dict, or a dict or `None`; nothing, since no value comes here; or a value of another kind.
 #[derive(Clone, Copy, Debug, PartialEq, Eq)]
 pub enum Kind {
     Word,
@@ -22,6 +22,8 @@ pub enum Kind {
     MaybeFunction,
     List,
     MaybeList,
+    Dict,
+    MaybeDict,
     Never,
     Other,
 }
@@ -30,6 +32,12 @@ fn of_list(or_none: bool) -> Kind
     ensures { result ≡ spec.of_list or_none }
 {
     if or_none { Kind::MaybeList } else { Kind::List }
+}
+
+fn of_dict(or_none: bool) -> Kind
+    ensures { result ≡ spec.of_dict or_none }
+{
+    if or_none { Kind::MaybeDict } else { Kind::Dict }
 }
 
 fn of_instance(or_none: bool) -> Kind
@@ -68,7 +76,8 @@ pub fn kind_of(element: &Element) -> Kind
         Element::List(_, or_none) => of_list(*or_none),
         Element::Instance(_, or_none) => of_instance(*or_none),
         Element::Func(_, or_none) => of_function(*or_none),
-        Element::Dict(_, _) | Element::Conflict(_, _) => Kind::Other,
+        Element::Dict(_, or_none) => of_dict(*or_none),
+        Element::Conflict(_, _) => Kind::Other,
     }
 }
 

@@ -2,6 +2,7 @@
 use crate::classes::{
     Laid, laid_classes, laid_order, method_names, push_class_structs, vtable_struct,
 };
+use crate::dicts::{Mapping, push_dict, push_mapping};
 use crate::shapes::{
     field_type, push_all_shapes, push_all_sites, push_attribute_shapes, push_attribute_sites,
     push_shapes_in, push_sites_in, repr,
@@ -16,7 +17,8 @@ use std::alloc::Global;
 
 /// The structs of a program: struct 0 is that of strings; then come those of vtables, one for each
 /// family of classes, those of the classes, two for the lists of each class of sites, from `first_list` on,
-/// that of the list and that of its array, and one for each shape of tuples, from `first_tuple` on.
+/// that of the list and that of its array, three for the dicts of each class of sites, from `first_dict` on,
+/// and one for each shape of tuples, from `first_tuple` on.
 /// For each class its structs, where it has some; the classes that have, each behind its base; and
 /// for each vtable the names of its methods.
 #[derive(Drop)]
@@ -27,6 +29,9 @@ pub struct Layout {
     pub methods: Seq<Seq<Text>>,
     pub first_list: u64,
     pub lists: Seq<SiteId>,
+    pub first_dict: u64,
+    pub dicts: Seq<SiteId>,
+    pub mappings: Seq<Mapping>,
     pub first_tuple: u64,
     pub shapes: Seq<Seq<LlType>>,
 }
@@ -104,22 +109,77 @@ fn with_classes(
         methods,
         first_list,
         lists: Seq::new(alloc),
+        first_dict: first_list,
+        dicts: Seq::new(alloc),
+        mappings: Seq::new(alloc),
         first_tuple: first_list,
         shapes: Seq::new(alloc),
     })
 }
 
+// The sites of all lists, or of all dicts, behind these.
+fn push_all(
+    annotation: &Annotation,
+    of_dicts: bool,
+    sites: &mut Seq<SiteId>,
+) -> Result<(), NoMem> {
+    push_all_sites(annotation.params.as_slice(), of_dicts, sites)?;
+    push_sites_in(annotation.results.as_slice(), of_dicts, sites)?;
+    push_all_sites(annotation.vars.as_slice(), of_dicts, sites)?;
+    push_attribute_sites(annotation.attributes.as_slice(), of_dicts, sites)?;
+    push_sites_in(annotation.items.as_slice(), of_dicts, sites)?;
+    push_sites_in(annotation.keys.as_slice(), of_dicts, sites)
+}
+
 // The sites of all lists. The arguments of the program are site 0.
-fn sites_of(alloc: Global, annotation: &Annotation) -> Result<Seq<SiteId>, NoMem> {
+fn list_sites(alloc: Global, annotation: &Annotation) -> Result<Seq<SiteId>, NoMem> {
     let mut sites = Seq::new(alloc);
     sites.push(0)?;
-    push_all_sites(annotation.params.as_slice(), &mut sites)?;
-    push_sites_in(annotation.results.as_slice(), &mut sites)?;
-    push_all_sites(annotation.vars.as_slice(), &mut sites)?;
-    push_attribute_sites(annotation.attributes.as_slice(), &mut sites)?;
-    push_sites_in(annotation.items.as_slice(), &mut sites)?;
-    push_sites_in(annotation.keys.as_slice(), &mut sites)?;
+    push_all(annotation, false, &mut sites)?;
     Ok(sites)
+}
+
+fn dict_sites(alloc: Global, annotation: &Annotation) -> Result<Seq<SiteId>, NoMem> {
+    let mut sites = Seq::new(alloc);
+    push_all(annotation, true, &mut sites)?;
+    Ok(sites)
+}
+
+// The lists and dicts, whose structs have their numbers then.
+fn lay_sites(alloc: Global, annotation: &Annotation, layout: &mut Layout) -> Result<(), NoMem> {
+    layout.lists = list_sites(alloc, annotation)?;
+    let lists = (layout.lists.len() as u64).saturating_mul(2);
+    layout.first_dict = layout.first_list.saturating_add(lists);
+    layout.dicts = dict_sites(alloc, annotation)?;
+    let dicts = (layout.dicts.len() as u64).saturating_mul(3);
+    layout.first_tuple = layout.first_dict.saturating_add(dicts);
+    Ok(())
+}
+
+// The dicts, with the types of their keys and values.
+fn mappings_of(
+    alloc: Global,
+    annotation: &Annotation,
+    layout: &Layout,
+) -> Result<Seq<Mapping>, NoMem> {
+    let mut mappings = Seq::new(alloc);
+    let mut dict = layout.first_dict;
+    for site in layout.dicts.as_slice() {
+        push_mapping(annotation, layout, *site, dict, &mut mappings)?;
+        dict = dict.saturating_add(3);
+    }
+    Ok(mappings)
+}
+
+fn push_dicts(
+    alloc: Global,
+    mappings: &[Mapping],
+    structs: &mut Seq<LlStruct>,
+) -> Result<(), NoMem> {
+    for mapping in mappings {
+        push_dict(alloc, *mapping, structs)?;
+    }
+    Ok(())
 }
 
 fn push_list(
@@ -188,6 +248,7 @@ fn structs_of(
     let order = layout.order.as_slice();
     push_class_structs(alloc, layout, classes, annotation, order, &mut structs)?;
     push_lists(alloc, layout, annotation, &mut structs)?;
+    push_dicts(alloc, layout.mappings.as_slice(), &mut structs)?;
     push_tuples(alloc, layout.shapes.as_slice(), &mut structs)?;
     Ok(structs)
 }
@@ -204,10 +265,10 @@ impl Layout {
     ) -> Result<Layout, NoMem> {
         let made = annotation.made.as_slice();
         let mut layout = with_classes(alloc, program, classes, made, raises)?;
-        layout.lists = sites_of(alloc, annotation)?;
-        let lists = (layout.lists.len() as u64).saturating_mul(2);
-        layout.first_tuple = layout.first_list.saturating_add(lists);
+        lay_sites(alloc, annotation, &mut layout)?;
         push_shapes_of(alloc, annotation, &mut layout)?;
+        let mappings = mappings_of(alloc, annotation, &layout)?;
+        layout.mappings = mappings;
         let structs = structs_of(alloc, &layout, classes, annotation)?;
         layout.structs = structs;
         Ok(layout)
@@ -236,6 +297,16 @@ impl Layout {
             list = list.saturating_add(2);
         }
         false
+    }
+
+    /// The dict whose struct this is.
+    pub fn mapping(&self, number: u64) -> Option<Mapping> {
+        for mapping in self.mappings.as_slice() {
+            if mapping.dict == number {
+                return Some(*mapping);
+            }
+        }
+        None
     }
 
     /// The types of the fields of a struct, those of its base aside.

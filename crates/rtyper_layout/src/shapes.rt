@@ -27,6 +27,8 @@ fn plain_type(kind: Kind) -> LlType {
         | Kind::MaybeInstance
         | Kind::List
         | Kind::MaybeList
+        | Kind::Dict
+        | Kind::MaybeDict
         | Kind::Never
         | Kind::Other => LlType::Void,
     }
@@ -76,6 +78,17 @@ fn list_type(layout: &Layout, site: SiteId) -> LlType {
     }
 }
 
+// Each class of sites has a struct, those of its two arrays follow it.
+fn dict_type(layout: &Layout, site: SiteId) -> LlType {
+    match place_of_site(layout.dicts.as_slice(), site) {
+        None => LlType::Void,
+        Some(place) => {
+            let before = place.saturating_mul(3);
+            LlType::Ptr(layout.first_dict.saturating_add(before))
+        }
+    }
+}
+
 /// The type of the values of an element. What has a kind that is not translated has none.
 #[cycle(repr)]
 pub fn repr(layout: &Layout, element: &Element) -> LlType {
@@ -85,6 +98,7 @@ pub fn repr(layout: &Layout, element: &Element) -> LlType {
             Some(place) => LlType::Ptr(layout.first_tuple.saturating_add(place)),
         },
         Element::List(site, _) => list_type(layout, *site),
+        Element::Dict(site, _) => dict_type(layout, *site),
         Element::Instance(class, _) => match layout.laid(*class) {
             None => LlType::Void,
             Some(laid) => LlType::Ptr(laid.root),
@@ -101,7 +115,7 @@ pub fn repr_seen(layout: &Layout, element: Option<&Element>) -> LlType {
     }
 }
 
-// ---- lists
+// ---- sites
 
 fn place_of_site(sites: &[SiteId], site: SiteId) -> Option<u64> {
     let mut place: u64 = 0;
@@ -114,45 +128,73 @@ fn place_of_site(sites: &[SiteId], site: SiteId) -> Option<u64> {
     None
 }
 
-// The sites of lists inside an element.
-#[cycle(sites)]
-fn push_sites(element: &Element, sites: &mut Seq<SiteId>) -> Result<(), NoMem> {
+// The site of a list, or that of a dict.
+fn site_of(element: &Element, of_dicts: bool) -> Option<SiteId> {
     match element {
-        Element::Tuple(parts) => push_sites_in(parts.as_slice(), sites),
-        Element::List(site, _) => {
-            if place_of_site(sites.as_slice(), *site).is_some() {
+        Element::List(site, _) => { if of_dicts { None } else { Some(*site) } }
+        Element::Dict(site, _) => { if of_dicts { Some(*site) } else { None } }
+        _ => None,
+    }
+}
+
+fn push_site(site: Option<SiteId>, sites: &mut Seq<SiteId>) -> Result<(), NoMem> {
+    match site {
+        None => Ok(()),
+        Some(site) => {
+            if place_of_site(sites.as_slice(), site).is_some() {
                 return Ok(());
             }
-            sites.push(*site)
+            sites.push(site)
         }
-        _ => Ok(()),
     }
 }
 
-/// The sites of lists inside elements.
+// The sites of lists, or of dicts, inside an element.
 #[cycle(sites)]
-pub fn push_sites_in(elements: &[Element], sites: &mut Seq<SiteId>) -> Result<(), NoMem> {
+fn push_sites(
+    element: &Element,
+    of_dicts: bool,
+    sites: &mut Seq<SiteId>,
+) -> Result<(), NoMem> {
+    match element {
+        Element::Tuple(parts) => push_sites_in(parts.as_slice(), of_dicts, sites),
+        _ => push_site(site_of(element, of_dicts), sites),
+    }
+}
+
+/// The sites of lists, or of dicts, inside elements.
+#[cycle(sites)]
+pub fn push_sites_in(
+    elements: &[Element],
+    of_dicts: bool,
+    sites: &mut Seq<SiteId>,
+) -> Result<(), NoMem> {
     for element in elements {
-        push_sites(element, sites)?;
+        push_sites(element, of_dicts, sites)?;
     }
     Ok(())
 }
 
-/// The sites of lists inside rows of elements.
-pub fn push_all_sites(rows: &[Seq<Element>], sites: &mut Seq<SiteId>) -> Result<(), NoMem> {
+/// The sites of lists, or of dicts, inside rows of elements.
+pub fn push_all_sites(
+    rows: &[Seq<Element>],
+    of_dicts: bool,
+    sites: &mut Seq<SiteId>,
+) -> Result<(), NoMem> {
     for row in rows {
-        push_sites_in(row.as_slice(), sites)?;
+        push_sites_in(row.as_slice(), of_dicts, sites)?;
     }
     Ok(())
 }
 
-/// The sites of lists inside the elements of attributes.
+/// The sites of lists, or of dicts, inside the elements of attributes.
 pub fn push_attribute_sites(
     attributes: &[(ClassId, Text, Element)],
+    of_dicts: bool,
     sites: &mut Seq<SiteId>,
 ) -> Result<(), NoMem> {
     for attribute in attributes {
-        push_sites(&attribute.2, sites)?;
+        push_sites(&attribute.2, of_dicts, sites)?;
     }
     Ok(())
 }

@@ -1,9 +1,10 @@
 // The structs of a list, and what the graphs of lists are made of.
 use crate::build::operands;
 use csub_tree::COperand;
-use ll_code::{LlBlock, LlExit, LlGraph, LlOp, LlType, VarId};
-use rpy_base::{NoMem, Seq, Text};
+use ll_code::{LlExit, LlOp, LlType, VarId};
+use rpy_base::NoMem;
 use rtyper_data::{Found, Listed, Small, small_number};
+pub use rtyper_data::{graph_written, kinds};
 use rtyper_layout::Layout;
 use std::alloc::Global;
 
@@ -59,45 +60,6 @@ pub fn call<const N: usize>(
 ) -> Result<LlOp, NoMem> {
     let number = small_number(Small::Listed(listed), found)?;
     Ok(LlOp::Call(into, number, operands(alloc, xs)?))
-}
-
-pub fn kinds<const N: usize>(alloc: Global, items: [LlType; N]) -> Result<Seq<LlType>, NoMem> {
-    let items = Vec::from_array(alloc, items)?;
-    Ok(Seq::from_vec(items))
-}
-
-/// A graph whose parameters are the first so many variables.
-pub fn graph_of(
-    alloc: Global,
-    name: &[u8],
-    params: u64,
-    gives: LlType,
-    types: Seq<LlType>,
-    blocks: Seq<LlBlock>,
-) -> Result<LlGraph, NoMem> {
-    let mut variables = Seq::new(alloc);
-    for v in 0..params {
-        variables.push(v)?;
-    }
-    Ok(LlGraph {
-        name: Text::from_bytes(alloc, name)?,
-        params: variables,
-        result: gives,
-        types,
-        blocks,
-    })
-}
-
-/// A graph, where there was memory for its parts.
-pub fn graph_written(
-    alloc: Global,
-    name: &[u8],
-    params: u64,
-    gives: LlType,
-    types: Result<Seq<LlType>, NoMem>,
-    blocks: Result<Seq<LlBlock>, NoMem>,
-) -> Result<LlGraph, NoMem> {
-    graph_of(alloc, name, params, gives, types?, blocks?)
 }
 
 pub fn give(v: VarId) -> LlExit {

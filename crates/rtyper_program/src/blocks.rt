@@ -10,6 +10,7 @@ use rtyper_class::lower_class_op;
 use rtyper_data::{
     Around, Body, Found, NOTHING, Operand, Place, Test, default_operand, given, truth_of, value_as,
 };
+use rtyper_dict::{is_dict_op, lower_dict_op};
 use std::alloc::Global;
 use std::mem;
 
@@ -247,7 +248,11 @@ fn push_op(
     }
     let place = place_of(lowered, op.result);
     found.covered = op.covered;
-    lower_class_op(alloc, lowered.around, &op.op, place, &args, found, body)?;
+    if is_dict_op(&op.op, &args) {
+        lower_dict_op(alloc, lowered.around, &op.op, place, &args, found, body)?;
+    } else {
+        lower_class_op(alloc, lowered.around, &op.op, place, &args, found, body)?;
+    }
     found.covered = NOTHING;
     Ok(())
 }

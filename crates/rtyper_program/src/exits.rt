@@ -1,4 +1,4 @@
-// What has no lowering yet: dicts.
+// What has no lowering: a conflict, which no program that is accepted has.
 use crate::known::variable_kind;
 use ann_element::Annotation;
 use flow_graph::{Exit, Graph, Link, Op};

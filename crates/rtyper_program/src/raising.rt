@@ -8,7 +8,7 @@ use rpy_base::{NoMem, Seq};
 use rpy_meaning::{Covers, RowOp};
 use rpy_tree::ClassId;
 use rtyper_data::{Found, NOTHING, Small, small_number};
-use rtyper_layout::is_text;
+use rtyper_layout::{Kind, is_text};
 use std::alloc::Global;
 
 // ---- whether a program has exceptions
@@ -21,10 +21,24 @@ fn is_of_text(annotation: &Annotation, number: usize, op: &Op) -> bool {
     }
 }
 
+// A key that is missing raises.
+fn is_of_dict(annotation: &Annotation, number: usize, op: &Op) -> bool {
+    match op.args.get(0) {
+        None => false,
+        Some(v) => match variable_kind(annotation, number, *v) {
+            Kind::Dict | Kind::MaybeDict => true,
+            _ => false,
+        },
+    }
+}
+
 fn has_exceptions(annotation: &Annotation, number: usize, op: &Op) -> bool {
     match &op.op {
         RowOp::Raise | RowOp::Checked(_) | RowOp::CheckedNeg => true,
         RowOp::ToInt => is_of_text(annotation, number, op),
+        RowOp::Index(_) | RowOp::DeleteIndex => {
+            is_of_dict(annotation, number, op) || op.covered != NOTHING
+        }
         _ => op.covered != NOTHING,
     }
 }

@@ -12,6 +12,7 @@ use rpy_meaning::Covers;
 use rpy_resolved::Resolved;
 use rtyper_class::{class_graph, push_exceptions, push_vtables};
 use rtyper_data::{Around, Found, Listed, Small, push_prebuilt, small_number};
+use rtyper_dict::dict_graph;
 use rtyper_layout::{Layout, repr_seen};
 use std::alloc::Global;
 
@@ -57,6 +58,18 @@ fn push_functions(
     Ok(())
 }
 
+fn small_graph_of(
+    alloc: Global,
+    around: Around<'_>,
+    small: Small,
+    found: &mut Found,
+) -> Result<LlGraph, NoMem> {
+    match small {
+        Small::Keyed(keyed) => dict_graph(alloc, around.layout, keyed, found),
+        _ => class_graph(alloc, around, small, found),
+    }
+}
+
 // The small graphs that are asked for, those that these ask for among them.
 fn push_smalls(
     alloc: Global,
@@ -69,7 +82,7 @@ fn push_smalls(
             None => return Ok(()),
             Some(small) => *small,
         };
-        into.push(class_graph(alloc, around, small, found)?)?;
+        into.push(small_graph_of(alloc, around, small, found)?)?;
     }
     Ok(())
 }

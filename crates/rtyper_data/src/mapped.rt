@@ -1,0 +1,331 @@
+// Dicts that are constants of modules. Each is three statics: its two arrays, with the index as the graphs of dicts
+// make it, and the dict.
+use crate::body::Around;
+use crate::constant::constant_of;
+use crate::found::{Found, static_of};
+use csub_tree::{CCell, CConst, CStatic};
+use ll_code::LlType;
+use rpy_base::word::{shr, wrap_mul};
+use rpy_base::{NoMem, Seq};
+use rpy_tree::{Const, SiteId};
+use rtyper_layout::{Layout, Mapping};
+use std::alloc::Global;
+
+/// What the hash of a word is multiplied with.
+pub const MIX_FACTOR: i64 = -7046029254386353131;
+
+/// What the hash of a string or tuple is multiplied with for each item.
+pub const HASH_FACTOR: i64 = 1099511628211;
+
+// An entry, as it stands in the arrays, and the hash of its key.
+#[derive(Clone, Copy)]
+struct Entry {
+    key: CConst,
+    value: CConst,
+    hash: i64,
+}
+
+// ---- hashes
+
+fn mixed(x: i64) -> i64 {
+    let h = wrap_mul(x, MIX_FACTOR);
+    h ^ shr(h, 32)
+}
+
+// With one item more.
+fn with_item(h: i64, x: i64) -> i64 {
+    wrap_mul(h ^ x, HASH_FACTOR)
+}
+
+fn hash_of_text(bytes: &[u8], kind: LlType) -> i64 {
+    match (kind, bytes) {
+        (LlType::Char, [byte]) => mixed(*byte as i64),
+        _ => {
+            let mut h: i64 = 0;
+            for byte in bytes {
+                h = with_item(h, *byte as i64);
+            }
+            mixed(h)
+        }
+    }
+}
+
+#[cycle(hash)]
+fn hash_of_parts(layout: &Layout, parts: &[Const], fields: &[LlType]) -> i64 {
+    let mut h: i64 = 0;
+    let mut rest = fields;
+    for part in parts {
+        match rest {
+            [] => return mixed(h),
+            [field, others @ ..] => {
+                h = with_item(h, hash_of(layout, part, *field));
+                rest = others;
+            }
+        }
+    }
+    mixed(h)
+}
+
+// The hash of a constant as a key of this type. Other constants are no keys.
+#[cycle(hash)]
+fn hash_of(layout: &Layout, constant: &Const, kind: LlType) -> i64 {
+    match constant {
+        Const::Word(n) => mixed(*n),
+        Const::Bool(b) => mixed(if *b { 1 } else { 0 }),
+        Const::Str(text) => hash_of_text(text.bytes(), kind),
+        Const::Tuple(parts) => match kind {
+            LlType::Ptr(n) => hash_of_parts(layout, parts.as_slice(), layout.fields(n)),
+            _ => 0,
+        },
+        Const::None | Const::Function(_) | Const::List(_) | Const::Dict(_) => 0,
+    }
+}
+
+// ---- entries
+
+fn as_word(constant: CConst) -> CConst {
+    match constant {
+        CConst::Bool(b) => CConst::Word(if b { 1 } else { 0 }),
+        CConst::Char(byte) => CConst::Word(byte as i64),
+        _ => constant,
+    }
+}
+
+// The constant as it stands in an array whose items have this type.
+fn stored(
+    alloc: Global,
+    around: Around<'_>,
+    constant: &Const,
+    kind: LlType,
+    item: LlType,
+    found: &mut Found,
+) -> Result<CConst, NoMem> {
+    let made = constant_of(alloc, around, constant, kind, found)?;
+    if item == kind { Ok(made) } else { Ok(as_word(made)) }
+}
+
+// Equal keys are one constant.
+fn place_of_key(entries: &[Entry], key: CConst) -> Option<usize> {
+    for i in 0..entries.len() {
+        if entries[i].key == key {
+            return Some(i);
+        }
+    }
+    None
+}
+
+// A key that is there keeps its place.
+fn push_entry(entry: Entry, entries: &mut Seq<Entry>) -> Result<(), NoMem> {
+    match place_of_key(entries.as_slice(), entry.key) {
+        None => entries.push(entry),
+        Some(place) => {
+            if place < entries.len() {
+                entries.set(place, entry);
+            }
+            Ok(())
+        }
+    }
+}
+
+fn entry_of(
+    alloc: Global,
+    around: Around<'_>,
+    mapping: Mapping,
+    pair: &(Const, Const),
+    found: &mut Found,
+) -> Result<Entry, NoMem> {
+    let key = stored(alloc, around, &pair.0, mapping.key, mapping.stored_key(), found)?;
+    let value = stored(alloc, around, &pair.1, mapping.value, mapping.stored_value(), found)?;
+    let hash = hash_of(around.layout, &pair.0, mapping.key);
+    Ok(Entry { key, value, hash })
+}
+
+fn entries_of(
+    alloc: Global,
+    around: Around<'_>,
+    mapping: Mapping,
+    pairs: &[(Const, Const)],
+    found: &mut Found,
+) -> Result<Seq<Entry>, NoMem> {
+    let mut entries = Seq::new(alloc);
+    for pair in pairs {
+        let entry = entry_of(alloc, around, mapping, pair, found)?;
+        push_entry(entry, &mut entries)?;
+    }
+    Ok(entries)
+}
+
+// ---- the index
+
+// A power of two that is at least twice the number of entries.
+fn size_of(count: usize) -> usize {
+    let least = count.saturating_mul(2);
+    let mut size: usize = 2;
+    for _ in 0..62 {
+        if size >= least {
+            return size;
+        }
+        size = size.saturating_mul(2);
+    }
+    size
+}
+
+fn zeros(alloc: Global, count: usize) -> Result<Seq<i64>, NoMem> {
+    let mut words = Seq::new(alloc);
+    for _ in 0..count {
+        words.push(0)?;
+    }
+    Ok(words)
+}
+
+// A word goes to the first empty place from that of its hash on.
+fn enter(hash: i64, word: i64, words: &mut Seq<i64>) {
+    let size = words.len();
+    if size == 0 {
+        return;
+    }
+    let mut at = (hash & (size as i64).wrapping_sub(1)) as usize;
+    for _ in 0..size {
+        if at >= size {
+            at = 0;
+        }
+        if words.get(at) == Some(&0) {
+            words.set(at, word);
+            return;
+        }
+        at = at.saturating_add(1);
+    }
+}
+
+fn index_of(alloc: Global, entries: &[Entry]) -> Result<Seq<i64>, NoMem> {
+    let mut words = zeros(alloc, size_of(entries.len()))?;
+    let mut next: i64 = 1;
+    for entry in entries {
+        enter(entry.hash, next, &mut words);
+        next = next.saturating_add(1);
+    }
+    Ok(words)
+}
+
+// ---- statics
+
+fn push_keys(entries: &[Entry], cells: &mut Seq<CCell>) -> Result<(), NoMem> {
+    for entry in entries {
+        cells.push(CCell::Const(entry.key))?;
+    }
+    Ok(())
+}
+
+fn push_values(entries: &[Entry], cells: &mut Seq<CCell>) -> Result<(), NoMem> {
+    for entry in entries {
+        cells.push(CCell::Const(entry.value))?;
+    }
+    Ok(())
+}
+
+fn push_index(
+    alloc: Global,
+    entries: &[Entry],
+    cells: &mut Seq<CCell>,
+) -> Result<(), NoMem> {
+    let words = index_of(alloc, entries)?;
+    for word in words.as_slice() {
+        cells.push(CCell::Const(CConst::Word(*word)))?;
+    }
+    Ok(())
+}
+
+fn length_of(count: usize) -> Result<CCell, NoMem> {
+    match i64::try_from(count) {
+        Ok(length) => Ok(CCell::Const(CConst::Word(length))),
+        Err(_) => Err(NoMem),
+    }
+}
+
+// An array with its length.
+fn array_of(
+    alloc: Global,
+    kind: u64,
+    items: Seq<CCell>,
+    found: &mut Found,
+) -> Result<CConst, NoMem> {
+    let mut cells = Seq::new(alloc);
+    cells.push(length_of(items.len())?)?;
+    cells.push(CCell::Braces(items))?;
+    static_of(kind, cells, found)
+}
+
+fn first_of(
+    alloc: Global,
+    mapping: Mapping,
+    entries: &[Entry],
+    found: &mut Found,
+) -> Result<CConst, NoMem> {
+    let mut items = Seq::new(alloc);
+    if mapping.keys_last() {
+        push_values(entries, &mut items)?;
+    } else {
+        push_keys(entries, &mut items)?;
+    }
+    array_of(alloc, mapping.first(), items, found)
+}
+
+fn second_of(
+    alloc: Global,
+    mapping: Mapping,
+    entries: &[Entry],
+    found: &mut Found,
+) -> Result<CConst, NoMem> {
+    let mut items = Seq::new(alloc);
+    if mapping.is_indexed() {
+        push_index(alloc, entries, &mut items)?;
+    }
+    if mapping.keys_last() {
+        push_keys(entries, &mut items)?;
+    } else {
+        push_values(entries, &mut items)?;
+    }
+    array_of(alloc, mapping.second(), items, found)
+}
+
+// The number of entries, that of places, and the arrays. An empty dict has none.
+fn dict_cells(
+    alloc: Global,
+    mapping: Mapping,
+    entries: &[Entry],
+    found: &mut Found,
+) -> Result<Seq<CCell>, NoMem> {
+    let (first, second) = if entries.is_empty() {
+        (CConst::Null, CConst::Null)
+    } else {
+        (
+            first_of(alloc, mapping, entries, found)?,
+            second_of(alloc, mapping, entries, found)?,
+        )
+    };
+    let mut cells = Seq::new(alloc);
+    cells.push(length_of(entries.len())?)?;
+    cells.push(length_of(entries.len())?)?;
+    cells.push(CCell::Const(first))?;
+    cells.push(CCell::Const(second))?;
+    Ok(cells)
+}
+
+/// The dict of a site. Two dicts with the same entries are two dicts.
+pub fn push_mapped(
+    alloc: Global,
+    around: Around<'_>,
+    site: SiteId,
+    kind: u64,
+    pairs: &[(Const, Const)],
+    found: &mut Found,
+) -> Result<(), NoMem> {
+    let Some(mapping) = around.layout.mapping(kind) else {
+        return Ok(());
+    };
+    let entries = entries_of(alloc, around, mapping, pairs, found)?;
+    let cells = dict_cells(alloc, mapping, entries.as_slice(), found)?;
+    let number = found.statics.len() as u64;
+    found.statics.push(CStatic { kind, cells })?;
+    found.prebuilt.push((site, number))
+}
