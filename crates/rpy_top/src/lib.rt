@@ -33,3 +33,5 @@ mod run_tests;
 mod tests;
 #[cfg(test)]
 mod text_tests;
+#[cfg(test)]
+mod worked_tests;

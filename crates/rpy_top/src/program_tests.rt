@@ -72,8 +72,6 @@ const COVERS: &str =
 const LISTS: &str =
     "import os\nL = [1, 2, 3]\nM = [['a', 'bc'], []]\ndef item(l, i):\n    try:\n        return l[i]\n    except IndexError:\n        return -1\ndef entry_point(argv):\n    l = [5, 3]\n    l.append(7)\n    l.insert(0, 1)\n    print len(l), l.pop(), l.pop(0), item(l, -1), item(l, 2)\n    k = l + L\n    k += l\n    k.reverse()\n    for x in k[1:6]:\n        print x\n    del k[0]\n    print len(k), 9 in k, len(k * 2), M[0][1], len(M[1])\n    print '-'.join([w + str(len(w)) for w in 'ab,c,,d'.split(',') if w])\n    for a in argv:\n        print a\n    return len(argv)\n";
 
-const DICTS: &str = "def entry_point(argv):\n    print len({1: 2})\n    return 0\n";
-
 const TURNS: &str =
     "def entry_point(argv):\n    i = 0\n    while i < 1000:\n        l = [i, i]\n        i += 1\n    return i\n";
 
@@ -146,7 +144,6 @@ fn programs_run(rt: HostRuntime) -> Result<(), Fail> {
         ("--steps 4000 a.py", TURNS, 12, "", "steps spent\n"),
         ("a.py", HUGE, 12, "", "steps spent\n"),
         ("a.py", OUTSIDE, 11, "", "failed IndexError\n"),
-        ("a.py", DICTS, 16, "", "a.py: not yet\n"),
         (
             "a.py",
             UNTYPED,

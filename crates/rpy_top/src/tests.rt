@@ -1,5 +1,5 @@
 // Whole calls over files and sinks in memory.
-use crate::{TranslateFault, are_module_names, are_short, rpyc, translate};
+use crate::{are_module_names, are_short, rpyc, translate};
 use rpy_base::{HeapWatch, Leaks, MemFiles, MemSink, NoMem, Seq, Tally, Text, pair_of};
 use std::alloc::Global;
 use std::test::Fail;
@@ -68,8 +68,8 @@ fn words_and_sources_have_statuses(rt: HostRuntime) -> Result<(), Fail> {
         (
             "build a.py",
             "def entry_point(x):\n    print {1: 2}[1]\n    return len(x)\n",
-            16,
-            "a.py: not yet\n",
+            0,
+            "",
         ),
         (
             "build a.py",
@@ -230,7 +230,7 @@ fn translate_answers_the_text_of_build(rt: HostRuntime) -> Result<(), Fail> {
 }
 
 #[test]
-fn dicts_are_not_translated_yet(rt: HostRuntime) -> Result<(), Fail> {
+fn modules_have_names(rt: HostRuntime) -> Result<(), Fail> {
     let alloc = rt.alloc();
     let mut names = Seq::new(alloc);
     let mut sources = Seq::new(alloc);
@@ -242,11 +242,8 @@ fn dicts_are_not_translated_yet(rt: HostRuntime) -> Result<(), Fail> {
     assert!(rt; are_short(sources.as_slice()));
     assert_eq!(rt; names.len(), 2);
     assert_eq!(rt; sources.len(), 2);
-    let refused = match translate(alloc, &sources, &names) {
-        Err(TranslateFault::NotYet) => true,
-        _ => false,
-    };
-    assert!(rt; refused);
+    let text = translate(alloc, &sources, &names)?;
+    assert!(rt; starts_as_text(text.bytes()));
     for (name, is_one) in [
         ("while", false),
         ("os", false),
