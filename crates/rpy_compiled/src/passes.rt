@@ -6,6 +6,7 @@ use csub_tree::{CFile, checked};
 use exc_transform::make_explicit;
 use genc_lower::lower;
 use ll_code::LlProgram;
+use ll_joined::join_blocks;
 use refcount_transform::count;
 use rpy_base::NoMem;
 use rpy_checked::Checked;
@@ -22,13 +23,17 @@ pub fn low_level(
     checked: &Checked,
 ) -> Result<Option<LlProgram>, NoMem> {
     let resolved = resolved(alloc, program)?;
-    rtype(
+    let typed = rtype(
         alloc,
         &resolved,
         &checked.graphs,
         &checked.annotation,
         &checked.classes,
-    )
+    )?;
+    match typed {
+        None => Ok(None),
+        Some(typed) => Ok(Some(join_blocks(alloc, typed)?)),
+    }
 }
 
 // The C file of a low-level program; `None` where one of the passes does not take it.

@@ -1,0 +1,193 @@
+// Operations with other names for their variables.
+use csub_tree::COperand;
+use ll_code::{LlExit, LlLink, LlOp, LlType, VarId};
+use rpy_base::{NoMem, Seq};
+use std::alloc::Global;
+
+/// The names of variables: where one is the first of a pair, the second, or else its own; or what stands at its place.
+#[derive(Clone, Copy)]
+pub enum Names<'a> {
+    Pairs(&'a [(VarId, VarId)]),
+    Places(&'a [VarId]),
+}
+
+fn by_pairs(pairs: &[(VarId, VarId)], v: VarId) -> VarId {
+    for (from, to) in pairs {
+        if *from == v {
+            return *to;
+        }
+    }
+    v
+}
+
+impl<'a> Names<'a> {
+    pub fn of(self, v: VarId) -> VarId {
+        match self {
+            Names::Pairs(pairs) => by_pairs(pairs, v),
+            Names::Places(places) => match places.get(v as usize) {
+                None => v,
+                Some(place) => *place,
+            },
+        }
+    }
+
+    pub fn operand(self, x: COperand) -> COperand {
+        match x {
+            COperand::Var(v) => COperand::Var(self.of(v)),
+            COperand::Const(c) => COperand::Const(c),
+        }
+    }
+}
+
+pub fn operands(alloc: Global, names: Names<'_>, xs: &[COperand]) -> Result<Seq<COperand>, NoMem> {
+    let mut named = Seq::new(alloc);
+    for x in xs {
+        named.push(names.operand(*x))?;
+    }
+    Ok(named)
+}
+
+pub fn variables(alloc: Global, names: Names<'_>, given: &[VarId]) -> Result<Seq<VarId>, NoMem> {
+    let mut named = Seq::new(alloc);
+    for v in given {
+        named.push(names.of(*v))?;
+    }
+    Ok(named)
+}
+
+// ---- operations
+
+// One that calls nothing and reads or makes a block of memory, or else `ExcClear`.
+fn of_memory(names: Names<'_>, op: &LlOp) -> LlOp {
+    match op {
+        LlOp::GetField(a, n, b, k) => LlOp::GetField(names.of(*a), *n, names.of(*b), *k),
+        LlOp::SetField(n, b, k, x) => LlOp::SetField(*n, names.of(*b), *k, names.operand(*x)),
+        LlOp::GetItem(a, n, b, i) => {
+            LlOp::GetItem(names.of(*a), *n, names.of(*b), names.operand(*i))
+        }
+        LlOp::SetItem(n, b, i, x) => {
+            LlOp::SetItem(*n, names.of(*b), names.operand(*i), names.operand(*x))
+        }
+        LlOp::New(a, m, n) => LlOp::New(names.of(*a), *m, *n),
+        LlOp::NewArray(a, m, n, x) => LlOp::NewArray(names.of(*a), *m, *n, names.operand(*x)),
+        LlOp::Free(a) => LlOp::Free(names.of(*a)),
+        _ => LlOp::ExcClear,
+    }
+}
+
+// One that calls nothing.
+fn of_values(names: Names<'_>, op: &LlOp) -> LlOp {
+    match op {
+        LlOp::Set(a, x) => LlOp::Set(names.of(*a), names.operand(*x)),
+        LlOp::Unary(a, o, x) => LlOp::Unary(names.of(*a), *o, names.operand(*x)),
+        LlOp::Binary(a, o, x, y) => {
+            LlOp::Binary(names.of(*a), *o, names.operand(*x), names.operand(*y))
+        }
+        LlOp::Step(x) => LlOp::Step(names.operand(*x)),
+        LlOp::ExcType(a, n) => LlOp::ExcType(names.of(*a), *n),
+        LlOp::ExcValue(a, n) => LlOp::ExcValue(names.of(*a), *n),
+        LlOp::ExcSet(a, b) => LlOp::ExcSet(names.of(*a), names.of(*b)),
+        LlOp::Argc(a) => LlOp::Argc(names.of(*a)),
+        LlOp::ArgLen(a, x) => LlOp::ArgLen(names.of(*a), names.operand(*x)),
+        LlOp::Arg(a, x, y) => LlOp::Arg(names.of(*a), names.operand(*x), names.operand(*y)),
+        LlOp::Put(x) => LlOp::Put(names.operand(*x)),
+        LlOp::Raise(v) => LlOp::Raise(names.of(*v)),
+        _ => of_memory(names, op),
+    }
+}
+
+fn into(names: Names<'_>, a: Option<VarId>) -> Option<VarId> {
+    match a {
+        None => None,
+        Some(a) => Some(names.of(a)),
+    }
+}
+
+fn types(alloc: Global, kinds: &[LlType]) -> Result<Seq<LlType>, NoMem> {
+    let kinds = Vec::from_slice(alloc, kinds)?;
+    Ok(Seq::from_vec(kinds))
+}
+
+fn named(alloc: Global, names: Names<'_>, op: &LlOp) -> Result<LlOp, NoMem> {
+    match op {
+        LlOp::Call(a, graph, xs) => {
+            let xs = operands(alloc, names, xs.as_slice())?;
+            Ok(LlOp::Call(into(names, *a), *graph, xs))
+        }
+        LlOp::CallFn(a, gives, takes, b, xs) => {
+            let takes = types(alloc, takes.as_slice())?;
+            let xs = operands(alloc, names, xs.as_slice())?;
+            Ok(LlOp::CallFn(into(names, *a), *gives, takes, names.of(*b), xs))
+        }
+        _ => Ok(of_values(names, op)),
+    }
+}
+
+/// These operations, behind those that are there.
+pub fn push_named(
+    alloc: Global,
+    names: Names<'_>,
+    ops: &[LlOp],
+    all: &mut Seq<LlOp>,
+) -> Result<(), NoMem> {
+    for op in ops {
+        all.push(named(alloc, names, op)?)?;
+    }
+    Ok(())
+}
+
+// ---- exits
+
+/// The numbers of blocks: what stands at a number's place, or else that.
+pub fn number_of(numbers: &[u64], to: u64) -> u64 {
+    match numbers.get(to as usize) {
+        None => to,
+        Some(number) => *number,
+    }
+}
+
+fn link(alloc: Global, names: Names<'_>, numbers: &[u64], given: &LlLink) -> Result<LlLink, NoMem> {
+    Ok(LlLink {
+        to: number_of(numbers, given.to),
+        args: operands(alloc, names, given.args.as_slice())?,
+    })
+}
+
+fn link_or_none(
+    alloc: Global,
+    names: Names<'_>,
+    numbers: &[u64],
+    given: &Option<LlLink>,
+) -> Result<Option<LlLink>, NoMem> {
+    match given {
+        None => Ok(None),
+        Some(given) => Ok(Some(link(alloc, names, numbers, given)?)),
+    }
+}
+
+/// An exit, which goes to blocks of these numbers.
+pub fn exit(
+    alloc: Global,
+    names: Names<'_>,
+    numbers: &[u64],
+    given: &LlExit,
+) -> Result<LlExit, NoMem> {
+    match given {
+        LlExit::Goto(to) => Ok(LlExit::Goto(link(alloc, names, numbers, to)?)),
+        LlExit::If(v, there, elsewhere) => {
+            let there = link(alloc, names, numbers, there)?;
+            let elsewhere = link(alloc, names, numbers, elsewhere)?;
+            Ok(LlExit::If(names.of(*v), there, elsewhere))
+        }
+        LlExit::OnRaise(v, caught, without) => {
+            let caught = link_or_none(alloc, names, numbers, caught)?;
+            let without = link(alloc, names, numbers, without)?;
+            Ok(LlExit::OnRaise(names.of(*v), caught, without))
+        }
+        LlExit::Return(None) => Ok(LlExit::Return(None)),
+        LlExit::Return(Some(x)) => Ok(LlExit::Return(Some(names.operand(*x)))),
+        LlExit::Raise(v) => Ok(LlExit::Raise(names.of(*v))),
+        LlExit::Fail(why) => Ok(LlExit::Fail(*why)),
+        LlExit::Raised(v) => Ok(LlExit::Raised(names.of(*v))),
+    }
+}
