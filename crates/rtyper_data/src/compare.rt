@@ -147,7 +147,18 @@ fn beside_none(around: Around<'_>, a: Operand<'_>, body: &mut Body) -> Result<CO
     }
 }
 
-// Two instances of one family.
+// Two lists, or two dicts, of different types are the same where both are `None`.
+fn both_null(x: COperand, y: COperand, body: &mut Body) -> Result<COperand, NoMem> {
+    let a = is_null(x, body)?;
+    let b = is_null(y, body)?;
+    let a = unary(CUnary::B2S, LlType::Signed, a, body)?;
+    let b = unary(CUnary::B2S, LlType::Signed, b, body)?;
+    let all = binary(CBinary::And, LlType::Signed, a, b, body)?;
+    let zero = COperand::Const(CConst::Word(0));
+    binary(CBinary::Ne, LlType::Bool, all, zero, body)
+}
+
+// Two instances of one family, two lists or two dicts.
 fn same_pointer(
     around: Around<'_>,
     a: Operand<'_>,
@@ -160,8 +171,7 @@ fn same_pointer(
             if m == n {
                 return binary(CBinary::Peq, LlType::Bool, a.x, b.x, body);
             }
-            found.unknown = true;
-            Ok(flag(false))
+            both_null(a.x, b.x, body)
         }
         _ => {
             found.unknown = true;

@@ -63,13 +63,13 @@ pub enum Keyed {
     Make(u64),
     /// The length of an index for so many places.
     Size,
-    /// Items of an array up to its end hold nothing.
+    /// The items of an array hold nothing, from a place on.
     Fill(u64),
     /// The place of the entry of a key, or -1.
     Find(u64),
     /// The same; a key that is missing raises.
     Entry(u64),
-    /// The entry of a key at a place comes into the index.
+    /// The entries from a place on come into the index.
     Enter(u64),
     /// The index is made anew.
     Index(u64),

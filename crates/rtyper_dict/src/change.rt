@@ -62,8 +62,8 @@ pub fn add_entry(alloc: Global, m: Mapping, found: &mut Found) -> Result<LlGraph
     let put = op(put, LlOp::SetItem(m.second(), 5, var(9), two));
     let put = op(op(put, add(10, 3, word(1))), set_count(m, 0, var(10)));
     let put = if m.is_indexed() {
-        let xs = [var(0), var(1), var(3)];
-        op_made(put, call(alloc, None, Keyed::Enter(m.dict), xs, found))
+        let enter = call(alloc, None, Keyed::Enter(m.dict), [var(0), var(3)], found);
+        op_made(put, enter)
     } else {
         put
     };

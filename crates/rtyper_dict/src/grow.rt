@@ -38,7 +38,7 @@ pub fn make(alloc: Global, m: Mapping) -> Result<LlGraph, NoMem> {
 
 // ---- 0 the dict, 1 the number of entries, 2 that of places, 3 a test, 4 and 14 the number of further places, 5 the new
 // number, 6 the length of the new index, 7 that of the new second array, 8 and 9 the new arrays, 10 and 11 the old
-// ones, 12 the length of the old second one, 13 that of the old index
+// ones, 12 the length of the old second one, 13 that of the old index, and where the free places begin
 
 fn grow_types(alloc: Global, m: Mapping) -> Result<Seq<LlType>, NoMem> {
     kinds(
@@ -96,22 +96,7 @@ fn counted(alloc: Global, m: Mapping, found: &mut Found) -> Result<LlBlock, NoMe
     written(alloc, [0, 2], new, exit)
 }
 
-// The items of a new array hold nothing. Those that are references are there as such.
-fn filled(
-    alloc: Global,
-    item: LlType,
-    array: u64,
-    v: u64,
-    made: Result<Seq<LlOp>, NoMem>,
-    found: &mut Found,
-) -> Result<Seq<LlOp>, NoMem> {
-    match item {
-        LlType::Ptr(_) => made,
-        _ => op_made(made, call(alloc, None, Keyed::Fill(array), [var(v)], found)),
-    }
-}
-
-fn arrays_made(alloc: Global, m: Mapping, found: &mut Found) -> Result<LlBlock, NoMem> {
+fn arrays_made(alloc: Global, m: Mapping) -> Result<LlBlock, NoMem> {
     let arrays = ops(
         alloc,
         [
@@ -120,14 +105,11 @@ fn arrays_made(alloc: Global, m: Mapping, found: &mut Found) -> Result<LlBlock, 
             LlOp::SetField(m.first(), 8, 0, var(5)),
             LlOp::NewArray(9, m.second(), m.second(), var(7)),
             LlOp::SetField(m.second(), 9, 0, var(7)),
+            same(3, 2, word(0)),
         ],
     );
-    let one = filled(alloc, m.first_item(), m.first(), 8, arrays, found);
-    let two = filled(alloc, m.second_item(), m.second(), 9, one, found);
-    let new = [var(0), var(5), var(8), var(9)];
-    let old = [var(0), var(2), var(5), var(6), var(8), var(9)];
-    let exit = fork(alloc, 3, 5, new, 4, old);
-    written(alloc, [0, 2, 5, 6], op(two, same(3, 2, word(0))), exit)
+    let all = [var(0), var(2), var(5), var(6), var(8), var(9)];
+    written(alloc, [0, 2, 5, 6], arrays, fork(alloc, 3, 5, all, 4, all))
 }
 
 fn copied(alloc: Global, m: Mapping, found: &mut Found) -> Result<LlBlock, NoMem> {
@@ -139,25 +121,43 @@ fn copied(alloc: Global, m: Mapping, found: &mut Found) -> Result<LlBlock, NoMem
         alloc,
         [first(10, m, 0), second(11, m, 0), length(12, m, 11), sub(13, 12, var(2))],
     );
-    let exit = goto(alloc, 5, [var(0), var(5), var(8), var(9)]);
+    let exit = goto(alloc, 5, [var(0), var(2), var(5), var(6), var(8), var(9)]);
     written(alloc, [0, 2, 5, 6, 8, 9], op_made(op_made(old, one), two), exit)
+}
+
+// The items of a new array from a place on hold nothing. Those that are references do so from the start.
+fn filled(
+    alloc: Global,
+    item: LlType,
+    array: u64,
+    xs: [COperand; 2],
+    made: Result<Seq<LlOp>, NoMem>,
+    found: &mut Found,
+) -> Result<Seq<LlOp>, NoMem> {
+    match item {
+        LlType::Ptr(_) => made,
+        _ => op_made(made, call(alloc, None, Keyed::Fill(array), xs, found)),
+    }
 }
 
 fn replaced(alloc: Global, m: Mapping, found: &mut Found) -> Result<LlBlock, NoMem> {
     let fields = ops(
         alloc,
         [
+            add(13, 6, var(2)),
             LlOp::SetField(m.dict, 0, 1, var(5)),
             LlOp::SetField(m.dict, 0, 2, var(8)),
             LlOp::SetField(m.dict, 0, 3, var(9)),
         ],
     );
+    let one = filled(alloc, m.first_item(), m.first(), [var(8), var(2)], fields, found);
+    let both = filled(alloc, m.second_item(), m.second(), [var(9), var(13)], one, found);
     let all = if m.is_indexed() {
-        op_made(fields, call(alloc, None, Keyed::Index(m.dict), [var(0)], found))
+        op_made(both, call(alloc, None, Keyed::Index(m.dict), [var(0)], found))
     } else {
-        fields
+        both
     };
-    written(alloc, [0, 5, 8, 9], all, ends())
+    written(alloc, [0, 2, 5, 6, 8, 9], all, ends())
 }
 
 /// A place for one entry more.
@@ -166,7 +166,7 @@ pub fn grow(alloc: Global, m: Mapping, found: &mut Found) -> Result<LlGraph, NoM
     let blocks = and(blocks, has_room(alloc, m));
     let blocks = and(blocks, passes(alloc, [], ends()));
     let blocks = and(blocks, counted(alloc, m, found));
-    let blocks = and(blocks, arrays_made(alloc, m, found));
+    let blocks = and(blocks, arrays_made(alloc, m));
     let blocks = and(blocks, copied(alloc, m, found));
     let blocks = and(blocks, replaced(alloc, m, found));
     let types = grow_types(alloc, m);

@@ -1,7 +1,7 @@
 // Looking for a key. None of this pays a step.
 use crate::parts::{
-    BOOL, SIGNED, add, both, call, count, first, flag_in, gives_word, key_array, key_at, keys,
-    length, less, places, same, second, sub, taken,
+    BOOL, SIGNED, add, both, call, count, first, first_of_keys, first_type, flag_in, gives_word,
+    key_at, key_of, length, less, places, same, second, sub, taken,
 };
 use ll_code::{LlBlock, LlGraph, LlOp, LlType, VarId};
 use rpy_base::{NoMem, Seq};
@@ -34,8 +34,8 @@ fn is_key(
     flag_in(x, body)
 }
 
-// ---- by the index: 0 the dict, 1 the key, 2 the number of places, 3 a test, 4 the array of the keys, 5 the second
-// array, 6 its length, 7 the length of the index, 8 the hash, 9 the greatest place in the index, 10 a place in it,
+// ---- by the index: 0 the dict, 1 the key, 2 the number of places, 3 a test, 4 the first array, where
+// that holds the keys, 5 the second array, 6 its length, 7 the length of the index, 8 the hash, 9 the greatest place in the index, 10 a place in it,
 // 11 the word there, 12 the place of an entry, 13 that of its key, 14 its key, 15 and 16 the next place
 
 fn find_types(alloc: Global, m: Mapping) -> Result<Seq<LlType>, NoMem> {
@@ -46,7 +46,7 @@ fn find_types(alloc: Global, m: Mapping) -> Result<Seq<LlType>, NoMem> {
             m.stored_key(),
             SIGNED,
             BOOL,
-            LlType::Ptr(key_array(m)),
+            first_type(m),
             LlType::Ptr(m.second()),
             SIGNED,
             SIGNED,
@@ -73,7 +73,7 @@ fn hashed(alloc: Global, m: Mapping, found: &mut Found) -> Result<LlBlock, NoMem
     let hash = call(alloc, Some(8), Keyed::Hash(m.stored_key()), [var(1)], found);
     let arrays = ops(
         alloc,
-        [keys(4, m, 0), second(5, m, 0), length(6, m, 5), sub(7, 6, var(2))],
+        [first_of_keys(4, m, 0), second(5, m, 0), length(6, m, 5), sub(7, 6, var(2))],
     );
     let there = op_made(arrays, hash);
     let start = op(op(there, sub(9, 7, word(1))), both(10, 8, var(9)));
@@ -102,7 +102,7 @@ fn compared(
         [
             sub(12, 11, word(1)),
             key_at(13, m, 7, 12),
-            LlOp::GetItem(14, key_array(m), 4, var(13)),
+            key_of(14, m, 4, 5, 13),
             add(15, 10, word(1)),
             both(16, 15, var(9)),
         ],

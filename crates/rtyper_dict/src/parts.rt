@@ -44,16 +44,29 @@ pub fn length(into: VarId, m: Mapping, second: VarId) -> LlOp {
     LlOp::GetField(into, m.second(), second, 0)
 }
 
-/// The struct of the array that holds the keys, and that array.
-pub fn key_array(m: Mapping) -> u64 {
-    if m.keys_last() { m.second() } else { m.first() }
+/// The type of what stands for the first array, which is read where it holds the keys.
+pub fn first_type(m: Mapping) -> LlType {
+    if m.keys_last() {
+        SIGNED
+    } else {
+        LlType::Ptr(m.first())
+    }
 }
 
-pub fn keys(into: VarId, m: Mapping, dict: VarId) -> LlOp {
+pub fn first_of_keys(into: VarId, m: Mapping, dict: VarId) -> LlOp {
     if m.keys_last() {
-        second(into, m, dict)
+        LlOp::Set(into, word(0))
     } else {
         first(into, m, dict)
+    }
+}
+
+/// The key that stands at a place of its array, which is one of these two.
+pub fn key_of(into: VarId, m: Mapping, first: VarId, second: VarId, at: VarId) -> LlOp {
+    if m.keys_last() {
+        LlOp::GetItem(into, m.second(), second, COperand::Var(at))
+    } else {
+        LlOp::GetItem(into, m.first(), first, COperand::Var(at))
     }
 }
 

@@ -756,7 +756,7 @@ fn push_second(
             }
             lower_op(alloc, around, op, place, args, found, body)
         }
-        (RowOp::Binary(BinOp::Add, _), [a, b]) => {
+        (RowOp::Binary(BinOp::Add, _), [a, b]) | (RowOp::AddTo, [a, b]) => {
             if is_list(*b) && is_none(*a) {
                 return push_failure(alloc, around, place, found, body);
             }
