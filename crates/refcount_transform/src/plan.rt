@@ -1,5 +1,5 @@
 // Which structs are counted, and which graphs are made for them. A struct is counted where a block of
-// it, or of one with the same root, is made somewhere. The root of a struct is the base that has none
+// it, or of one with the same root, is made or written somewhere. The root of a struct is the base that has none
 // itself.
 use crate::slots::Slots;
 use ll_code::{LlBlock, LlGraph, LlOp, LlStruct, LlType};
@@ -49,12 +49,14 @@ pub fn root(structs: &[LlStruct], n: u64) -> u64 {
     at
 }
 
-// ---- structs of which blocks are made
+// ---- structs of which blocks are made or written
 
 fn made_by(op: &LlOp) -> Option<u64> {
     match op {
         LlOp::New(_, _, n) => Some(*n),
         LlOp::NewArray(_, _, n, _) => Some(*n),
+        LlOp::SetField(n, _, _, _) => Some(*n),
+        LlOp::SetItem(n, _, _, _) => Some(*n),
         _ => None,
     }
 }
@@ -88,7 +90,7 @@ fn none_marked(alloc: Global, count: usize) -> Result<Seq<bool>, NoMem> {
     Ok(marks)
 }
 
-// For each struct whether it is a root of which blocks are made.
+// For each struct whether it is a root of which blocks are made or written.
 fn roots_made(alloc: Global, structs: &[LlStruct], graphs: &[LlGraph]) -> Result<Seq<bool>, NoMem> {
     let mut marks = none_marked(alloc, structs.len())?;
     for graph in graphs {
