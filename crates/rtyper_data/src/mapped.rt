@@ -178,13 +178,24 @@ fn zeros(alloc: Global, count: usize) -> Result<Seq<i64>, NoMem> {
     Ok(words)
 }
 
+// Where a hash leads in an index of so many words.
+fn place_of_hash(hash: i64, size: usize) -> usize {
+    match i64::try_from(size) {
+        Err(_) => 0,
+        Ok(size) => match usize::try_from(hash & size.wrapping_sub(1)) {
+            Err(_) => 0,
+            Ok(at) => at,
+        },
+    }
+}
+
 // A word goes to the first empty place from that of its hash on.
 fn enter(hash: i64, word: i64, words: &mut Seq<i64>) {
     let size = words.len();
     if size == 0 {
         return;
     }
-    let mut at = (hash & (size as i64).wrapping_sub(1)) as usize;
+    let mut at = place_of_hash(hash, size);
     for _ in 0..size {
         if at >= size {
             at = 0;
