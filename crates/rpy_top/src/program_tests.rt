@@ -79,6 +79,16 @@ const HUGE: &str = "def entry_point(argv):\n    l = [0] * 1000000000000000000\n 
 
 const OUTSIDE: &str = "def entry_point(argv):\n    l = [1, 2]\n    print l[5]\n    return 0\n";
 
+// A key that is set again goes last.
+const MAPS: &str =
+    "def entry_point(argv):\n    d = {'a': 1, 'b': 2, 'c': 3}\n    d['a'] = 10\n    del d['b']\n    d['b'] = 20\n    for k, v in d.items():\n        print k, v\n    return len(d)\n";
+
+// Keys of each kind, with an index and without one, in constants too.
+const KEYS: &str =
+    "class P(object):\n    def __init__(self, n):\n        self.n = n\nW = {1: 'one', 2: 'two', 1: 'eins'}\nT = {('a', 1): 3, ('b', 2): 4}\ndef look(d, k):\n    try:\n        return d[k]\n    except KeyError:\n        return -1\ndef entry_point(argv):\n    d = {}\n    i = 0\n    while i < 40:\n        d[str(i)] = i\n        i += 1\n    i = 0\n    while i < 38:\n        del d[str(i)]\n        i += 1\n    print len(d), '38' in d, '37' in d, look(d, '39'), look(d, '0')\n    o = {}\n    for w in ['x', 'yy', 'x']:\n        o[w] = P(len(w))\n    p = o.get('z')\n    if p is None:\n        p = o['yy']\n    print p.n, len(o), W[1], 3 in W, T[('b', 2)], T.get(('a', 2), 7)\n    c = {}\n    for x in 'hello':\n        c[x] = c.get(x, 0) + 1\n    for x, n in c.items():\n        print x + str(n)\n    f = {True: 'b', False: 'a'}\n    print f[len(argv) > 1] + f[True], ''.join(f.values()), len([k for k in c if c[k] > 1])\n    for k in f:\n        print k\n    return len(c)\n";
+
+const MISSING: &str = "def entry_point(argv):\n    d = {1: 'a'}\n    return len(d[2])\n";
+
 const UNTYPED: &str = "def entry_point(argv):\n    return 1 + 'a'\n";
 
 // The status of a call over one file, and what its sinks took.
@@ -144,6 +154,17 @@ fn programs_run(rt: HostRuntime) -> Result<(), Fail> {
         ("--steps 4000 a.py", TURNS, 12, "", "steps spent\n"),
         ("a.py", HUGE, 12, "", "steps spent\n"),
         ("a.py", OUTSIDE, 11, "", "failed IndexError\n"),
+        ("a.py", MAPS, 0, "a 10\nc 3\nb 20\n", "returned 3\n"),
+        ("--steps 16 a.py", MAPS, 0, "a 10\nc 3\nb 20\n", "returned 3\n"),
+        ("--steps 15 a.py", MAPS, 12, "a 10\nc 3\n", "steps spent\n"),
+        (
+            "a.py",
+            KEYS,
+            0,
+            "2 True False 39 -1\n2 2 eins False 4 7\nh1\ne1\nl2\no1\nab ba 1\nTrue\nFalse\n",
+            "returned 4\n",
+        ),
+        ("a.py", MISSING, 10, "", "raised KeyError\n"),
         (
             "a.py",
             UNTYPED,
