@@ -26,6 +26,8 @@ pub use top::{rpyc, translate};
 pub use words::{Command, RunWords, WordsFault, are_module_names, read_words};
 
 #[cfg(test)]
+mod hostile_tests;
+#[cfg(test)]
 mod program_tests;
 #[cfg(test)]
 mod run_tests;

@@ -155,7 +155,13 @@ fn programs_run(rt: HostRuntime) -> Result<(), Fail> {
         ("a.py", HUGE, 12, "", "steps spent\n"),
         ("a.py", OUTSIDE, 11, "", "failed IndexError\n"),
         ("a.py", MAPS, 0, "a 10\nc 3\nb 20\n", "returned 3\n"),
-        ("--steps 16 a.py", MAPS, 0, "a 10\nc 3\nb 20\n", "returned 3\n"),
+        (
+            "--steps 16 a.py",
+            MAPS,
+            0,
+            "a 10\nc 3\nb 20\n",
+            "returned 3\n",
+        ),
         ("--steps 15 a.py", MAPS, 12, "a 10\nc 3\n", "steps spent\n"),
         (
             "a.py",

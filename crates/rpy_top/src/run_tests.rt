@@ -21,9 +21,9 @@ const PAYS: &str =
 
 const HEAD: &str = "/* C-sub 1 */\n#include \"rpy_prim.h\"\nstruct s0 {\n";
 
-// A watcher that refuses its first block.
+/// A watcher that refuses a block behind so many.
 #[derive(Drop)]
-struct Refuses {
+pub struct Refuses {
     made: u64,
     gone: u64,
     most: u64,
@@ -31,7 +31,7 @@ struct Refuses {
 }
 
 impl Refuses {
-    fn new(most: u64) -> Refuses
+    pub fn new(most: u64) -> Refuses
         ensures made { result.made ≡ 0 }
         ensures gone { result.gone ≡ 0 }
     {

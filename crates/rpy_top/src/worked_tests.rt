@@ -7,7 +7,7 @@ use std::alloc::Global;
 use std::test::Fail;
 
 // A stack language.
-const STACK: &str =
+pub const STACK: &str =
     "import os, sys\nfrom rpython.rlib.rarithmetic import ovfcheck\n\nclass StopRun(Exception):\n    def __init__(self, code):\n        self.code = code\n\nclass Machine(object):\n    limit = 100\n    def __init__(self):\n        self.stack = []\n        self.names = {}\n    def push(self, n):\n        if len(self.stack) >= self.limit:\n            raise StopRun(2)\n        self.stack.append(n)\n    def pop(self):\n        try:\n            return self.stack.pop()\n        except IndexError:\n            raise StopRun(3)\n\ndef op_add(m):\n    b = m.pop()\n    a = m.pop()\n    m.push(a + b)\n\ndef op_mul(m):\n    b = m.pop()\n    a = m.pop()\n    try:\n        m.push(ovfcheck(a * b))\n    except OverflowError:\n        print 'overflow'\n        raise StopRun(4)\n\ndef op_show(m):\n    print m.pop()\n\nOPS = {'+': op_add, '*': op_mul, '.': op_show}\n\ndef run(m, text):\n    for word in text.split(' '):\n        if word in OPS:\n            OPS[word](m)\n        elif word.endswith('!'):\n            m.names[word[:-1]] = m.pop()\n        elif word in m.names:\n            m.push(m.names[word])\n        else:\n            m.push(int(word))\n\ndef entry_point(argv):\n    if len(argv) < 2:\n        os.write(1, 'usage\\n')\n        return 1\n    m = Machine()\n    try:\n        run(m, argv[1])\n    except StopRun, e:\n        print 'stop', e.code\n        return e.code\n    except ValueError:\n        print 'bad word'\n        return 5\n    print len(m.stack), 'left'\n    return 0\n\ndef target(driver, args):\n    return entry_point, None\n\nif __name__ == '__main__':\n    sys.exit(entry_point(sys.argv))\n";
 
 const ITEMS: &str =
@@ -28,16 +28,16 @@ const KEYS: &str =
 const POPS: &str =
     "def entry_point(argv):\n    l = []\n    i = 0\n    while i < 100000:\n        l.append(str(i))\n        i += 1\n    n = 0\n    while len(l) > 0:\n        n += len(l.pop())\n    return n\n";
 
-const CHAIN: &str =
+pub const CHAIN: &str =
     "class Node(object):\n    def __init__(self, link):\n        self.link = link\ndef entry_point(argv):\n    n = None\n    i = 0\n    while i < 100000:\n        n = Node(n)\n        i += 1\n    n = None\n    print i\n    return 0\n";
 
-const TURNS: &str =
+pub const TURNS: &str =
     "def entry_point(argv):\n    i = 0\n    while i < 1000:\n        l = [i, i]\n        i += 1\n    return i\n";
 
-const PROGRAM: &str = "3 4 + . 2 x! x x * . 9223372036854775807 x *";
+pub const PROGRAM: &str = "3 4 + . 2 x! x x * . 9223372036854775807 x *";
 
 // A call whose last word, which may have blanks, is given apart.
-fn told(
+pub fn told(
     alloc: Global,
     line: &str,
     word: &str,
