@@ -169,35 +169,35 @@ fn puts_fail(rt: HostRuntime) -> Result<(), Fail> {
     Ok(())
 }
 
+fn leaks_first(alloc: Global) -> Result<(u8, MemSink), NoMem> {
+    let words = words_of(alloc, "run --steps 4001 --leaks --tally a.py")?;
+    let mut files = files_of(alloc, "a.py", TURNS.as_bytes())?;
+    let mut out = MemSink::new(alloc);
+    let mut err = MemSink::new(alloc);
+    let leaks = Box::new(alloc, Leaks::new(alloc))?;
+    let tally = Box::new(alloc, Tally::new())?;
+    let mut watch = pair_of(alloc, leaks, tally)?;
+    let answered = rpyc(alloc, &words, &mut files, &mut out, &mut err, &mut watch);
+    Ok((answered, err))
+}
+
 // Reports of those watchers that are asked for, in the order of the list.
 #[test]
 fn watchers_report_in_their_order(rt: HostRuntime) -> Result<(), Fail> {
     let alloc = rt.alloc();
-    for (is_first, said) in [
-        (
-            true,
-            "returned 1000\nleaks: none\ntally: made 2003, gone 2003, left 0\n",
-        ),
-        (
-            false,
-            "returned 1000\ntally: made 2003, gone 2003, left 0\nleaks: none\n",
-        ),
-    ] {
-        let words = words_of(alloc, "run --steps 4001 --leaks --tally a.py")?;
-        let mut files = files_of(alloc, "a.py", TURNS.as_bytes())?;
-        let mut out = MemSink::new(alloc);
-        let mut err = MemSink::new(alloc);
-        let tally = Box::new(alloc, Tally::new())?;
-        let leaks = Box::new(alloc, Leaks::new(alloc))?;
-        let mut watch = if is_first {
-            pair_of(alloc, leaks, tally)?
-        } else {
-            pair_of(alloc, tally, leaks)?
-        };
-        let answered = rpyc(alloc, &words, &mut files, &mut out, &mut err, &mut watch);
-        assert_eq!(rt; answered, 0);
-        assert_eq!(rt; err.taken(), said.as_bytes());
-    }
+    let (status, said) = leaks_first(alloc)?;
+    assert_eq!(rt; status, 0);
+    assert_eq!(rt;
+        said.taken(),
+        b"returned 1000\nleaks: none\ntally: made 2003, gone 2003, left 0\n".as_slice()
+    );
+    let line = "run --steps 4001 --leaks --tally a.py";
+    let (status, _, said) = told(alloc, line, "", "a.py", TURNS.as_bytes())?;
+    assert_eq!(rt; status, 0);
+    assert_eq!(rt;
+        said.taken(),
+        b"returned 1000\ntally: made 2003, gone 2003, left 0\nleaks: none\n".as_slice()
+    );
     Ok(())
 }
 

@@ -36,6 +36,14 @@ pub const TURNS: &str =
 
 pub const PROGRAM: &str = "3 4 + . 2 x! x x * . 9223372036854775807 x *";
 
+fn words_with(alloc: Global, line: &str, word: &str) -> Result<Vec<Text>, NoMem> {
+    let mut words = words_of(alloc, line)?;
+    if !word.is_empty() {
+        words.push(Text::from_bytes(alloc, word.as_bytes())?)?;
+    }
+    Ok(words)
+}
+
 // A call whose last word, which may have blanks, is given apart.
 pub fn told(
     alloc: Global,
@@ -44,10 +52,7 @@ pub fn told(
     name: &str,
     source: &[u8],
 ) -> Result<(u8, MemSink, MemSink), NoMem> {
-    let mut words = words_of(alloc, line)?;
-    if !word.is_empty() {
-        words.push(Text::from_bytes(alloc, word.as_bytes())?)?;
-    }
+    let words = words_with(alloc, line, word)?;
     let mut files = files_of(alloc, name, source)?;
     let mut out = MemSink::new(alloc);
     let mut err = MemSink::new(alloc);
