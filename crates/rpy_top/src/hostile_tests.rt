@@ -218,6 +218,30 @@ fn a_run_is_refused(rt: HostRuntime) -> Result<(), Fail> {
     Ok(())
 }
 
+// Without an option nothing is reported, and the watchers that come back tell what they saw.
+#[test]
+fn watchers_come_back(rt: HostRuntime) -> Result<(), Fail> {
+    let alloc = rt.alloc();
+    let words = words_of(alloc, "run --steps 4001 a.py")?;
+    let mut files = files_of(alloc, "a.py", TURNS.as_bytes())?;
+    let mut out = MemSink::new(alloc);
+    let mut err = MemSink::new(alloc);
+    let tally = Box::new(alloc, Tally::new())?;
+    let leaks = Box::new(alloc, Leaks::new(alloc))?;
+    let mut watch = pair_of(alloc, tally, leaks)?;
+    rpyc(alloc, &words, &mut files, &mut out, &mut err, &mut watch);
+    assert_eq!(rt; err.taken(), b"returned 1000\n".as_slice());
+    let mut texts = Text::new(alloc);
+    for watcher in &watch {
+        texts.append(watcher.report(alloc)?.bytes())?;
+    }
+    assert_eq!(rt;
+        texts.bytes(),
+        b"tally: made 2003, gone 2003, left 0\nleaks: none\n".as_slice()
+    );
+    Ok(())
+}
+
 #[test]
 fn runs_end_as_stated(rt: HostRuntime) -> Result<(), Fail> {
     let alloc = rt.alloc();

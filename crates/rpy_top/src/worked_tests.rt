@@ -138,7 +138,7 @@ fn blocks_are_released(rt: HostRuntime) -> Result<(), Fail> {
         ("run --tally a.py", "", CHAIN, "left 0\n"),
         ("run --leaks a.py", "", CHAIN, "leaks: none\n"),
         ("run --tally --steps 4001 a.py", "", TURNS, "left 0\n"),
-        ("run --tally --steps 2001 a.py", "", TURNS, "left 5\n"),
+        ("run --tally --steps 2001 a.py", "", TURNS, "left 3\n"),
     ] {
         let (_, _, err) = told(alloc, line, word, "a.py", source.as_bytes())?;
         let is_end = match err.taken().strip_suffix(end.as_bytes()) {
