@@ -1,0 +1,4 @@
+pub mod Shape
+pub mod Order
+pub mod Join
+pub mod Laws

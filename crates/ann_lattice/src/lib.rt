@@ -4,6 +4,7 @@
 mod compare;
 mod container;
 mod instance;
+mod laws;
 mod method;
 mod number;
 mod order;
@@ -13,6 +14,7 @@ mod upper;
 mod walk;
 
 pub use compare::truth_of;
+pub use laws::elements_are_ordered;
 pub use method::{Method, fits_none, method_of};
 pub use order::{below, is_key};
 pub use table::{row, row_of};

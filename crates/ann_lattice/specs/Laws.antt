@@ -1,0 +1,62 @@
+-- What holds of the order of elements and of their join.
+use Rattle.std.specs.Prelude.{◌≡◌, ℕ, ◌<◌, ◌≤◌, ◌&&◌, nat_le, nat_lt, Bool, true, false, List, [], ◌∷◌, length, Option, Some, None}
+use Rattle.rpy_tree.specs.declared.program.ClassInfo.{ClassInfo}
+use Rattle.class_desc.specs.Range.{IsForest}
+use Rattle.ann_element.specs.Sites.{leader}
+use Rattle.ann_lattice.specs.Shape.{Shape, Nothing, NoneOnly, Truth, Num, Str, Tup, Lst, Dct, Inst, Fun, Clash, Shapes, end, more}
+use Rattle.ann_lattice.specs.Order.{Below}
+use Rattle.ann_lattice.specs.Join.{Within, depth, no_clash}
+
+-- there are classes, their bases are classes, and those of each come to an end
+pub record IsTree (classes : List ClassInfo) : Type 0 where
+  pub some : 0 < length classes
+  pub forest : IsForest classes
+
+-- an element written with the least site of each class
+abbrev pub name_of : List ℕ → Option ℕ → Option ℕ
+name_of t None = None
+name_of t (Some s) = Some (leader t s)
+
+abbrev mutual
+  pub named : List ℕ → Shape → Shape
+  named t (Tup xs) = Tup (all_named t xs)
+  named t (Lst s n) = Lst (leader t s) n
+  named t (Dct s n) = Dct (leader t s) n
+  named t (Clash o p) = Clash (name_of t o) (name_of t p)
+  named t other = other
+
+  pub all_named : List ℕ → Shapes → Shapes
+  all_named t end = end
+  all_named t (more x xs) = more (named t x) (all_named t xs)
+
+-- numbers in rising order
+abbrev pub from : ℕ → List ℕ → Bool
+from n [] = true
+from n (f ∷ fs) = nat_lt n f && from f fs
+
+abbrev pub rising : List ℕ → Bool
+rising [] = true
+rising (f ∷ fs) = from f fs
+
+-- no item of a tuple, at any depth, is in conflict, and functions stand in rising order
+abbrev mutual
+  pub is_sound : Shape → Bool
+  is_sound (Tup xs) = no_clash xs && are_sound xs
+  is_sound (Fun fs n) = rising fs
+  is_sound other = true
+
+  pub are_sound : Shapes → Bool
+  are_sound end = true
+  are_sound (more x xs) = is_sound x && are_sound xs
+
+-- and at most 8 tuples stand inside one another
+pub record IsFormed (x : Shape) : Type 0 where
+  pub sound : is_sound x ≡ true
+  pub shallow : depth x ≤ 8
+
+pub record IsOrder (classes : List ClassInfo) (t : List ℕ) : Type 0 where
+  pub itself : (x : Shape) → Below classes t x x
+  pub onward : (x y z : Shape) → Below classes t x y → Below classes t y z → Below classes t x z
+  pub both : (x y : Shape) → IsFormed x → IsFormed y → Below classes t x y → Below classes t y x → named t x ≡ named t y
+  -- under larger classes of sites more is below
+  pub wider : (u : List ℕ) → Within t u → (x y : Shape) → Below classes t x y → Below classes u x y

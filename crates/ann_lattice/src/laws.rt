@@ -1,0 +1,11 @@
+// Laws of the order of elements and of their join, over all classes and all classes of sites.
+ghost use Rattle.std.specs.Prelude.{ℕ, List};
+ghost use Rattle.rpy_tree.specs.declared.program.ClassInfo.{ClassInfo};
+ghost use Rattle.ann_lattice.specs.Laws.{IsTree, IsOrder};
+
+/// The order is reflexive and transitive, and elements below each other are one, written with the least
+/// sites of their classes.
+#[tactic(auto, using(crate::proofs::Ordered::is_order))]
+pub fn elements_are_ordered()
+    ensures { (classes : List ClassInfo) → IsTree classes → (same : List ℕ) → IsOrder classes same }
+{}
