@@ -1,3 +1,4 @@
 pub mod Sites
 pub mod Tree
 pub mod Ordered
+pub mod Joined

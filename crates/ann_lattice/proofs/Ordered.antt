@@ -74,7 +74,7 @@ pub among_self : (fs : List ℕ) → Among fs fs
 among_self [] = tt
 among_self (f ∷ fs) = (has_first f fs, among_more f fs fs (among_self fs))
 
-no : false ≡ true → ⊥
+pub no : false ≡ true → ⊥
 no e = cc
 
 has_by : (b : Bool) (g f : ℕ) (gs hs : List ℕ) → (g == f) ≡ b → (b || has gs f) ≡ true → has hs g ≡ true → (has gs f ≡ true → has hs f ≡ true) → has hs f ≡ true
@@ -351,11 +351,11 @@ class_both t None (Some b) h j = absurd j.0
 class_both t (Some a) None h j = absurd h.0
 class_both t (Some a) (Some b) h j = ap (λ s. Some s) h.0
 
-and_left : (a b : Bool) → (a && b) ≡ true → a ≡ true
+pub and_left : (a b : Bool) → (a && b) ≡ true → a ≡ true
 and_left true b e = refl
 and_left false b e = absurd (no e)
 
-and_right : (a b : Bool) → (a && b) ≡ true → b ≡ true
+pub and_right : (a b : Bool) → (a && b) ≡ true → b ≡ true
 and_right true b e = e
 and_right false b e = absurd (no e)
 

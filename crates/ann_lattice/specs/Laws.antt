@@ -5,7 +5,7 @@ use Rattle.class_desc.specs.Range.{IsForest}
 use Rattle.ann_element.specs.Sites.{leader}
 use Rattle.ann_lattice.specs.Shape.{Shape, Nothing, NoneOnly, Truth, Num, Str, Tup, Lst, Dct, Inst, Fun, Clash, Shapes, end, more}
 use Rattle.ann_lattice.specs.Order.{Below}
-use Rattle.ann_lattice.specs.Join.{Within, depth, no_clash}
+use Rattle.ann_lattice.specs.Join.{Within, depth, no_clash, join, classes_after}
 
 -- there are classes, their bases are classes, and those of each come to an end
 pub record IsTree (classes : List ClassInfo) : Type 0 where
@@ -60,3 +60,12 @@ pub record IsOrder (classes : List ClassInfo) (t : List ℕ) : Type 0 where
   pub both : (x y : Shape) → IsFormed x → IsFormed y → Below classes t x y → Below classes t y x → named t x ≡ named t y
   -- under larger classes of sites more is below
   pub wider : (u : List ℕ) → Within t u → (x y : Shape) → Below classes t x y → Below classes u x y
+
+-- the join is the least element above both, under the finest classes of sites that allow it
+pub record IsJoin (classes : List ClassInfo) (t : List ℕ) : Type 0 where
+  pub left : (x y : Shape) → Below classes (classes_after classes t x y) x (join classes x y)
+  pub right : (x y : Shape) → Below classes (classes_after classes t x y) y (join classes x y)
+  pub finer : (x y : Shape) → Within t (classes_after classes t x y)
+  pub finest : (u : List ℕ) → Within t u → (x y z : Shape) → IsFormed z → Below classes u x z → Below classes u y z → Within (classes_after classes t x y) u
+  pub least : (u : List ℕ) → (x y z : Shape) → IsFormed z → Below classes u x z → Below classes u y z → Below classes u (join classes x y) z
+  pub formed : (x y : Shape) → IsFormed x → IsFormed y → IsFormed (join classes x y)

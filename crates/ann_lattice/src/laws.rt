@@ -1,11 +1,17 @@
 // Laws of the order of elements and of their join, over all classes and all classes of sites.
 ghost use Rattle.std.specs.Prelude.{ℕ, List};
 ghost use Rattle.rpy_tree.specs.declared.program.ClassInfo.{ClassInfo};
-ghost use Rattle.ann_lattice.specs.Laws.{IsTree, IsOrder};
+ghost use Rattle.ann_lattice.specs.Laws.{IsTree, IsOrder, IsJoin};
 
 /// The order is reflexive and transitive, and elements below each other are one, written with the least
 /// sites of their classes.
 #[tactic(auto, using(crate::proofs::Ordered::is_order))]
 pub fn elements_are_ordered()
     ensures { (classes : List ClassInfo) → IsTree classes → (same : List ℕ) → IsOrder classes same }
+{}
+
+/// The join of two elements is the least one above both, under the finest classes of sites that allow it.
+#[tactic(auto, using(crate::proofs::Joined::is_join))]
+pub fn joins_are_least()
+    ensures { (classes : List ClassInfo) → IsTree classes → (same : List ℕ) → IsJoin classes same }
 {}
