@@ -8,10 +8,10 @@ use Rattle.ann_element.specs.Sites.{leader, Same}
 use Rattle.ann_lattice.specs.Shape.{Width, One, Any, OrNone, Shape, Nothing, NoneOnly, Truth, Num, Str, Tup, Lst, Dct, Inst, Fun, Clash, Shapes, end, more}
 use Rattle.ann_lattice.specs.Order.{kept, lists, all_lists, dicts, all_dicts, In, Held, Implies, Wider, LessKnown, Sub, has, Among, Below, least, none, none_str, none_list, none_dict, none_inst, none_fun, truth, num, str, tuple, list, dict, inst, fun, clash, Each, no_more, and_more}
 use Rattle.ann_lattice.specs.Join.{Within, AllSame, unites, chain, first, max_width, max_known, join_inst, put, union, is_clash, no_clash, equal_count, depth, depths, conflict, stays, join, joins, all_tied, tied, all_each, classes_after}
-use Rattle.ann_lattice.specs.Laws.{IsTree, IsFormed, IsJoin, from, rising, is_sound, are_sound}
-use Rattle.ann_lattice.proofs.Sites.{same_split, same_append, unites_old, unites_new, unites_least}
+use Rattle.ann_lattice.specs.Laws.{IsTree, IsFormed, IsJoin, Alike, Level, IsLattice, from, rising, is_sound, are_sound}
+use Rattle.ann_lattice.proofs.Sites.{within_self, within_on, same_split, same_append, unites_old, unites_new, unites_least}
 use Rattle.ann_lattice.proofs.Tree.{sub_self, common_above, common_least}
-use Rattle.ann_lattice.proofs.Ordered.{implies_self, wider_self, known_self, has_first, has_more, among_self, among_more, held_append, held_split, held_kept, below_self, lists_on, dicts_on, no, and_left, and_right}
+use Rattle.ann_lattice.proofs.Ordered.{implies_self, wider_self, known_self, has_first, has_more, among_self, among_more, held_append, held_split, held_kept, below_self, below_more, below_on, no, and_left, and_right}
 
 -- ---- each kind
 
@@ -94,7 +94,7 @@ known_max (Some true) None c h j = j
 known_max (Some false) None c h j = j
 known_max None b c h j = h
 
-both : {a b : Bool} → a ≡ true → b ≡ true → (a && b) ≡ true
+pub both : {a b : Bool} → a ≡ true → b ≡ true → (a && b) ≡ true
 both {a} {b} e d = ap (λ x. x && b) e ∙ d
 
 -- ---- the union of functions
@@ -190,15 +190,29 @@ module _ (k : List ClassInfo) where
   inst_right t c d a b (Some m) e = inst d m b (a || b) ((common_above k c d m e).1) (implies_right a b)
   inst_right t c d a b None e = clash (Inst d b) None None tt tt
 
-  tup_left : (b : Bool) (t : List ℕ) (xs ys : Shapes) → stays xs ys (joins k xs ys) ≡ b → AllSame t (if b then all_each k xs ys else all_tied (Tup xs) (Tup ys))
-      → (equal_count xs ys ≡ true → AllSame t (all_each k xs ys) → Each k t xs (joins k xs ys)) → Below k t (Tup xs) (if b then Tup (joins k xs ys) else conflict (Tup xs) (Tup ys))
-  tup_left true t xs ys e a rec = tuple xs (joins k xs ys) (rec (and_left (equal_count xs ys) (no_clash (joins k xs ys) && nat_le (depths (joins k xs ys)) 7) e) a)
-  tup_left false t xs ys e a rec = conflict_left t (Tup xs) (Tup ys) a
+  tied_each : (b : Bool) (t : List ℕ) (ps qs : List (ℕ × ℕ)) → b ≡ true → AllSame t ((if b then ps else []) ++ qs) → AllSame t ps
+  tied_each true t ps qs e a = (same_split t ps qs a).0
+  tied_each false t ps qs e a = absurd (no e)
 
-  tup_right : (b : Bool) (t : List ℕ) (xs ys : Shapes) → stays xs ys (joins k xs ys) ≡ b → AllSame t (if b then all_each k xs ys else all_tied (Tup xs) (Tup ys))
+  tied_rest : (b : Bool) (t : List ℕ) (ps qs : List (ℕ × ℕ)) → AllSame t ((if b then ps else []) ++ qs) → AllSame t qs
+  tied_rest true t ps qs a = (same_split t ps qs a).1
+  tied_rest false t ps qs a = a
+
+  tup_left : (b : Bool) (t : List ℕ) (xs ys : Shapes) → stays xs ys (joins k xs ys) ≡ b
+      → AllSame t ((if equal_count xs ys then all_each k xs ys else []) ++ (if b then [] else all_tied (Tup xs) (Tup ys)))
+      → (equal_count xs ys ≡ true → AllSame t (all_each k xs ys) → Each k t xs (joins k xs ys)) → Below k t (Tup xs) (if b then Tup (joins k xs ys) else conflict (Tup xs) (Tup ys))
+  tup_left true t xs ys e a rec =
+      let count = and_left (equal_count xs ys) (no_clash (joins k xs ys) && nat_le (depths (joins k xs ys)) 7) e in
+      tuple xs (joins k xs ys) (rec count (tied_each (equal_count xs ys) t (all_each k xs ys) [] count a))
+  tup_left false t xs ys e a rec = conflict_left t (Tup xs) (Tup ys) (tied_rest (equal_count xs ys) t (all_each k xs ys) (all_tied (Tup xs) (Tup ys)) a)
+
+  tup_right : (b : Bool) (t : List ℕ) (xs ys : Shapes) → stays xs ys (joins k xs ys) ≡ b
+      → AllSame t ((if equal_count xs ys then all_each k xs ys else []) ++ (if b then [] else all_tied (Tup xs) (Tup ys)))
       → (equal_count xs ys ≡ true → AllSame t (all_each k xs ys) → Each k t ys (joins k xs ys)) → Below k t (Tup ys) (if b then Tup (joins k xs ys) else conflict (Tup xs) (Tup ys))
-  tup_right true t xs ys e a rec = tuple ys (joins k xs ys) (rec (and_left (equal_count xs ys) (no_clash (joins k xs ys) && nat_le (depths (joins k xs ys)) 7) e) a)
-  tup_right false t xs ys e a rec = conflict_right t (Tup xs) (Tup ys) a
+  tup_right true t xs ys e a rec =
+      let count = and_left (equal_count xs ys) (no_clash (joins k xs ys) && nat_le (depths (joins k xs ys)) 7) e in
+      tuple ys (joins k xs ys) (rec count (tied_each (equal_count xs ys) t (all_each k xs ys) [] count a))
+  tup_right false t xs ys e a rec = conflict_right t (Tup xs) (Tup ys) (tied_rest (equal_count xs ys) t (all_each k xs ys) (all_tied (Tup xs) (Tup ys)) a)
 
   module _ (tree : IsTree k) where
     up_inst : (t : List ℕ) (c : ℕ) (b : Bool) → Below k t (Inst c b) (Inst c true)
@@ -463,9 +477,11 @@ module _ (k : List ClassInfo) where
 
   -- ---- the sites that are tied are of one class in every element above both
 
-  tup_tied : (b : Bool) (t : List ℕ) (xs ys : Shapes) → AllSame t (all_each k xs ys) → AllSame t (all_tied (Tup xs) (Tup ys)) → AllSame t (if b then all_each k xs ys else all_tied (Tup xs) (Tup ys))
-  tup_tied true t xs ys a b = a
-  tup_tied false t xs ys a b = b
+  tied_if : (b c : Bool) (t : List ℕ) (ps qs : List (ℕ × ℕ)) → AllSame t ps → AllSame t qs → AllSame t ((if b then ps else []) ++ (if c then [] else qs))
+  tied_if true true t ps qs a b = same_append t ps [] a tt
+  tied_if true false t ps qs a b = same_append t ps qs a b
+  tied_if false true t ps qs a b = tt
+  tied_if false false t ps qs a b = b
 
   plain_tied : (t : List ℕ) (o p : Option ℕ) (x y : Shape) → Held t o (lists x) → Held t o (lists y) → Held t p (dicts x) → Held t p (dicts y)
       → AllSame t (if is_clash (join k x y) then all_tied x y else [])
@@ -476,7 +492,7 @@ module _ (k : List ClassInfo) where
     tied_held t o p (Lst s a) (Lst u b) h i j l = (same_of t o s u h.0 i.0, tt)
     tied_held t o p (Dct s a) (Dct u b) h i j l = (same_of t p s u j.0 l.0, tt)
     tied_held t o p (Tup xs) (Tup ys) h i j l =
-        tup_tied (stays xs ys (joins k xs ys)) t xs ys (each_held t o p xs ys h i j l) (all_tied_of t o p (Tup xs) (Tup ys) h i j l)
+        tied_if (equal_count xs ys) (stays xs ys (joins k xs ys)) t (all_each k xs ys) (all_tied (Tup xs) (Tup ys)) (each_held t o p xs ys h i j l) (all_tied_of t o p (Tup xs) (Tup ys) h i j l)
     tied_held t o p x y h i j l = plain_tied t o p x y h i j l
 
     each_held : (t : List ℕ) (o p : Option ℕ) (xs ys : Shapes) → Held t o (all_lists xs) → Held t o (all_lists ys) → Held t p (all_dicts xs) → Held t p (all_dicts ys)
@@ -629,9 +645,15 @@ module _ (k : List ClassInfo) where
           and_more (join k x y) z (joins k xs ys) zs (join_least t x z h (and_left (is_sound z) (are_sound zs) f) (first_deep z zs d) y j)
           (joins_least t xs zs hs (and_right (is_sound z) (are_sound zs) f) (rest_deep z zs d) ys js)
 
+    tied_stays : (b : Bool) (t : List ℕ) (ps : List (ℕ × ℕ)) → AllSame t ps → AllSame t ((if b then ps else []) ++ [])
+    tied_stays true t ps a = same_append t ps [] a tt
+    tied_stays false t ps a = tt
+
     tup_finest : (t : List ℕ) (xs ys : Shapes) → stays xs ys (joins k xs ys) ≡ true → AllSame t (all_each k xs ys)
-        → AllSame t (if stays xs ys (joins k xs ys) then all_each k xs ys else all_tied (Tup xs) (Tup ys))
-    tup_finest t xs ys e a = subst (λ b. AllSame t (if b then all_each k xs ys else all_tied (Tup xs) (Tup ys))) (sym e) a
+        → AllSame t ((if equal_count xs ys then all_each k xs ys else []) ++ (if stays xs ys (joins k xs ys) then [] else all_tied (Tup xs) (Tup ys)))
+    tup_finest t xs ys e a =
+        subst (λ b. AllSame t ((if equal_count xs ys then all_each k xs ys else []) ++ (if b then [] else all_tied (Tup xs) (Tup ys)))) (sym e)
+        (tied_stays (equal_count xs ys) t (all_each k xs ys) a)
 
     mutual
       tied_finest : (t : List ℕ) (x z : Shape) (h : Below k t x z) → is_sound z ≡ true → depth z ≤ 8 → (y : Shape) → Below k t y z → AllSame t (tied k x y)
@@ -747,4 +769,86 @@ is_join k tree t =
       finest = λ u w x y z f h j. unites_least t (tied k x y) u w (tied_finest k tree u x z h f.sound f.shallow y j);
       least = λ u x y z f h j. join_least k tree u x z h f.sound f.shallow y j;
       formed = λ x y f g. record { sound = join_sound k x y f.sound g.sound; shallow = join_shallow k x y f.shallow g.shallow };
+    }
+
+-- ---- what follows: the order of two elements, or of three, does not matter
+
+module _ (k : List ClassInfo) (tree : IsTree k) (t : List ℕ) where
+  abbrev j : Shape → Shape → Shape
+  j = join k
+
+  abbrev after : List ℕ → Shape → Shape → List ℕ
+  after = classes_after k
+
+  law : (u : List ℕ) → IsJoin k u
+  law u = is_join k tree u
+
+  turns : (x y : Shape) → IsFormed x → IsFormed y → Within (after t x y) (after t y x) × Below k (after t y x) (j x y) (j y x)
+  turns x y f g =
+      let z = (law t).formed y x g f in
+      let u = after t y x in
+      ((law t).finest u ((law t).finer y x) x y (j y x) z ((law t).right y x) ((law t).left y x), (law t).least u x y (j y x) z ((law t).right y x) ((law t).left y x))
+
+  pub commutes : (x y : Shape) → IsFormed x → IsFormed y → Alike (after t x y) (after t y x) × Level k (after t x y) (j x y) (j y x)
+  commutes x y f g =
+      let a = turns x y f g in
+      let b = turns y x g f in
+      (record { there = a.0; back = b.0 }, record { up = below_more k (after t y x) (after t x y) b.0 (j x y) (j y x) a.1; down = b.1 })
+
+  pub repeats : (x : Shape) → IsFormed x → Alike (after t x x) t × Level k t (j x x) x
+  repeats x f =
+      let same = below_self k tree t x in
+      let w = (law t).finest t (within_self t) x x x f same same in
+      (record { there = w; back = (law t).finer x x },
+      record { up = (law t).least t x x x f same same; down = below_more k (after t x x) t w x (j x x) ((law t).left x x) })
+
+  -- all three are below either join
+  first_way : (x y z : Shape) → IsFormed x → IsFormed y → IsFormed z
+      → Within (after (after t x y) (j x y) z) (after (after t y z) x (j y z)) × Below k (after (after t y z) x (j y z)) (j (j x y) z) (j x (j y z))
+  first_way x y z f g h =
+      let s = after t y z in
+      let u = after s x (j y z) in
+      let r = j x (j y z) in
+      let yz = (law t).formed y z g h in
+      let fr = (law s).formed x (j y z) f yz in
+      let w : Within s u = (law s).finer x (j y z) in
+      let xr : Below k u x r = (law s).left x (j y z) in
+      let mr : Below k u (j y z) r = (law s).right x (j y z) in
+      let yr : Below k u y r = below_on k tree u y (j y z) (below_more k s u w y (j y z) ((law t).left y z)) r mr in
+      let zr : Below k u z r = below_on k tree u z (j y z) (below_more k s u w z (j y z) ((law t).right y z)) r mr in
+      let xy : Below k u (j x y) r = (law t).least u x y r fr xr yr in
+      let v : Within (after t x y) u = (law t).finest u (within_on ((law t).finer y z) w) x y r fr xr yr in
+      ((law (after t x y)).finest u v (j x y) z r fr xy zr, (law (after t x y)).least u (j x y) z r fr xy zr)
+
+  second_way : (x y z : Shape) → IsFormed x → IsFormed y → IsFormed z
+      → Within (after (after t y z) x (j y z)) (after (after t x y) (j x y) z) × Below k (after (after t x y) (j x y) z) (j x (j y z)) (j (j x y) z)
+  second_way x y z f g h =
+      let s = after t x y in
+      let u = after s (j x y) z in
+      let r = j (j x y) z in
+      let xy = (law t).formed x y f g in
+      let fr = (law s).formed (j x y) z xy h in
+      let w : Within s u = (law s).finer (j x y) z in
+      let zr : Below k u z r = (law s).right (j x y) z in
+      let mr : Below k u (j x y) r = (law s).left (j x y) z in
+      let xr : Below k u x r = below_on k tree u x (j x y) (below_more k s u w x (j x y) ((law t).left x y)) r mr in
+      let yr : Below k u y r = below_on k tree u y (j x y) (below_more k s u w y (j x y) ((law t).right x y)) r mr in
+      let yz : Below k u (j y z) r = (law t).least u y z r fr yr zr in
+      let v : Within (after t y z) u = (law t).finest u (within_on ((law t).finer x y) w) y z r fr yr zr in
+      ((law (after t y z)).finest u v x (j y z) r fr xr yz, (law (after t y z)).least u x (j y z) r fr xr yz)
+
+  pub associates : (x y z : Shape) → IsFormed x → IsFormed y → IsFormed z
+      → Alike (after (after t x y) (j x y) z) (after (after t y z) x (j y z)) × Level k (after (after t x y) (j x y) z) (j (j x y) z) (j x (j y z))
+  associates x y z f g h =
+      let a = first_way x y z f g h in
+      let b = second_way x y z f g h in
+      (record { there = a.0; back = b.0 },
+      record { up = below_more k (after (after t y z) x (j y z)) (after (after t x y) (j x y) z) b.0 (j (j x y) z) (j x (j y z)) a.1; down = b.1 })
+
+pub is_lattice : (k : List ClassInfo) → IsTree k → (t : List ℕ) → IsLattice k t
+is_lattice k tree t =
+    record {
+      commutes = λ x y f g. commutes k tree t x y f g;
+      associates = λ x y z f g h. associates k tree t x y z f g h;
+      repeats = λ x f. repeats k tree t x f;
     }

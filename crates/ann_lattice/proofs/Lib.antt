@@ -2,3 +2,4 @@ pub mod Sites
 pub mod Tree
 pub mod Ordered
 pub mod Joined
+pub mod Tested

@@ -22,14 +22,22 @@ AllSame t (p ∷ ps) = Same t p.0 p.1 × AllSame t ps
 pub record Within (t u : List ℕ) : Type 0 where
   pub by : (s v : ℕ) → Same t s v → Same u s v
 
--- the first with each other one
+-- one site, or else the first of these, with each other one
+abbrev pub pairs : Option ℕ → List ℕ → List (ℕ × ℕ)
+pairs met [] = []
+pairs None (s ∷ ss) = map (λ u. (s, u)) ss
+pairs (Some a) (s ∷ ss) = map (λ u. (a, u)) (s ∷ ss)
+
 abbrev pub chain : List ℕ → List (ℕ × ℕ)
-chain [] = []
-chain (s ∷ ss) = map (λ u. (s, u)) ss
+chain ss = pairs None ss
+
+abbrev pub first_of : Option ℕ → List ℕ → Option ℕ
+first_of met [] = met
+first_of None (s ∷ ss) = Some s
+first_of (Some a) (s ∷ ss) = Some a
 
 abbrev pub first : List ℕ → Option ℕ
-first [] = None
-first (s ∷ ss) = Some s
+first ss = first_of None ss
 
 -- ---- joins of each kind
 
@@ -137,7 +145,7 @@ abbrev mutual
   pub tied : List ClassInfo → Shape → Shape → List (ℕ × ℕ)
   tied k (Lst s a) (Lst u b) = (s, u) ∷ []
   tied k (Dct s a) (Dct u b) = (s, u) ∷ []
-  tied k (Tup xs) (Tup ys) = if stays xs ys (joins k xs ys) then all_each k xs ys else all_tied (Tup xs) (Tup ys)
+  tied k (Tup xs) (Tup ys) = (if equal_count xs ys then all_each k xs ys else []) ++ (if stays xs ys (joins k xs ys) then [] else all_tied (Tup xs) (Tup ys))
   tied k x y = if is_clash (join k x y) then all_tied x y else []
 
   pub all_each : List ClassInfo → Shapes → Shapes → List (ℕ × ℕ)

@@ -4,7 +4,7 @@ use Rattle.rpy_tree.specs.declared.program.ClassInfo.{ClassInfo}
 use Rattle.class_desc.specs.Range.{IsForest}
 use Rattle.ann_element.specs.Sites.{leader}
 use Rattle.ann_lattice.specs.Shape.{Shape, Nothing, NoneOnly, Truth, Num, Str, Tup, Lst, Dct, Inst, Fun, Clash, Shapes, end, more}
-use Rattle.ann_lattice.specs.Order.{Below}
+use Rattle.ann_lattice.specs.Order.{Below, is_below}
 use Rattle.ann_lattice.specs.Join.{Within, depth, no_clash, join, classes_after}
 
 -- there are classes, their bases are classes, and those of each come to an end
@@ -69,3 +69,26 @@ pub record IsJoin (classes : List ClassInfo) (t : List ℕ) : Type 0 where
   pub finest : (u : List ℕ) → Within t u → (x y z : Shape) → IsFormed z → Below classes u x z → Below classes u y z → Within (classes_after classes t x y) u
   pub least : (u : List ℕ) → (x y z : Shape) → IsFormed z → Below classes u x z → Below classes u y z → Below classes u (join classes x y) z
   pub formed : (x y : Shape) → IsFormed x → IsFormed y → IsFormed (join classes x y)
+
+-- tables with the same classes, and elements that are below each other: with the least sites of their classes they are one
+pub record Alike (t u : List ℕ) : Type 0 where
+  pub there : Within t u
+  pub back : Within u t
+
+pub record Level (classes : List ClassInfo) (t : List ℕ) (x y : Shape) : Type 0 where
+  pub up : Below classes t x y
+  pub down : Below classes t y x
+
+-- the order in which elements are joined does not matter, nor does joining one again
+pub record IsLattice (classes : List ClassInfo) (t : List ℕ) : Type 0 where
+  pub commutes : (x y : Shape) → IsFormed x → IsFormed y
+      → Alike (classes_after classes t x y) (classes_after classes t y x) × Level classes (classes_after classes t x y) (join classes x y) (join classes y x)
+  pub associates : (x y z : Shape) → IsFormed x → IsFormed y → IsFormed z
+      → Alike (classes_after classes (classes_after classes t x y) (join classes x y) z) (classes_after classes (classes_after classes t y z) x (join classes y z))
+      × Level classes (classes_after classes (classes_after classes t x y) (join classes x y) z) (join classes (join classes x y) z) (join classes x (join classes y z))
+  pub repeats : (x : Shape) → IsFormed x → Alike (classes_after classes t x x) t × Level classes t (join classes x x) x
+
+-- the test of the order is right
+pub record IsTested (classes : List ClassInfo) (t : List ℕ) : Type 0 where
+  pub yes : (x y : Shape) → is_below classes t x y ≡ true → Below classes t x y
+  pub no : (x y : Shape) → Below classes t x y → is_below classes t x y ≡ true

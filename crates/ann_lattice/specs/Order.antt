@@ -117,9 +117,22 @@ abbrev pub is_in : List ℕ → Option ℕ → ℕ → Bool
 is_in t None s = false
 is_in t (Some a) s = same t s a
 
-abbrev pub are_in : List ℕ → Option ℕ → List ℕ → Bool
-are_in t o [] = true
-are_in t o (s ∷ ss) = is_in t o s && are_in t o ss
+abbrev pub kept_in : List ℕ → Option ℕ → Option ℕ → Bool
+kept_in t o None = true
+kept_in t o (Some s) = is_in t o s
+
+-- the lists of an element are of one class, and its dicts of another
+abbrev mutual
+  pub are_held : List ℕ → Option ℕ → Option ℕ → Shape → Bool
+  are_held t o p (Lst s n) = is_in t o s
+  are_held t o p (Dct s n) = is_in t p s
+  are_held t o p (Tup xs) = all_held t o p xs
+  are_held t o p (Clash q r) = kept_in t o q && kept_in t p r
+  are_held t o p other = true
+
+  pub all_held : List ℕ → Option ℕ → Option ℕ → Shapes → Bool
+  all_held t o p end = true
+  all_held t o p (more x xs) = are_held t o p x && all_held t o p xs
 
 abbrev pub wider : Width → Width → Bool
 wider One b = true
@@ -149,7 +162,7 @@ takes_none other = false
 abbrev mutual
   pub is_below : List ClassInfo → List ℕ → Shape → Shape → Bool
   is_below classes t Nothing y = true
-  is_below classes t x (Clash o p) = are_in t o (lists x) && are_in t p (dicts x)
+  is_below classes t x (Clash o p) = are_held t o p x
   is_below classes t NoneOnly y = takes_none y
   is_below classes t (Truth a) (Truth b) = less_known a b
   is_below classes t (Num a) (Num b) = implies a b

@@ -1,5 +1,5 @@
 -- Elements by their kinds: plain data on which their order and their join are defined.
-use Rattle.std.specs.Prelude.{ℕ, Bool, true, false, List, [], ◌∷◌, Option, Some, None}
+use Rattle.std.specs.Prelude.{ℕ, Bool, true, false, List, [], ◌∷◌, map, Option, Some, None}
 use Rattle.ann_element.specs.declared.element.Element.{Element, fold-Element}
 use Rattle.ann_element.specs.declared.element.Element.TheOpen.{Element-F}
 
@@ -55,5 +55,4 @@ abbrev pub shape : Element → Shape
 shape = fold-Element Shape shape_step
 
 abbrev pub shapes : List Element → Shapes
-shapes [] = end
-shapes (e ∷ es) = more (shape e) (shapes es)
+shapes es = shapes_of (map shape es)

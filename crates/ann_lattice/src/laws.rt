@@ -1,7 +1,7 @@
 // Laws of the order of elements and of their join, over all classes and all classes of sites.
 ghost use Rattle.std.specs.Prelude.{ℕ, List};
 ghost use Rattle.rpy_tree.specs.declared.program.ClassInfo.{ClassInfo};
-ghost use Rattle.ann_lattice.specs.Laws.{IsTree, IsOrder, IsJoin};
+ghost use Rattle.ann_lattice.specs.Laws.{IsTree, IsOrder, IsJoin, IsLattice, IsTested};
 
 /// The order is reflexive and transitive, and elements below each other are one, written with the least
 /// sites of their classes.
@@ -14,4 +14,16 @@ pub fn elements_are_ordered()
 #[tactic(auto, using(crate::proofs::Joined::is_join))]
 pub fn joins_are_least()
     ensures { (classes : List ClassInfo) → IsTree classes → (same : List ℕ) → IsJoin classes same }
+{}
+
+/// In which order elements are joined does not matter, nor does joining one again.
+#[tactic(auto, using(crate::proofs::Joined::is_lattice))]
+pub fn joins_are_a_lattice()
+    ensures { (classes : List ClassInfo) → IsTree classes → (same : List ℕ) → IsLattice classes same }
+{}
+
+/// The test of the order tells it.
+#[tactic(auto, using(crate::proofs::Tested::is_tested))]
+pub fn the_order_is_tested()
+    ensures { (classes : List ClassInfo) (same : List ℕ) → IsTested classes same }
 {}
