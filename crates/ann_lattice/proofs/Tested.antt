@@ -147,15 +147,15 @@ module _ (t : List ℕ) where
       below_is NoneOnly (Dct s n) e = none_dict_is s n e
       below_is NoneOnly (Inst c n) e = none_inst_is c n e
       below_is NoneOnly (Fun fs n) e = none_fun_is fs n e
-      below_is NoneOnly (Clash o p) e = clash_is NoneOnly o p e
-      below_is (Truth a) (Clash o p) e = clash_is (Truth a) o p e
-      below_is (Num a) (Clash o p) e = clash_is (Num a) o p e
-      below_is (Str a) (Clash o p) e = clash_is (Str a) o p e
+      below_is NoneOnly (Clash o p) e = clash_is NoneOnly o p refl
+      below_is (Truth a) (Clash o p) e = clash_is (Truth a) o p refl
+      below_is (Num a) (Clash o p) e = clash_is (Num a) o p refl
+      below_is (Str a) (Clash o p) e = clash_is (Str a) o p refl
       below_is (Tup xs) (Clash o p) e = clash_is (Tup xs) o p e
       below_is (Lst s a) (Clash o p) e = clash_is (Lst s a) o p e
       below_is (Dct s a) (Clash o p) e = clash_is (Dct s a) o p e
-      below_is (Inst c a) (Clash o p) e = clash_is (Inst c a) o p e
-      below_is (Fun fs a) (Clash o p) e = clash_is (Fun fs a) o p e
+      below_is (Inst c a) (Clash o p) e = clash_is (Inst c a) o p refl
+      below_is (Fun fs a) (Clash o p) e = clash_is (Fun fs a) o p refl
       below_is (Clash q r) (Clash o p) e = clash_is (Clash q r) o p e
       below_is (Truth a) (Truth b) e = truth a b (known_is a b e)
       below_is (Num a) (Num b) e = num a b (implies_is a b e)
@@ -176,15 +176,15 @@ module _ (t : List ℕ) where
 
     is_clash_of : (x : Shape) (o p : Option ℕ) → are_held t o p x ≡ true → is_below k t x (Clash o p) ≡ true
     is_clash_of Nothing o p e = refl
-    is_clash_of NoneOnly o p e = e
-    is_clash_of (Truth a) o p e = e
-    is_clash_of (Num a) o p e = e
-    is_clash_of (Str a) o p e = e
+    is_clash_of NoneOnly o p e = refl
+    is_clash_of (Truth a) o p e = refl
+    is_clash_of (Num a) o p e = refl
+    is_clash_of (Str a) o p e = refl
     is_clash_of (Tup xs) o p e = e
     is_clash_of (Lst s a) o p e = e
     is_clash_of (Dct s a) o p e = e
-    is_clash_of (Inst c a) o p e = e
-    is_clash_of (Fun fs a) o p e = e
+    is_clash_of (Inst c a) o p e = refl
+    is_clash_of (Fun fs a) o p e = refl
     is_clash_of (Clash q r) o p e = e
 
     mutual

@@ -150,6 +150,8 @@ abbrev pub are_among : List ℕ → List ℕ → Bool
 are_among [] gs = true
 are_among (f ∷ fs) gs = has gs f && are_among fs gs
 
+-- what is above an element of each kind
+
 abbrev pub takes_none : Shape → Bool
 takes_none NoneOnly = true
 takes_none (Str OrNone) = true
@@ -157,25 +159,81 @@ takes_none (Lst s n) = n
 takes_none (Dct s n) = n
 takes_none (Inst c n) = n
 takes_none (Fun fs n) = n
+takes_none (Clash o p) = true
 takes_none other = false
+
+abbrev pub above_truth : Option Bool → Shape → Bool
+above_truth a (Truth b) = less_known a b
+above_truth a (Clash o p) = true
+above_truth a other = false
+
+abbrev pub above_num : Bool → Shape → Bool
+above_num a (Num b) = implies a b
+above_num a (Clash o p) = true
+above_num a other = false
+
+abbrev pub above_str : Width → Shape → Bool
+above_str a (Str b) = wider a b
+above_str a (Clash o p) = true
+above_str a other = false
+
+abbrev pub above_list : List ℕ → ℕ → Bool → Shape → Bool
+above_list t s a (Lst u b) = same t s u && implies a b
+above_list t s a (Clash o p) = is_in t o s
+above_list t s a other = false
+
+abbrev pub above_dict : List ℕ → ℕ → Bool → Shape → Bool
+above_dict t s a (Dct u b) = same t s u && implies a b
+above_dict t s a (Clash o p) = is_in t p s
+above_dict t s a other = false
+
+abbrev pub above_inst : List ClassInfo → ℕ → Bool → Shape → Bool
+above_inst classes c a (Inst d b) = line.is_below classes c d && implies a b
+above_inst classes c a (Clash o p) = true
+above_inst classes c a other = false
+
+abbrev pub above_fun : List ℕ → Bool → Shape → Bool
+above_fun fs a (Fun gs b) = are_among fs gs && implies a b
+above_fun fs a (Clash o p) = true
+above_fun fs a other = false
+
+abbrev pub above_clash : List ℕ → Option ℕ → Option ℕ → Shape → Bool
+above_clash t q r (Clash o p) = kept_in t o q && kept_in t p r
+above_clash t q r other = false
 
 abbrev mutual
   pub is_below : List ClassInfo → List ℕ → Shape → Shape → Bool
   is_below classes t Nothing y = true
-  is_below classes t x (Clash o p) = are_held t o p x
   is_below classes t NoneOnly y = takes_none y
-  is_below classes t (Truth a) (Truth b) = less_known a b
-  is_below classes t (Num a) (Num b) = implies a b
-  is_below classes t (Str a) (Str b) = wider a b
+  is_below classes t (Truth a) y = above_truth a y
+  is_below classes t (Num a) y = above_num a y
+  is_below classes t (Str a) y = above_str a y
   is_below classes t (Tup xs) (Tup ys) = each_below classes t xs ys
-  is_below classes t (Lst s a) (Lst u b) = same t s u && implies a b
-  is_below classes t (Dct s a) (Dct u b) = same t s u && implies a b
-  is_below classes t (Inst c a) (Inst d b) = line.is_below classes c d && implies a b
-  is_below classes t (Fun fs a) (Fun gs b) = are_among fs gs && implies a b
-  is_below classes t x y = false
+  is_below classes t (Tup xs) (Clash o p) = all_held t o p xs
+  is_below classes t (Tup xs) other = false
+  is_below classes t (Lst s a) y = above_list t s a y
+  is_below classes t (Dct s a) y = above_dict t s a y
+  is_below classes t (Inst c a) y = above_inst classes c a y
+  is_below classes t (Fun fs a) y = above_fun fs a y
+  is_below classes t (Clash q r) y = above_clash t q r y
 
   pub each_below : List ClassInfo → List ℕ → Shapes → Shapes → Bool
   each_below classes t end end = true
   each_below classes t end (more y ys) = false
   each_below classes t (more x xs) end = false
   each_below classes t (more x xs) (more y ys) = is_below classes t x y && each_below classes t xs ys
+
+-- the element can be the key of a dict
+abbrev mutual
+  pub is_key : Shape → Bool
+  is_key Nothing = true
+  is_key (Truth a) = true
+  is_key (Num a) = true
+  is_key (Str One) = true
+  is_key (Str Any) = true
+  is_key (Tup xs) = are_keys xs
+  is_key other = false
+
+  pub are_keys : Shapes → Bool
+  are_keys end = true
+  are_keys (more x xs) = is_key x && are_keys xs
