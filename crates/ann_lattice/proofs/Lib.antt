@@ -3,3 +3,4 @@ pub mod Tree
 pub mod Ordered
 pub mod Joined
 pub mod Tested
+pub mod Meeting

@@ -22,22 +22,14 @@ AllSame t (p ∷ ps) = Same t p.0 p.1 × AllSame t ps
 pub record Within (t u : List ℕ) : Type 0 where
   pub by : (s v : ℕ) → Same t s v → Same u s v
 
--- one site, or else the first of these, with each other one
-abbrev pub pairs : Option ℕ → List ℕ → List (ℕ × ℕ)
-pairs met [] = []
-pairs None (s ∷ ss) = map (λ u. (s, u)) ss
-pairs (Some a) (s ∷ ss) = map (λ u. (a, u)) (s ∷ ss)
-
+-- the first with each other one
 abbrev pub chain : List ℕ → List (ℕ × ℕ)
-chain ss = pairs None ss
-
-abbrev pub first_of : Option ℕ → List ℕ → Option ℕ
-first_of met [] = met
-first_of None (s ∷ ss) = Some s
-first_of (Some a) (s ∷ ss) = Some a
+chain [] = []
+chain (s ∷ ss) = map (λ u. (s, u)) ss
 
 abbrev pub first : List ℕ → Option ℕ
-first ss = first_of None ss
+first [] = None
+first (s ∷ ss) = Some s
 
 -- ---- joins of each kind
 

@@ -33,6 +33,10 @@ abbrev pub shapes_of : List Shape → Shapes
 shapes_of [] = end
 shapes_of (x ∷ xs) = more x (shapes_of xs)
 
+abbrev pub items : Shapes → List Shape
+items end = []
+items (more x xs) = x ∷ items xs
+
 abbrev pub shape_step : Element-F Shape → Shape
 shape_step Element-F.Unreached = Nothing
 shape_step Element-F.NoneOnly = NoneOnly
