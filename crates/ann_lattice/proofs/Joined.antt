@@ -798,9 +798,10 @@ module _ (k : List ClassInfo) (tree : IsTree k) (t : List ℕ) where
   pub repeats : (x : Shape) → IsFormed x → Alike (after t x x) t × Level k t (j x x) x
   repeats x f =
       let same = below_self k tree t x in
-      let w = (law t).finest t (within_self t) x x x f same same in
-      (record { there = w; back = (law t).finer x x },
-      record { up = (law t).least t x x x f same same; down = below_more k (after t x x) t w x (j x x) ((law t).left x x) })
+      let w = (law t).finest t (within_self t) x x x f same same in (
+        record { there = w; back = (law t).finer x x },
+        record { up = (law t).least t x x x f same same; down = below_more k (after t x x) t w x (j x x) ((law t).left x x) },
+      )
 
   -- all three are below either join
   first_way : (x y z : Shape) → IsFormed x → IsFormed y → IsFormed z
@@ -841,9 +842,10 @@ module _ (k : List ClassInfo) (tree : IsTree k) (t : List ℕ) where
       → Alike (after (after t x y) (j x y) z) (after (after t y z) x (j y z)) × Level k (after (after t x y) (j x y) z) (j (j x y) z) (j x (j y z))
   associates x y z f g h =
       let a = first_way x y z f g h in
-      let b = second_way x y z f g h in
-      (record { there = a.0; back = b.0 },
-      record { up = below_more k (after (after t y z) x (j y z)) (after (after t x y) (j x y) z) b.0 (j (j x y) z) (j x (j y z)) a.1; down = b.1 })
+      let b = second_way x y z f g h in (
+        record { there = a.0; back = b.0 },
+        record { up = below_more k (after (after t y z) x (j y z)) (after (after t x y) (j x y) z) b.0 (j (j x y) z) (j x (j y z)) a.1; down = b.1 },
+      )
 
 pub is_lattice : (k : List ClassInfo) → IsTree k → (t : List ℕ) → IsLattice k t
 is_lattice k tree t =

@@ -4,3 +4,4 @@ pub mod Ordered
 pub mod Joined
 pub mod Tested
 pub mod Meeting
+mod Rows

@@ -361,7 +361,6 @@ and_right false b e = absurd (no e)
 
 -- in a list that rises from above n all are above n
 above_one : (b : Bool) (n g : ℕ) (gs : List ℕ) (f : ℕ) → (g == f) ≡ b → n < g → (b || has gs f) ≡ true → (has gs f ≡ true → g < f) → n < f
-
 above_one true n g gs f e lt h rec = omega (arith, lt, eqb-true g f e)
 above_one false n g gs f e lt h rec = omega (arith, lt, rec h)
 

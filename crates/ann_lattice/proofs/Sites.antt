@@ -134,7 +134,6 @@ within_self t = record { by = λ a b e. e }
 pub within_on : {t u v : List ℕ} → Within t u → Within u v → Within t v
 within_on a b = record { by = λ x y e. b.by x y (a.by x y e) }
 
-
 -- ---- pairs
 
 pub unites_old : (t : List ℕ) (ps : List (ℕ × ℕ)) → Within t (unites t ps)

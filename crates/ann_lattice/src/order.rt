@@ -58,12 +58,7 @@ fn is_within(same: &Sites, e: &Element, lists: Option<SiteId>, dicts: Option<Sit
 }
 
 #[cycle(within)]
-fn all_within(
-    same: &Sites,
-    parts: &[Element],
-    lists: Option<SiteId>,
-    dicts: Option<SiteId>,
-) -> bool
+fn all_within(same: &Sites, parts: &[Element], lists: Option<SiteId>, dicts: Option<SiteId>) -> bool
     ensures { result ≡ spec.all_held same.now lists dicts (shapes parts.now) }
 {
     match parts {
@@ -222,12 +217,7 @@ fn above_functions(functions: &[FunId], none: bool, b: &Element) -> bool
     }
 }
 
-fn above_conflict(
-    same: &Sites,
-    lists: Option<SiteId>,
-    dicts: Option<SiteId>,
-    b: &Element,
-) -> bool
+fn above_conflict(same: &Sites, lists: Option<SiteId>, dicts: Option<SiteId>, b: &Element) -> bool
     ensures { result ≡ spec.above_clash same.now lists dicts (shape b.now) }
 {
     match b {
