@@ -5,3 +5,4 @@ pub mod Joined
 pub mod Tested
 pub mod Meeting
 mod Rows
+pub mod Grows

@@ -2,3 +2,4 @@ pub mod Shape
 pub mod Order
 pub mod Join
 pub mod Laws
+pub mod Assign
