@@ -1,0 +1,8 @@
+pub mod Sites
+pub mod Tree
+pub mod Ordered
+pub mod Joined
+pub mod Tested
+pub mod Meeting
+mod Rows
+pub mod Grows

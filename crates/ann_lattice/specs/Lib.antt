@@ -1,0 +1,5 @@
+pub mod Shape
+pub mod Order
+pub mod Join
+pub mod Laws
+pub mod Assign

@@ -4,6 +4,7 @@
 mod compare;
 mod container;
 mod instance;
+mod laws;
 mod method;
 mod number;
 mod order;
@@ -13,6 +14,10 @@ mod upper;
 mod walk;
 
 pub use compare::truth_of;
+pub use laws::{
+    elements_are_ordered, joins_are_a_lattice, joins_are_least, the_order_is_tested,
+    what_is_grown_is_least,
+};
 pub use method::{Method, fits_none, method_of};
 pub use order::{below, is_key};
 pub use table::{row, row_of};
