@@ -1,4 +1,7 @@
 // Straight ways as single blocks.
+ghost use Rattle.std.specs.Prelude.{IfOk};
+ghost use Rattle.ll_joined.specs.Keeps.{Keeps};
+
 use crate::count::{Counts, counts_of, follows, taken_in};
 use crate::names::{Names, exit, push_named, variables};
 use crate::number::{blocks_by, named_in, numbers_of, places_of, stays, types_of};
@@ -166,7 +169,9 @@ fn joined_graphs(alloc: Global, graphs: Seq<LlGraph>) -> Result<Seq<LlGraph>, No
 
 /// The program with straight ways as single blocks. Structs, statics, stage and entry are as they were, and so are the names, the results and
 /// the order of graphs.
-pub fn join_blocks(alloc: Global, program: LlProgram) -> Result<LlProgram, NoMem> {
+pub fn join_blocks(alloc: Global, program: LlProgram) -> Result<LlProgram, NoMem>
+    ensures { IfOk result (Keeps program) }
+{
     let LlProgram {
         stage,
         structs,
