@@ -6,6 +6,7 @@ pub mod Injective
 pub mod Imports
 pub mod Known
 mod Layers
+pub mod Least
 pub mod Listed
 mod Runs
 mod Sites

@@ -3,6 +3,7 @@ pub mod Bound
 pub mod Events
 pub mod Imports
 pub mod Laws
+pub mod Least
 pub mod Listed
 pub mod Locals
 pub mod Members

@@ -1,5 +1,5 @@
 // Laws of the rules, over all modules.
-ghost use Rattle.std.specs.Prelude.{◌≡◌, ◌<◌, ℕ, List, ◌∷◌, ◌++◌};
+ghost use Rattle.std.specs.Prelude.{◌≡◌, ◌<◌, ℕ, List, ◌∷◌, ◌++◌, Option};
 ghost use Rattle.std.specs.List.{AllByRecursion};
 ghost use Rattle.rpy_nodes.specs.Listing.{listing};
 ghost use Rattle.rpy_nodes.specs.declared.listing.Named.{Named};
@@ -20,6 +20,9 @@ ghost use Rattle.names_bound.specs.Scopes as scopes;
 ghost use Rattle.names_bound.specs.declared.stand.Stand.{Stand};
 ghost use Rattle.names_rules.specs.Words as words;
 ghost use Rattle.names_bound.specs.Known as bound;
+ghost use Rattle.names_bound.specs.Fault.{lesser};
+ghost use Rattle.names_bound.specs.declared.fault.Fault.{Fault};
+ghost use Rattle.names_rules.specs.Least.{IsTold, least};
 ghost use Rattle.names_rules.specs.Laws.{modules, IsCounted, StandsIn};
 
 /// What the code lists of modules are their members in order, each with the node, the parts and the
@@ -73,4 +76,12 @@ pub fn bindings_follow_the_rules()
 pub fn scopes_follow_the_rules()
     ensures modules { (ms : List Named) (s : Scopes) → s.bindings ≡ (declared (listing ms).modules (listing ms).units).bindings → (file : ℕ) (name : List ℕ) → Has (names_of ms) name → FindsAlike (names_of ms) (bindings (module_names ms) (members ms)) s file name }
     ensures after_a_dot { (ms : List Named) (s : Scopes) → s.bindings ≡ (declared (listing ms).modules (listing ms).units).bindings → s.members ≡ (declared (listing ms).modules (listing ms).units).members → (of : Stand) (name : List ℕ) → Has (names_of ms) name → scopes.member s of (number (names_of ms) name) ≡ member (bindings (module_names ms) (members ms)) (class_bindings (members ms)) s.bases of name }
+{}
+
+/// Of several faults the one at the smallest node is told, and of two at one node the one with the
+/// smaller number: there is one such fault, and it is the lesser of those of two parts.
+pub fn least_fault_is_told()
+    ensures told { (fs : List Fault) → IsTold fs (least fs) }
+    ensures one { (fs : List Fault) (o p : Option Fault) → IsTold fs o → IsTold fs p → o ≡ p }
+    ensures beside { (fs gs : List Fault) → least (fs ++ gs) ≡ lesser (least fs) (least gs) }
 {}
