@@ -20,5 +20,6 @@ pub mod Numbered
 pub mod Places
 pub mod Scopes
 pub mod Program
+pub mod Twice
 pub mod Walked
 pub mod Words

@@ -14,5 +14,6 @@ pub mod ProgramSites
 pub mod Scopes
 pub mod Seen
 pub mod Sites
+pub mod Twice
 pub mod Walked
 pub mod Words

@@ -23,6 +23,7 @@ ghost use Rattle.names_bound.specs.Known as bound;
 ghost use Rattle.names_bound.specs.Fault.{lesser};
 ghost use Rattle.names_bound.specs.declared.fault.Fault.{Fault};
 ghost use Rattle.names_rules.specs.Least.{IsTold, least};
+ghost use Rattle.names_rules.specs.Twice.{twices};
 ghost use Rattle.names_rules.specs.Laws.{modules, IsCounted, StandsIn};
 
 /// What the code lists of modules are their members in order, each with the node, the parts and the
@@ -84,4 +85,11 @@ pub fn least_fault_is_told()
     ensures told { (fs : List Fault) → IsTold fs (least fs) }
     ensures one { (fs : List Fault) (o p : Option Fault) → IsTold fs o → IsTold fs p → o ≡ p }
     ensures beside { (fs gs : List Fault) → least (fs ++ gs) ≡ lesser (least fs) (least gs) }
+{}
+
+/// The fault of what the code declares is the least of the names that the rules find bound twice, in
+/// a module or in the body of a class, or bound where they may not be.
+#[tactic(auto, using(crate::proofs::Twice::twices_are))]
+pub fn twice_follows_the_rules()
+    ensures { (ms : List Named) → (declared (listing ms).modules (listing ms).units).fault ≡ least (twices (module_names ms) (members ms)) }
 {}
