@@ -14,6 +14,7 @@ mod Stack
 mod StmtFusion
 mod StmtSites
 pub mod Locals
+pub mod Missing
 pub mod Modules
 mod Names
 pub mod Numbered

@@ -7,6 +7,7 @@ pub mod Least
 pub mod Listed
 pub mod Locals
 pub mod Members
+pub mod Missing
 pub mod Numbering
 pub mod Order
 pub mod Parts

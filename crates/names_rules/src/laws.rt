@@ -23,6 +23,8 @@ ghost use Rattle.names_bound.specs.Known as bound;
 ghost use Rattle.names_bound.specs.Fault.{lesser};
 ghost use Rattle.names_bound.specs.declared.fault.Fault.{Fault};
 ghost use Rattle.names_rules.specs.Least.{IsTold, least};
+ghost use Rattle.names_bound.specs.Imports.{faults};
+ghost use Rattle.names_rules.specs.Missing.{missing};
 ghost use Rattle.names_rules.specs.Twice.{twices};
 ghost use Rattle.names_rules.specs.Laws.{modules, IsCounted, StandsIn};
 
@@ -92,4 +94,11 @@ pub fn least_fault_is_told()
 #[tactic(auto, using(crate::proofs::Twice::twices_are))]
 pub fn twice_follows_the_rules()
     ensures { (ms : List Named) → (declared (listing ms).modules (listing ms).units).fault ≡ least (twices (module_names ms) (members ms)) }
+{}
+
+/// The fault of imports is the least of those that the rules find: a module that is not given, a name
+/// that its module lacks.
+#[tactic(auto, using(crate::proofs::Missing::missing_are))]
+pub fn imports_follow_the_rules()
+    ensures { (ms : List Named) (s : Scopes) → s.bindings ≡ (declared (listing ms).modules (listing ms).units).bindings → faults s (listing ms).modules (listing ms).units ≡ least (missing (module_names ms) (bindings (module_names ms) (members ms)) (members ms)) }
 {}
