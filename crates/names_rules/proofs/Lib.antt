@@ -1,3 +1,4 @@
+pub mod Bases
 pub mod Bindings
 pub mod ClassBindings
 pub mod Found
@@ -11,6 +12,7 @@ pub mod Listed
 mod Runs
 mod Sites
 mod Stack
+pub mod Stated
 mod StmtFusion
 mod StmtSites
 pub mod Locals

@@ -1,3 +1,4 @@
+pub mod Bases
 pub mod Bindings
 pub mod Bound
 pub mod Events

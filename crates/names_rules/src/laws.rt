@@ -25,6 +25,8 @@ ghost use Rattle.names_bound.specs.declared.fault.Fault.{Fault};
 ghost use Rattle.names_rules.specs.Least.{IsTold, least};
 ghost use Rattle.names_bound.specs.Imports.{faults};
 ghost use Rattle.names_rules.specs.Missing.{missing};
+ghost use Rattle.names_bound.specs.Base as base;
+ghost use Rattle.names_rules.specs.Bases as bases;
 ghost use Rattle.names_rules.specs.Twice.{twices};
 ghost use Rattle.names_rules.specs.Laws.{modules, IsCounted, StandsIn};
 
@@ -101,4 +103,12 @@ pub fn twice_follows_the_rules()
 #[tactic(auto, using(crate::proofs::Missing::missing_are))]
 pub fn imports_follow_the_rules()
     ensures { (ms : List Named) (s : Scopes) → s.bindings ≡ (declared (listing ms).modules (listing ms).units).bindings → faults s (listing ms).modules (listing ms).units ≡ least (missing (module_names ms) (bindings (module_names ms) (members ms)) (members ms)) }
+{}
+
+/// The base that each class names, and those that are left without the rings, are those of the rules;
+/// the fault of bases is the least of those that the rules find.
+pub fn bases_follow_the_rules()
+    ensures named { (ms : List Named) (s : Scopes) → s.bindings ≡ (declared (listing ms).modules (listing ms).units).bindings → s.members ≡ (declared (listing ms).modules (listing ms).units).members → base.class_bases s (declared (listing ms).modules (listing ms).units).classes (listing ms).units ≡ bases.named (bindings (module_names ms) (members ms)) (class_bindings (members ms)) s.bases (bases.classes (members ms)) }
+    ensures rings { (named : List (Option ℕ)) → base.without_rings named ≡ bases.without_rings named }
+    ensures faults { (ms : List Named) (s : Scopes) (named : List (Option ℕ)) → s.bindings ≡ (declared (listing ms).modules (listing ms).units).bindings → s.members ≡ (declared (listing ms).modules (listing ms).units).members → base.base_faults s named (declared (listing ms).modules (listing ms).units).classes (listing ms).units ≡ least (bases.bad_bases (bindings (module_names ms) (members ms)) (class_bindings (members ms)) s.bases named (bases.classes (members ms))) }
 {}
