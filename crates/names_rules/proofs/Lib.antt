@@ -1,6 +1,8 @@
 pub mod Bases
 pub mod Bindings
 pub mod ClassBindings
+pub mod Clashes
+pub mod Declares
 pub mod Found
 mod Fusion
 pub mod Injective

@@ -1,6 +1,7 @@
 pub mod Bases
 pub mod Bindings
 pub mod Bound
+pub mod Clashes
 pub mod Events
 pub mod Imports
 pub mod Laws

@@ -27,6 +27,8 @@ ghost use Rattle.names_bound.specs.Imports.{faults};
 ghost use Rattle.names_rules.specs.Missing.{missing};
 ghost use Rattle.names_bound.specs.Base as base;
 ghost use Rattle.names_rules.specs.Bases as bases;
+ghost use Rattle.names_bound.specs.Clash as clash;
+ghost use Rattle.names_rules.specs.Clashes as clashes;
 ghost use Rattle.names_rules.specs.Twice.{twices};
 ghost use Rattle.names_rules.specs.Laws.{modules, IsCounted, StandsIn};
 
@@ -111,4 +113,11 @@ pub fn bases_follow_the_rules()
     ensures named { (ms : List Named) (s : Scopes) → s.bindings ≡ (declared (listing ms).modules (listing ms).units).bindings → s.members ≡ (declared (listing ms).modules (listing ms).units).members → base.class_bases s (declared (listing ms).modules (listing ms).units).classes (listing ms).units ≡ bases.named (bindings (module_names ms) (members ms)) (class_bindings (members ms)) s.bases (bases.classes (members ms)) }
     ensures rings { (named : List (Option ℕ)) → base.without_rings named ≡ bases.without_rings named }
     ensures faults { (ms : List Named) (s : Scopes) (named : List (Option ℕ)) → s.bindings ≡ (declared (listing ms).modules (listing ms).units).bindings → s.members ≡ (declared (listing ms).modules (listing ms).units).members → base.base_faults s named (declared (listing ms).modules (listing ms).units).classes (listing ms).units ≡ least (bases.bad_bases (bindings (module_names ms) (members ms)) (class_bindings (members ms)) s.bases named (bases.classes (members ms))) }
+{}
+
+/// The fault of classes that have one name as a method and as an attribute is the least of those that
+/// the rules find, whatever the bases are.
+#[tactic(auto, using(crate::proofs::Clashes::clashes_are))]
+pub fn clashes_follow_the_rules()
+    ensures { (ms : List Named) (named : List (Option ℕ)) → clash.clash_faults named (clash.clashing (declared (listing ms).modules (listing ms).units).attributes (declared (listing ms).modules (listing ms).units).methods named) (declared (listing ms).modules (listing ms).units).classes (listing ms).units ≡ least (clashes.clashing (clashes.attributes (members ms)) (clashes.methods (members ms)) named (bases.classes (members ms))) }
 {}
