@@ -72,7 +72,7 @@ module _ (names : Names) (s : Scopes) (bs cs : List Binding)
       ∙ (λ j. old.bound_before ((globals c.file name has).2 c.place j) ((globals c.file name has).1 j))
       ∙ ap (λ b. cond b stand.Unknown (cond (scope.is_late bs c.file c.place name) stand.Nothing (scope.global bs c.file name))) (unknown_same (scope.global bs c.file name))
 
-  dot_same : (of : Stand) (name : List ℕ) → Has names name → old.further_stand s of (number names name) ≡ rule.after_dot bs cs s.bases of name
+  pub dot_same : (of : Stand) (name : List ℕ) → Has names name → old.further_stand s of (number names name) ≡ rule.after_dot bs cs s.bases of name
   dot_same stand.Unknown name has = refl
   dot_same of name has = dots of name has
 

@@ -3,6 +3,8 @@ pub mod Bindings
 pub mod ClassBindings
 pub mod Clashes
 pub mod Declares
+pub mod Entry
+pub mod Fine
 pub mod Found
 mod Fusion
 pub mod Injective
@@ -26,5 +28,6 @@ pub mod Places
 pub mod Scopes
 pub mod Program
 pub mod Twice
+pub mod Used
 pub mod Walked
 pub mod Words

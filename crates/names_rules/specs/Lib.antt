@@ -2,6 +2,7 @@ pub mod Bases
 pub mod Bindings
 pub mod Bound
 pub mod Clashes
+pub mod Entry
 pub mod Events
 pub mod Imports
 pub mod Laws
@@ -13,10 +14,12 @@ pub mod Missing
 pub mod Numbering
 pub mod Order
 pub mod Parts
+pub mod Program
 pub mod ProgramSites
 pub mod Scopes
 pub mod Seen
 pub mod Sites
 pub mod Twice
+pub mod Used
 pub mod Walked
 pub mod Words

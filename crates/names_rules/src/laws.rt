@@ -30,6 +30,7 @@ ghost use Rattle.names_rules.specs.Bases as bases;
 ghost use Rattle.names_bound.specs.Clash as clash;
 ghost use Rattle.names_rules.specs.Clashes as clashes;
 ghost use Rattle.names_rules.specs.Twice.{twices};
+ghost use Rattle.names_rules.specs.Used.{used};
 ghost use Rattle.names_rules.specs.Laws.{modules, IsCounted, StandsIn};
 
 /// What the code lists of modules are their members in order, each with the node, the parts and the
@@ -120,4 +121,11 @@ pub fn bases_follow_the_rules()
 #[tactic(auto, using(crate::proofs::Clashes::clashes_are))]
 pub fn clashes_follow_the_rules()
     ensures { (ms : List Named) (named : List (Option ℕ)) → clash.clash_faults named (clash.clashing (declared (listing ms).modules (listing ms).units).attributes (declared (listing ms).modules (listing ms).units).methods named) (declared (listing ms).modules (listing ms).units).classes (listing ms).units ≡ least (clashes.clashing (clashes.attributes (members ms)) (clashes.methods (members ms)) named (bases.classes (members ms))) }
+{}
+
+/// The fault of names in expressions and bodies, and of parameters, after the one so far, is the least
+/// of those that the rules find.
+#[tactic(auto, using(crate::proofs::Used::used_are))]
+pub fn uses_follow_the_rules()
+    ensures { (ms : List Named) (s : Scopes) (w : Finder) → s.bindings ≡ (declared (listing ms).modules (listing ms).units).bindings → s.members ≡ (declared (listing ms).modules (listing ms).units).members → (find_units s (listing ms).units w).1.fault ≡ lesser w.fault (least (used (bindings (module_names ms) (members ms)) (class_bindings (members ms)) s.bases (members ms))) }
 {}
