@@ -9,6 +9,7 @@ use Rattle.names_rules.specs.Listed.{module_names}
 use Rattle.names_rules.specs.Members.{members}
 use Rattle.names_rules.specs.Missing.{missing}
 use Rattle.names_rules.specs.Twice.{twices}
+use Rattle.names_rules.specs.Used.{used}
 
 abbrev pub module_bindings : List Named → List Binding
 module_bindings ms = bindings (module_names ms) (members ms)
@@ -29,3 +30,7 @@ bound_faults ms =
     ((twices (module_names ms) (members ms) ++ missing (module_names ms) (module_bindings ms) (members ms))
     ++ bad_bases (module_bindings ms) (body_bindings ms) (bases ms) (named_bases ms) (classes (members ms)))
     ++ clashing (attributes (members ms)) (methods (members ms)) (bases ms) (classes (members ms))
+
+-- and the names that are used: all faults but those of constants
+abbrev pub name_faults : List Named → List Fault
+name_faults ms = bound_faults ms ++ used (module_bindings ms) (body_bindings ms) (bases ms) (members ms)
