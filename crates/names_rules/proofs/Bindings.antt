@@ -75,7 +75,7 @@ pub record Sum : Type 0 where
   pub table : Entries
   pub counts : Counts
 
-abbrev sum : Declared → Sum
+abbrev pub sum : Declared → Sum
 sum d = record { table = d.bindings; counts = record { functions = length d.functions; classes = length d.classes; constants = length d.constants } }
 
 attribute_sum : (o : Option ℕ) (name : ℕ) (d : Declared) → sum (old.attribute_in o name d) ≡ sum d
@@ -126,20 +126,20 @@ class_sum at name d = bind_sum at.class at name (stand.Class (length d.classes +
     ∙ (λ j. record { table = bound_at at.class at name (stand.Class (length d.classes + 13)) d.bindings; counts = record { functions = length d.functions; classes = longer d.classes (record { unit = at.unit; file = at.file; place = at.place; constant = length d.constants; function = length d.functions }) j; constants = length d.constants } })
 
 module _ (names rest modules : Names) (begins : names ≡ texts words ++ rest) (all : AllByRecursion (Has names) modules) where
-  abbrev given : List ℕ
+  abbrev pub given : List ℕ
   given = numbers names modules
 
-  abbrev spot : ℕ → Placed → Option ℕ → Spot
+  abbrev pub spot : ℕ → Placed → Option ℕ → Spot
   spot unit p o = record { unit = unit; file = p.file; place = p.place; node = p.node; class = o }
 
   -- the code has these bindings and counts
-  abbrev Tables : Declared → List Binding → Type 0
+  abbrev pub Tables : Declared → List Binding → Type 0
   Tables d bs = d.bindings ≡ entries names bs
 
-  abbrev Counted : Declared → Counts → Type 0
+  abbrev pub Counted : Declared → Counts → Type 0
   Counted d c = (sum d).counts ≡ c
 
-  name_bound : (p : Placed) (name : List ℕ) (o : OldBound) (b : Bound) → o ≡ bound_in names b → (es : Entries) (bs : List Binding) → es ≡ entries names bs → Has names name → bind es p.file (number names name) (record { place = p.place; bound = o }) ≡ entries names (rule.add bs (binding p name b))
+  pub name_bound : (p : Placed) (name : List ℕ) (o : OldBound) (b : Bound) → o ≡ bound_in names b → (es : Entries) (bs : List Binding) → es ≡ entries names bs → Has names name → bind es p.file (number names name) (record { place = p.place; bound = o }) ≡ entries names (rule.add bs (binding p name b))
   name_bound p name o b e es bs h has = (λ j. bind (h j) p.file (number names name) (record { place = p.place; bound = e j })) ∙ bound_entries names bs (binding p name b) has
 
   placed_bound : (o : Option ℕ) (unit : ℕ) (p : Placed) (class : Option ℕ) (name : List ℕ) (s : Stand) (es : Entries) (bs : List Binding) → es ≡ entries names bs → Has names name → bound_at o (spot unit p class) (number names name) s es ≡ entries names (rule.add_all bs (unless_inside o (binding p name (Is s))))
@@ -175,7 +175,7 @@ module _ (names rest modules : Names) (begins : names ≡ texts words ++ rest) (
 
   -- ---- members
 
-  abbrev after : What → ℕ → Placed → Declared → Declared
+  abbrev pub after : What → ℕ → Placed → Declared → Declared
   after w unit p d = old.add (spot unit p (old.class_here p.inside (length d.classes))) given (says names w) d
 
   abbrev at : ℕ → Placed → Declared → Spot
@@ -185,7 +185,7 @@ module _ (names rest modules : Names) (begins : names ≡ texts words ++ rest) (
   counted_as : (w : What) (p : Placed) (d : Declared) (bs : List Binding) (c : Counts) → Counted d c → (es : Entries) → es ≡ entries names (rule.add_all bs (binds modules (sum d).counts p w)) → es ≡ entries names (rule.add_all bs (binds modules c p w))
   counted_as w p d bs c k es h = h ∙ ap (λ x. entries names (rule.add_all bs (binds modules x p w))) k
 
-  what_bound : (w : What) (unit : ℕ) (p : Placed) (d : Declared) (bs : List Binding) (c : Counts) → Tables d bs → Counted d c → AllByRecursion (Has names) (member.what_said w) → Tables (after w unit p d) (rule.add_all bs (binds modules c p w))
+  pub what_bound : (w : What) (unit : ℕ) (p : Placed) (d : Declared) (bs : List Binding) (c : Counts) → Tables d bs → Counted d c → AllByRecursion (Has names) (member.what_said w) → Tables (after w unit p d) (rule.add_all bs (binds modules c p w))
   what_bound (member.Import of) unit p d bs c h k has = imports_bound of unit p (old.class_here p.inside (length d.classes)) d bs h has
   what_bound (member.From path of) unit p d bs c h k has = taken_bound of path unit p (old.class_here p.inside (length d.classes)) d bs h (all_rest (Has names) path of has)
   what_bound (member.Constant name v) unit p d bs c h k has = counted_as (member.Constant name v) p d bs c k _
@@ -195,7 +195,7 @@ module _ (names rest modules : Names) (begins : names ≡ texts words ++ rest) (
   what_bound (member.Class name base) unit p d bs c h k has = counted_as (member.Class name base) p d bs c k _
       (ap (λ s. s.table) (class_sum (at unit p d) (number names name) d) ∙ placed_bound (old.class_here p.inside (length d.classes)) unit p (old.class_here p.inside (length d.classes)) name (stand.Class (length d.classes + 13)) d.bindings bs h has.0)
 
-  what_counted : (w : What) (unit : ℕ) (p : Placed) (d : Declared) (c : Counts) → Counted d c → Counted (after w unit p d) (count w c)
+  pub what_counted : (w : What) (unit : ℕ) (p : Placed) (d : Declared) (c : Counts) → Counted d c → Counted (after w unit p d) (count w c)
   what_counted (member.Import of) unit p d c k = imports_counted (numbers names of) unit p (old.class_here p.inside (length d.classes)) d ∙ k
   what_counted (member.From path of) unit p d c k = taken_counted (numbers names of) (old_imports.source_of given (numbers names path)) unit p (old.class_here p.inside (length d.classes)) d ∙ k
   what_counted (member.Constant name v) unit p d c k = ap (λ s. s.counts) (constant_sum (at unit p d) (number names name) d) ∙ ap (count (member.Constant name v)) k

@@ -34,7 +34,7 @@ pub record Sum : Type 0 where
   pub table : Entries
   pub counts : Counts
 
-abbrev sum : Declared → Sum
+abbrev pub sum : Declared → Sum
 sum d = record { table = d.members; counts = record { functions = length d.functions; classes = length d.classes; constants = length d.constants } }
 
 attribute_sum : (o : Option ℕ) (name : ℕ) (d : Declared) → sum (old.attribute_in o name d) ≡ sum d
@@ -82,13 +82,13 @@ class_sum at name d = bind_sum at.class at name (stand.Class (length d.classes +
     ∙ (λ j. record { table = bound_at at.class at name (stand.Class (length d.classes + 13)) d.members; counts = record { functions = length d.functions; classes = longer d.classes (record { unit = at.unit; file = at.file; place = at.place; constant = length d.constants; function = length d.functions }) j; constants = length d.constants } })
 
 module _ (names : Names) (given : List ℕ) where
-  abbrev spot : ℕ → Placed → Option ℕ → Spot
+  abbrev pub spot : ℕ → Placed → Option ℕ → Spot
   spot unit p o = record { unit = unit; file = p.file; place = p.place; node = p.node; class = o }
 
-  abbrev Tables : Declared → List Binding → Type 0
+  abbrev pub Tables : Declared → List Binding → Type 0
   Tables d bs = d.members ≡ entries names bs
 
-  abbrev Counted : Declared → Counts → Type 0
+  abbrev pub Counted : Declared → Counts → Type 0
   Counted d c = (sum d).counts ≡ c
 
   placed_bound : (o : Option ℕ) (unit : ℕ) (p : Placed) (class : Option ℕ) (name : List ℕ) (s : Stand) (es : Entries) (bs : List Binding) → es ≡ entries names bs → Has names name → bound_at o (spot unit p class) (number names name) s es ≡ entries names (rule.add_all bs (if_inside o p name s))
@@ -107,7 +107,7 @@ module _ (names : Names) (given : List ℕ) where
   taken_sum [] s unit p o d = refl
   taken_sum (name ∷ of) s unit p o d = taken_sum of s unit p o (old.bind_name (spot unit p o) name (old_imports.from_bound s name) d)
 
-  abbrev after : What → ℕ → Placed → Declared → Declared
+  abbrev pub after : What → ℕ → Placed → Declared → Declared
   after w unit p d = old.add (spot unit p (old.class_here p.inside (length d.classes))) given (says names w) d
 
   abbrev at : ℕ → Placed → Declared → Spot
@@ -116,7 +116,7 @@ module _ (names : Names) (given : List ℕ) where
   counted_as : (w : What) (p : Placed) (d : Declared) (bs : List Binding) (c : Counts) → Counted d c → (es : Entries) → es ≡ entries names (rule.add_all bs (class_binds (sum d).counts p w)) → es ≡ entries names (rule.add_all bs (class_binds c p w))
   counted_as w p d bs c k es h = h ∙ ap (λ x. entries names (rule.add_all bs (class_binds x p w))) k
 
-  what_bound : (w : What) (unit : ℕ) (p : Placed) (d : Declared) (bs : List Binding) (c : Counts) → Tables d bs → Counted d c → AllByRecursion (Has names) (member.what_said w) → Tables (after w unit p d) (rule.add_all bs (class_binds c p w))
+  pub what_bound : (w : What) (unit : ℕ) (p : Placed) (d : Declared) (bs : List Binding) (c : Counts) → Tables d bs → Counted d c → AllByRecursion (Has names) (member.what_said w) → Tables (after w unit p d) (rule.add_all bs (class_binds c p w))
   what_bound (member.Import of) unit p d bs c h k has = ap (λ s. s.table) (imports_sum (numbers names of) unit p (old.class_here p.inside (length d.classes)) d) ∙ h
   what_bound (member.From path of) unit p d bs c h k has = ap (λ s. s.table) (taken_sum (numbers names of) (old_imports.source_of given (numbers names path)) unit p (old.class_here p.inside (length d.classes)) d) ∙ h
   what_bound (member.Constant name v) unit p d bs c h k has = counted_as (member.Constant name v) p d bs c k _
@@ -126,7 +126,7 @@ module _ (names : Names) (given : List ℕ) where
   what_bound (member.Class name base) unit p d bs c h k has = counted_as (member.Class name base) p d bs c k _
       (ap (λ s. s.table) (class_sum (at unit p d) (number names name) d) ∙ placed_bound (old.class_here p.inside (length d.classes)) unit p (old.class_here p.inside (length d.classes)) name (stand.Class (length d.classes + 13)) d.members bs h has.0)
 
-  what_counted : (w : What) (unit : ℕ) (p : Placed) (d : Declared) (c : Counts) → Counted d c → Counted (after w unit p d) (count w c)
+  pub what_counted : (w : What) (unit : ℕ) (p : Placed) (d : Declared) (c : Counts) → Counted d c → Counted (after w unit p d) (count w c)
   what_counted (member.Import of) unit p d c k = ap (λ s. s.counts) (imports_sum (numbers names of) unit p (old.class_here p.inside (length d.classes)) d) ∙ k
   what_counted (member.From path of) unit p d c k = ap (λ s. s.counts) (taken_sum (numbers names of) (old_imports.source_of given (numbers names path)) unit p (old.class_here p.inside (length d.classes)) d) ∙ k
   what_counted (member.Constant name v) unit p d c k = ap (λ s. s.counts) (constant_sum (at unit p d) (number names name) d) ∙ ap (count (member.Constant name v)) k

@@ -54,7 +54,7 @@ module _ (names rest : Names) (begins : names ≡ texts words ++ rest) where
   source_is modules (a ∷ b ∷ c ∷ []) all = λ j. cond ((word (codes "rpython") 5 a refl refl j && word (codes "rlib") 6 b refl refl j) && word (codes "rarithmetic") 7 c refl refl j) source.Arithmetic source.Missing
   source_is modules (a ∷ b ∷ c ∷ d ∷ path) all = refl
 
-  arithmetic_is : (name : List ℕ) → old.arithmetic (number names name) ≡ arithmetic name
+  pub arithmetic_is : (name : List ℕ) → old.arithmetic (number names name) ≡ arithmetic name
   arithmetic_is name = λ j. cond (word (codes "ovfcheck") 8 name refl refl j) (stand.Builtin Rattle.rpy_tree.specs.declared.program.Builtin.TheVariants.Ovfcheck) (cond (word (codes "intmask") 9 name refl refl j) (stand.Builtin Rattle.rpy_tree.specs.declared.program.Builtin.TheVariants.Intmask) stand.Missing)
 
   pub taken_is : (s : Source) (name : List ℕ) → old.from_bound s (number names name) ≡ bound_in names (taken s name)

@@ -28,7 +28,7 @@ all_rest P [] ys h = h
 all_rest P (x ∷ xs) ys h = all_rest P xs ys h.1
 
 module _ (names : Names) where
-  abbrev numbered : Names → List ℕ
+  abbrev pub numbered : Names → List ℕ
   numbered of = map (number names) of
 
   any_same : (of : Names) (name : List ℕ) → Has names name → list_any (nat_eq (number names name)) (numbered of) ≡ list_any (bytes_eq name) of
@@ -39,7 +39,7 @@ module _ (names : Names) where
   by_any true of name = refl
   by_any false of name = map_end (number names) of name
 
-  added : (of : Names) (name : List ℕ) → Has names name → add (numbered of) (number names name) ≡ numbered (with_name of name)
+  pub added : (of : Names) (name : List ℕ) → Has names name → add (numbered of) (number names name) ≡ numbered (with_name of name)
   added of name has = ap (λ b. cond b (numbered of) (numbered of ++ number names name ∷ [])) (any_same of name has) ∙ by_any (list_any (bytes_eq name) of) of name
 
   parameters_added : (ps : List Formal) (of : Names) → AllByRecursion (Has names) (map (λ p. p.name) ps) → add_parameters (numbered of) (map (parameter names) ps) ≡ numbered (see (map (λ p. p.name) ps) of)

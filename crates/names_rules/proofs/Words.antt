@@ -102,18 +102,25 @@ known_at (suc (suc (suc (suc (suc (suc (suc (suc (suc (suc (suc (suc (suc (suc (
 known_at (suc (suc (suc (suc (suc (suc (suc (suc (suc (suc (suc (suc (suc (suc (suc (suc (suc (suc (suc (suc (suc (suc (suc (suc (suc (suc (suc (suc (suc (suc (suc (suc (suc (suc (suc (suc (suc n))))))))))))))))))))))))))))))))))))) = no_word (suc (suc (suc (suc (suc (suc (suc (suc (suc (suc (suc (suc (suc (suc (suc (suc (suc (suc (suc (suc (suc (suc (suc (suc (suc (suc (suc (suc (suc (suc (suc (suc (suc (suc (suc (suc (suc n))))))))))))))))))))))))))))))))))))) (omega arith)
 
 -- the names of methods that make lists, and of the entry point, follow
-others : Names
+unfoldable pub others : Names
 others = codes "split" ∷ codes "keys" ∷ codes "values" ∷ codes "items" ∷ codes "iterkeys" ∷ codes "itervalues" ∷ codes "iteritems" ∷ codes "entry_point" ∷ []
 
 words_first : code.known ≡ texts words ++ others
 unfolding others
 words_first = refl
 
-begins : (ms : List Named) (first : (rest : Names) × (see (module_names ms) code.known ≡ code.known ++ rest)) (second : (rest : Names) × (names_of ms ≡ see (module_names ms) code.known ++ rest)) → (rest : Names) × (names_of ms ≡ texts words ++ rest)
-begins ms (a, first) (b, second) = (others ++ (a ++ b), second ∙ ap (λ t. t ++ b) first ∙ append_assoc code.known a b ∙ ap (λ t. t ++ (a ++ b)) words_first ∙ append_assoc (texts words) others (a ++ b))
+begins : (ms : List Named) (first : (rest : Names) × (see (module_names ms) code.known ≡ code.known ++ rest)) (second : (rest : Names) × (names_of ms ≡ see (module_names ms) code.known ++ rest)) → (rest : Names) × (names_of ms ≡ texts words ++ (others ++ rest))
+begins ms (a, first) (b, second) = (a ++ b, second ∙ ap (λ t. t ++ b) first ∙ append_assoc code.known a b ∙ ap (λ t. t ++ (a ++ b)) words_first ∙ append_assoc (texts words) others (a ++ b))
+
+-- the table of a program begins with these and those
+pub all_begin : (ms : List Named) → (rest : Names) × (names_of ms ≡ texts words ++ (others ++ rest))
+all_begin ms = begins ms (grown (module_names ms) code.known) (grown (modules_said ms) (see (module_names ms) code.known))
+
+words_begin : (ms : List Named) (all : (rest : Names) × (names_of ms ≡ texts words ++ (others ++ rest))) → (rest : Names) × (names_of ms ≡ texts words ++ rest)
+words_begin ms (rest, e) = (others ++ rest, e)
 
 pub table_begins : (ms : List Named) → (rest : Names) × (names_of ms ≡ texts words ++ rest)
-table_begins ms = begins ms (grown (module_names ms) code.known) (grown (modules_said ms) (see (module_names ms) code.known))
+table_begins ms = words_begin ms (all_begin ms)
 
 known_by : (ms : List Named) (name : List ℕ) (first : (rest : Names) × (names_of ms ≡ texts words ++ rest)) → bound.known (number (names_of ms) name) ≡ known name
 known_by ms name (rest, e) = ap (λ t. bound.known (number t name)) e ∙ known_at (number (texts words ++ rest) name) ∙ at_number words rest name

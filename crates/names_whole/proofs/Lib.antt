@@ -1,0 +1,3 @@
+pub mod Bound
+pub mod Entry
+pub mod Fault

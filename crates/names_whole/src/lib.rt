@@ -1,0 +1,8 @@
+//! That a program, and the fault of a name, are those of the rules of names.
+#![tactic(auto)]
+
+mod laws;
+
+pub use laws::{
+    bound_faults_follow_the_rules, entry_follows_the_rules, fault_follows_the_rules,
+};
