@@ -65,7 +65,6 @@ module _ (names : Names) (s : Scopes) (bs cs : List Binding)
     (globals : (file : ℕ) (name : List ℕ) → Has names name → FindsAlike names bs s file name)
     (dots : (of : Stand) (name : List ℕ) → Has names name → code.member s of (number names name) ≡ scope.member bs cs s.bases of name)
     (units : List Listed) where
-
   first_same : (at : ClassAt) (c : Stated) (name : List ℕ) → IsStated names units at c → Has names name → old.first_stand s at (number names name) ≡ rule.first bs cs s.bases c name
   first_same at c name h has =
       (λ j. old.bound_before (code.is_late s (h.file j) (h.place j) (number names name)) (code.global s (h.file j) (number names name)))
@@ -138,7 +137,7 @@ module _ (names : Names) (s : Scopes) (bs cs : List Binding)
   faults_same (a ∷ ats) (d ∷ ds) f place named every all h k has =
       faults_same ats ds (lesser f (old.base_fault (old.base_of s every units a) (old.leads_back named (13 + place)) (old.node_of units a.unit))) (place + 1) named every all h k.1 has.1
       ∙ lesser_more f _ (rule.fault_of (rule.base_of bs cs s.bases all d) (rule.leads_back named (13 + place)) d.node) (rule.bad_bases_from (place + 1) bs cs s.bases named all ds)
-        (ap (lesser f) ((λ j. old.base_fault (base_same every all a d k.0 has.0 h j) (leads_same named (13 + place) j) (k.0.node j)) ∙ fault_same (rule.base_of bs cs s.bases all d) (rule.leads_back named (13 + place)) d.node))
+      (ap (lesser f) ((λ j. old.base_fault (base_same every all a d k.0 has.0 h j) (leads_same named (13 + place) j) (k.0.node j)) ∙ fault_same (rule.base_of bs cs s.bases all d) (rule.leads_back named (13 + place)) d.node))
 
 abbrev Declares : List Named → Scopes → Type 0
 Declares ms s = (s.bindings ≡ (declare.declared (listing.listing ms).modules (listing.listing ms).units).bindings) × (s.members ≡ (declare.declared (listing.listing ms).modules (listing.listing ms).units).members)

@@ -114,7 +114,7 @@ module _ (names : Names) where
     faults_same (a ∷ ats) (c ∷ cs) units f place h =
         faults_same ats cs units (lesser f (fault_if (old.inherits bases (old.clashing fs ms bases) (13 + place)) (node_of units a.unit) fault.Twice)) (place + 1) h.1
         ∙ lesser_more f _ (faults_if (rule.inherits as_attributes as_methods bases (13 + place)) c.node fault.Twice) (rule.clashing_from (place + 1) as_attributes as_methods bases cs)
-          (ap (lesser f) ((λ j. fault_if (inherits_same (length bases) (13 + place) j) (h.0.node j) fault.Twice) ∙ least_if (rule.inherits as_attributes as_methods bases (13 + place)) c.node fault.Twice))
+        (ap (lesser f) ((λ j. fault_if (inherits_same (length bases) (13 + place) j) (h.0.node j) fault.Twice) ∙ least_if (rule.inherits as_attributes as_methods bases (13 + place)) c.node fault.Twice))
 
 pub clashes_are : (ms : List Named) (bases : List (Option ℕ)) → old.clash_faults bases (old.clashing (declare.declared (listing.listing ms).modules (listing.listing ms).units).attributes (declare.declared (listing.listing ms).modules (listing.listing ms).units).methods bases) (declare.declared (listing.listing ms).modules (listing.listing ms).units).classes (listing.listing ms).units
     ≡ least (rule.clashing (attributes (members ms)) (methods (members ms)) bases (classes (members ms)))

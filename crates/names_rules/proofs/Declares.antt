@@ -169,7 +169,7 @@ module _ (names : Names) where
   one_of o = in_front o []
 
   front_both : (o : Option ℕ) (x : Option (List ℕ)) (xs : Names) (ds : List Declares) → (ds ++ in_class o (one_of x)) ++ in_class o xs ≡ ds ++ in_class o (in_front x xs)
-  front_both None x xs ds = append-nil (ds ++ []) 
+  front_both None x xs ds = append-nil (ds ++ [])
   front_both (Some class) None xs ds = ap (λ es. es ++ in_class (Some class) xs) (append-nil ds)
   front_both (Some class) (Some name) xs ds = append_assoc ds (record { class = class; name = name } ∷ []) (in_class (Some class) xs)
 

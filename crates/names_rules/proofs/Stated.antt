@@ -107,9 +107,9 @@ module _ (names : Names) (units : List Listed) where
       let here : slice_get units unit ≡ Some (listed names p) = (λ j. slice_get (e j) (n j)) ∙ unit_at before (map (listed names) ps) (listed names p) in
       subst (λ (xs : List Stated). AreStated (old.declared_from given unit (map (listed names) (p ∷ ps)) d).classes xs) (append_assoc cs (stated p p.what) (classes ps))
       (units_stated ps given (before ++ listed names p ∷ []) (unit + 1) (old.add_unit given unit (listed names p) d) (cs ++ stated p p.what)
-        (ap (λ k. k + 1) n ∙ sym (longer before (listed names p)))
-        (e ∙ sym (append_assoc before (listed names p ∷ []) (map (listed names) ps)))
-        (what_stated p.what given unit p (old.class_here p.inside (length d.classes)) d cs here h))
+      (ap (λ k. k + 1) n ∙ sym (longer before (listed names p)))
+      (e ∙ sym (append_assoc before (listed names p ∷ []) (map (listed names) ps)))
+      (what_stated p.what given unit p (old.class_here p.inside (length d.classes)) d cs here h))
 
 -- ---- the names of their bases stand in the table
 

@@ -96,7 +96,7 @@ module _ (names rest modules : Names) (begins : names ≡ texts words ++ rest) (
       imports_fault of unit p o (old.bind_name (spot unit p o) (number names name) (old_bound.Is (old_imports.import_stand given (number names name))) d) (rule.add bs (binding p name (Is (import_stand modules name))))
       (table.name_bound names rest modules begins all p name (old_bound.Is (old_imports.import_stand given (number names name))) (Is (import_stand modules name)) (ap old_bound.Is (import_is names rest begins modules name all)) d.bindings bs h has.0) has.1
       ∙ lesser_more d.fault _ (faults_if (is_twice bs (binding p name (Is (import_stand modules name)))) p.node fault.Twice) (twice_at p.node (rule.add bs (binding p name (Is (import_stand modules name)))) (map (λ name. binding p name (Is (import_stand modules name))) of))
-        (one_more d.fault d.bindings bs (binding p name (Is (import_stand modules name))) p.node h has.0)
+      (one_more d.fault d.bindings bs (binding p name (Is (import_stand modules name))) p.node h has.0)
 
   taken_fault : (of path : Names) (unit : ℕ) (p : Placed) (o : Option ℕ) (d : Declared) (bs : List Binding) → d.bindings ≡ entries names bs → AllByRecursion (Has names) of
       → (old.add_taken (spot unit p o) (old_imports.source_of given (numbers names path)) (numbers names of) d).fault ≡ lesser d.fault (least (twice_at p.node bs (map (λ name. binding p name (taken (source_of modules path) name)) of)))
@@ -106,7 +106,7 @@ module _ (names rest modules : Names) (begins : names ≡ texts words ++ rest) (
       (table.name_bound names rest modules begins all p name (old_imports.from_bound (old_imports.source_of given (numbers names path)) (number names name)) (taken (source_of modules path) name)
       (ap (λ s. old_imports.from_bound s (number names name)) (source_is names rest begins modules path all) ∙ taken_is names rest begins (source_of modules path) name) d.bindings bs h has.0) has.1
       ∙ lesser_more d.fault _ (faults_if (is_twice bs (binding p name (taken (source_of modules path) name))) p.node fault.Twice) (twice_at p.node (rule.add bs (binding p name (taken (source_of modules path) name))) (map (λ name. binding p name (taken (source_of modules path) name)) of))
-        (one_more d.fault d.bindings bs (binding p name (taken (source_of modules path) name)) p.node h has.0)
+      (one_more d.fault d.bindings bs (binding p name (taken (source_of modules path) name)) p.node h has.0)
 
   -- ---- constants, functions and classes
 
@@ -153,11 +153,11 @@ module _ (names rest modules : Names) (begins : names ≡ texts words ++ rest) (
   units_fault [] unit d bs cs c h k n has = lesser_nothing d.fault
   units_fault (p ∷ ps) unit d bs cs c h k n has =
       units_fault ps (unit + 1) (after p.what unit p d) (rule.add_all bs (binds modules c p p.what)) (rule.add_all cs (class_binds c p p.what)) (count p.what c)
-        (table.what_bound names rest modules begins all p.what unit p d bs c h n has.0)
-        (classes.what_bound names given p.what unit p d cs c k n has.0)
-        (table.what_counted names rest modules begins all p.what unit p d c n) has.1
+      (table.what_bound names rest modules begins all p.what unit p d bs c h n has.0)
+      (classes.what_bound names given p.what unit p d cs c k n has.0)
+      (table.what_counted names rest modules begins all p.what unit p d c n) has.1
       ∙ lesser_more d.fault (after p.what unit p d).fault (at_fault p.what p c bs cs) (twices_from modules (count p.what c) (rule.add_all bs (binds modules c p p.what)) (rule.add_all cs (class_binds c p p.what)) ps)
-        (what_fault p.what unit p d bs cs h k has.0 ∙ ap (λ x. lesser d.fault (least (at_fault p.what p x bs cs))) n)
+      (what_fault p.what unit p d bs cs h k has.0 ∙ ap (λ x. lesser d.fault (least (at_fault p.what p x bs cs))) n)
 
 twices_by : (ms : List Named) (begins : (rest : Names) × (names_of ms ≡ texts words ++ rest)) → (old.declared (numbers (names_of ms) (module_names ms)) (map (listed (names_of ms)) (members ms))).fault ≡ least (twices (module_names ms) (members ms))
 twices_by ms (rest, e) = units_fault (names_of ms) rest (module_names ms) e (modules_stand ms) (fixed_is ms) (members ms) 0 old.start [] [] none_before refl refl refl (members_known ms)

@@ -103,7 +103,6 @@ module _ (names : Names) (s : Scopes) (bs cs : List Binding)
     (globals : (file : ℕ) (name : List ℕ) → Has names name → FindsAlike names bs s file name)
     (dots : (of : Stand) (name : List ℕ) → Has names name → code.member s of (number names name) ≡ scope.member bs cs s.bases of name)
     (fixed : (name : List ℕ) → known.is_fixed (number names name) ≡ is_fixed name) where
-
   module _ (ls : List ℕ) (at : Place) (own : Names) (local_is : (name : List ℕ) → Has names name → old.local_in ls at (number names name) ≡ position (bytes_eq name) own) where
     abbrev found : Item → ℕ → Finder → Finder
     found i n w = old.find_event s ls at (record { node = n; act = act_of names i }) w
@@ -160,6 +159,7 @@ module _ (names : Names) (s : Scopes) (bs cs : List Binding)
       method_is : (b : Bool) → (old.method_called b).part.stand ≡ stand.Nothing
       method_is true = refl
       method_is false = refl
+
       call_is : (x : Stand) (makes : Bool) (count : ℕ) → (old.called_by x makes count).part.stand ≡ stand.Nothing
       call_is (stand.Builtin b) makes count = refl
       call_is other makes count = method_is makes
@@ -181,7 +181,7 @@ module _ (names : Names) (s : Scopes) (bs cs : List Binding)
     items_fault (i ∷ is) n w st before well has k =
         items_fault is (next i n) (found i n w) (after i) (rule.stand_after bs cs s.bases at.file own before i) well.1 (all_rest (Has names) (said_by i) (said is) has) (item_keeps i n w st before well.0 (all_first (Has names) (said_by i) (said is) has) k)
         ∙ lesser_more w.fault (found i n w).fault (rule.fault_at bs cs s.bases at.file own n before i) (rule.faults_from bs cs s.bases at.file own (rule.stand_after bs cs s.bases at.file own before i) (next i n) is)
-          (item_fault i n w st before well.0 (all_first (Has names) (said_by i) (said is) has) k)
+        (item_fault i n w st before well.0 (all_first (Has names) (said_by i) (said is) has) k)
 
   -- ---- members
 
@@ -211,8 +211,8 @@ module _ (names : Names) (s : Scopes) (bs cs : List Binding)
       ap (λ ls. (units.parameters_onto (done ++ (units.find_parameter s (numbered names before) (record { file = file; place = place; body = false }) (parameter names p) w).0 ∷ []) ls s (record { file = file; place = place; body = false }) (map (parameter names) ps) (units.find_parameter s (numbered names before) (record { file = file; place = place; body = false }) (parameter names p) w).1).1.fault) (added names before p.name has.0)
       ∙ parameters_fault ps file place _ (with_name before p.name) (units.find_parameter s (numbered names before) (record { file = file; place = place; body = false }) (parameter names p) w).1 (all_rest (Has names) (p.name ∷ value_said p.default) (params_said ps) has)
       ∙ lesser_more w.fault _ (one ++ rule.default_faults bs cs s.bases file p.default) (rule.parameter_faults bs cs s.bases file (with_name before p.name) ps)
-        (default_fault (numbered names before) file place p.default (old.add_fault (units.parameter_fault (numbered names before) (parameter names p)) w) (all_first (Has names) (value_said p.default) (params_said ps) has.1)
-        ∙ lesser_more w.fault _ one (rule.default_faults bs cs s.bases file p.default) (ap (lesser w.fault) (repeated before p has.0)))
+      (default_fault (numbered names before) file place p.default (old.add_fault (units.parameter_fault (numbered names before) (parameter names p)) w) (all_first (Has names) (value_said p.default) (params_said ps) has.1)
+      ∙ lesser_more w.fault _ one (rule.default_faults bs cs s.bases file p.default) (ap (lesser w.fault) (repeated before p has.0)))
 
   local_inside : (ls : List ℕ) (own : Names) (p : Placed) → ls ≡ map (number names) own → (name : List ℕ) → Has names name → old.local_in ls (inside p) (number names name) ≡ position (bytes_eq name) own
   local_inside ls own p e name has = ap (λ xs. position (nat_eq (number names name)) xs) e ∙ positions names own name has
@@ -225,7 +225,7 @@ module _ (names : Names) (s : Scopes) (bs cs : List Binding)
   what_fault (member.Def name ps star body) p f has l =
       items_fault (locals_of names ps body) (inside p) (own_locals.locals ps body.of) (local_inside (locals_of names ps body) (own_locals.locals ps body.of) p l) (block body.of) body.first (units.find_parameters s (outside p) (map (parameter names) ps) f).1 Plain stand.Nothing (block_well body.of) (all_rest (Has names) (params_said ps) (said (block body.of)) has.1) tt
       ∙ lesser_more f.fault _ (rule.parameter_faults bs cs s.bases p.file [] ps) (rule.faults bs cs s.bases p.file (own_locals.locals ps body.of) body.first (block body.of))
-        (parameters_fault ps p.file p.place [] [] f (all_first (Has names) (params_said ps) (said (block body.of)) has.1))
+      (parameters_fault ps p.file p.place [] [] f (all_first (Has names) (params_said ps) (said (block body.of)) has.1))
   what_fault (member.Class name base) p f has l = lesser_nothing f.fault
 
   units_fault : (ps : List Placed) (done : List Found) (f : Finder) → AllByRecursion (IsKnown names) ps → AllByRecursion (HasLocals names) ps

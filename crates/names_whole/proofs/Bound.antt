@@ -59,7 +59,7 @@ module _ (ms : List Named) where
   fault_is =
       (λ j. lesser (lesser (lesser (twices_are ms j) (missing_are ms found refl j)) (bad_are j)) (clash_are j))
       ∙ ap (λ f. lesser (lesser f (least (rule.bad_bases (module_bindings ms) (body_bindings ms) (bases ms) (named_bases ms) (rule.classes (members ms))))) (least (clash.clashing (clash.attributes (members ms)) (clash.methods (members ms)) (bases ms) (rule.classes (members ms)))))
-        (sym (least_both (twices (module_names ms) (members ms)) (missing (module_names ms) (module_bindings ms) (members ms))))
+      (sym (least_both (twices (module_names ms) (members ms)) (missing (module_names ms) (module_bindings ms) (members ms))))
       ∙ ap (λ f. lesser f (least (clash.clashing (clash.attributes (members ms)) (clash.methods (members ms)) (bases ms) (rule.classes (members ms)))))
-        (sym (least_both (twices (module_names ms) (members ms) ++ missing (module_names ms) (module_bindings ms) (members ms)) (rule.bad_bases (module_bindings ms) (body_bindings ms) (bases ms) (named_bases ms) (rule.classes (members ms)))))
+      (sym (least_both (twices (module_names ms) (members ms) ++ missing (module_names ms) (module_bindings ms) (members ms)) (rule.bad_bases (module_bindings ms) (body_bindings ms) (bases ms) (named_bases ms) (rule.classes (members ms)))))
       ∙ sym (least_both ((twices (module_names ms) (members ms) ++ missing (module_names ms) (module_bindings ms) (members ms)) ++ rule.bad_bases (module_bindings ms) (body_bindings ms) (bases ms) (named_bases ms) (rule.classes (members ms))) (clash.clashing (clash.attributes (members ms)) (clash.methods (members ms)) (bases ms) (rule.classes (members ms))))

@@ -3,6 +3,4 @@
 
 mod laws;
 
-pub use laws::{
-    bound_faults_follow_the_rules, entry_follows_the_rules, fault_follows_the_rules,
-};
+pub use laws::{bound_faults_follow_the_rules, entry_follows_the_rules, fault_follows_the_rules};

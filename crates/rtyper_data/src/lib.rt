@@ -40,5 +40,6 @@ pub use small::{
 pub use text::{Test, truth_of};
 pub use tuple::variable_of;
 pub use write::{
-    and, ends, fork, gives, goto, graph_of, graph_written, kinds, op, op_made, ops, passes, var, written,
+    and, ends, fork, gives, goto, graph_of, graph_written, kinds, op, op_made, ops, passes, var,
+    written,
 };

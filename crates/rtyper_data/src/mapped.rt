@@ -101,7 +101,11 @@ fn stored(
     found: &mut Found,
 ) -> Result<CConst, NoMem> {
     let made = constant_of(alloc, around, constant, kind, found)?;
-    if item == kind { Ok(made) } else { Ok(as_word(made)) }
+    if item == kind {
+        Ok(made)
+    } else {
+        Ok(as_word(made))
+    }
 }
 
 // Equal keys are one constant.
@@ -134,8 +138,22 @@ fn entry_of(
     pair: &(Const, Const),
     found: &mut Found,
 ) -> Result<Entry, NoMem> {
-    let key = stored(alloc, around, &pair.0, mapping.key, mapping.stored_key(), found)?;
-    let value = stored(alloc, around, &pair.1, mapping.value, mapping.stored_value(), found)?;
+    let key = stored(
+        alloc,
+        around,
+        &pair.0,
+        mapping.key,
+        mapping.stored_key(),
+        found,
+    )?;
+    let value = stored(
+        alloc,
+        around,
+        &pair.1,
+        mapping.value,
+        mapping.stored_value(),
+        found,
+    )?;
     let hash = hash_of(around.layout, &pair.0, mapping.key);
     Ok(Entry { key, value, hash })
 }
@@ -234,11 +252,7 @@ fn push_values(entries: &[Entry], cells: &mut Seq<CCell>) -> Result<(), NoMem> {
     Ok(())
 }
 
-fn push_index(
-    alloc: Global,
-    entries: &[Entry],
-    cells: &mut Seq<CCell>,
-) -> Result<(), NoMem> {
+fn push_index(alloc: Global, entries: &[Entry], cells: &mut Seq<CCell>) -> Result<(), NoMem> {
     let words = index_of(alloc, entries)?;
     for word in words.as_slice() {
         cells.push(CCell::Const(CConst::Word(*word)))?;

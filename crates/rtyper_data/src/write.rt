@@ -20,21 +20,14 @@ pub fn op(ops: Result<Seq<LlOp>, NoMem>, op: LlOp) -> Result<Seq<LlOp>, NoMem> {
 }
 
 /// One operation more, where there was memory for it.
-pub fn op_made(
-    ops: Result<Seq<LlOp>, NoMem>,
-    op: Result<LlOp, NoMem>,
-) -> Result<Seq<LlOp>, NoMem> {
+pub fn op_made(ops: Result<Seq<LlOp>, NoMem>, op: Result<LlOp, NoMem>) -> Result<Seq<LlOp>, NoMem> {
     let mut ops = ops?;
     ops.push(op?)?;
     Ok(ops)
 }
 
 /// A block goes on at another one.
-pub fn goto<const N: usize>(
-    alloc: Global,
-    to: u64,
-    args: [COperand; N],
-) -> Result<LlExit, NoMem> {
+pub fn goto<const N: usize>(alloc: Global, to: u64, args: [COperand; N]) -> Result<LlExit, NoMem> {
     Ok(LlExit::Goto(link(alloc, to, args)?))
 }
 

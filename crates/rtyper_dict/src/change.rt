@@ -37,7 +37,11 @@ fn add_types(alloc: Global, m: Mapping) -> Result<Seq<LlType>, NoMem> {
 
 // What stands in the first array, and what in the second.
 fn parted(m: Mapping, key: COperand, value: COperand) -> (COperand, COperand) {
-    if m.keys_last() { (value, key) } else { (key, value) }
+    if m.keys_last() {
+        (value, key)
+    } else {
+        (key, value)
+    }
 }
 
 fn looked_up(alloc: Global, m: Mapping) -> Result<Seq<LlOp>, NoMem> {
@@ -97,14 +101,27 @@ fn store_types(alloc: Global, m: Mapping) -> Result<Seq<LlType>, NoMem> {
 fn looked_for(alloc: Global, m: Mapping, found: &mut Found) -> Result<LlBlock, NoMem> {
     let find = call(alloc, Some(3), Keyed::Find(m.dict), [var(0), var(1)], found);
     let asked = op(op_made(ops(alloc, []), find), less(4, 3, word(0)));
-    let exit = fork(alloc, 4, 1, [var(0), var(1), var(2)], 2, [var(0), var(2), var(3)]);
+    let exit = fork(
+        alloc,
+        4,
+        1,
+        [var(0), var(1), var(2)],
+        2,
+        [var(0), var(2), var(3)],
+    );
     written(alloc, [0, 1, 2], asked, exit)
 }
 
 // A key that is not there is paid.
 fn added(alloc: Global, m: Mapping, found: &mut Found) -> Result<LlBlock, NoMem> {
     let grow = call(alloc, None, Keyed::Grow(m.dict), [var(0)], found);
-    let add = call(alloc, None, Keyed::Add(m.dict), [var(0), var(1), var(2)], found);
+    let add = call(
+        alloc,
+        None,
+        Keyed::Add(m.dict),
+        [var(0), var(1), var(2)],
+        found,
+    );
     let all = op_made(op_made(ops(alloc, [LlOp::Step(word(1))]), grow), add);
     written(alloc, [0, 1, 2], all, ends())
 }
@@ -191,17 +208,31 @@ fn moved_first(alloc: Global, m: Mapping, found: &mut Found) -> Result<LlBlock, 
 
 fn moved_second(alloc: Global, m: Mapping, found: &mut Found) -> Result<LlBlock, NoMem> {
     let down = [var(7), var(12), var(7), var(11), var(5)];
-    let copy = listed(alloc, None, Listed::Copy(m.second(), m.second()), down, found);
+    let copy = listed(
+        alloc,
+        None,
+        Listed::Copy(m.second(), m.second()),
+        down,
+        found,
+    );
     let array = ops(
         alloc,
-        [second(7, m, 0), length(8, m, 7), places(9, m, 0), sub(10, 8, var(9))],
+        [
+            second(7, m, 0),
+            length(8, m, 7),
+            places(9, m, 0),
+            sub(10, 8, var(9)),
+        ],
     );
     let array = op(array, add(11, 10, var(1)));
     let array = op(op(array, add(12, 11, word(1))), add(13, 10, var(3)));
     let nothing = LlOp::SetItem(m.second(), 7, var(13), default_operand(m.second_item()));
     let all = op(op(op_made(array, copy), nothing), set_count(m, 0, var(3)));
     let all = if m.is_indexed() {
-        op_made(all, call(alloc, None, Keyed::Index(m.dict), [var(0)], found))
+        op_made(
+            all,
+            call(alloc, None, Keyed::Index(m.dict), [var(0)], found),
+        )
     } else {
         all
     };

@@ -2,9 +2,9 @@
 use crate::parts::{
     BOOL, SIGNED, add, call, count, first, length, less, listed, places, same, second, sub,
 };
+use csub_tree::{CConst, COperand};
 use ll_code::{LlBlock, LlGraph, LlOp, LlType};
 use ll_helpers::Helper;
-use csub_tree::{CConst, COperand};
 use rpy_base::{NoMem, Seq};
 use rtyper_data::{
     Found, Keyed, Listed, and, ends, fork, gives, goto, graph_written, helper_number, kinds, op,
@@ -65,17 +65,16 @@ fn grow_types(alloc: Global, m: Mapping) -> Result<Seq<LlType>, NoMem> {
 
 fn has_room(alloc: Global, m: Mapping) -> Result<LlBlock, NoMem> {
     let asked = ops(alloc, [count(1, m, 0), places(2, m, 0), less(3, 1, var(2))]);
-    written(alloc, [0], asked, fork(alloc, 3, 1, [], 2, [var(0), var(2)]))
+    written(
+        alloc,
+        [0],
+        asked,
+        fork(alloc, 3, 1, [], 2, [var(0), var(2)]),
+    )
 }
 
 // The smaller of a word and another.
-fn least(
-    alloc: Global,
-    into: u64,
-    v: u64,
-    most: i64,
-    found: &mut Found,
-) -> Result<LlOp, NoMem> {
+fn least(alloc: Global, into: u64, v: u64, most: i64, found: &mut Found) -> Result<LlOp, NoMem> {
     let number = helper_number(Helper::WordMin, found)?;
     Ok(LlOp::Call(Some(into), number, operands(alloc, [var(v), word(most)])?))
 }
@@ -115,14 +114,36 @@ fn arrays_made(alloc: Global, m: Mapping) -> Result<LlBlock, NoMem> {
 fn copied(alloc: Global, m: Mapping, found: &mut Found) -> Result<LlBlock, NoMem> {
     let to_first = [var(10), word(0), var(8), word(0), var(2)];
     let to_second = [var(11), var(13), var(9), var(6), var(2)];
-    let one = listed(alloc, None, Listed::Copy(m.first(), m.first()), to_first, found);
-    let two = listed(alloc, None, Listed::Copy(m.second(), m.second()), to_second, found);
+    let one = listed(
+        alloc,
+        None,
+        Listed::Copy(m.first(), m.first()),
+        to_first,
+        found,
+    );
+    let two = listed(
+        alloc,
+        None,
+        Listed::Copy(m.second(), m.second()),
+        to_second,
+        found,
+    );
     let old = ops(
         alloc,
-        [first(10, m, 0), second(11, m, 0), length(12, m, 11), sub(13, 12, var(2))],
+        [
+            first(10, m, 0),
+            second(11, m, 0),
+            length(12, m, 11),
+            sub(13, 12, var(2)),
+        ],
     );
     let exit = goto(alloc, 5, [var(0), var(2), var(5), var(6), var(8), var(9)]);
-    written(alloc, [0, 2, 5, 6, 8, 9], op_made(op_made(old, one), two), exit)
+    written(
+        alloc,
+        [0, 2, 5, 6, 8, 9],
+        op_made(op_made(old, one), two),
+        exit,
+    )
 }
 
 // The items of a new array from a place on hold nothing. Those that are references do so from the start.
@@ -150,10 +171,27 @@ fn replaced(alloc: Global, m: Mapping, found: &mut Found) -> Result<LlBlock, NoM
             LlOp::SetField(m.dict, 0, 3, var(9)),
         ],
     );
-    let one = filled(alloc, m.first_item(), m.first(), [var(8), var(2)], fields, found);
-    let both = filled(alloc, m.second_item(), m.second(), [var(9), var(13)], one, found);
+    let one = filled(
+        alloc,
+        m.first_item(),
+        m.first(),
+        [var(8), var(2)],
+        fields,
+        found,
+    );
+    let both = filled(
+        alloc,
+        m.second_item(),
+        m.second(),
+        [var(9), var(13)],
+        one,
+        found,
+    );
     let all = if m.is_indexed() {
-        op_made(both, call(alloc, None, Keyed::Index(m.dict), [var(0)], found))
+        op_made(
+            both,
+            call(alloc, None, Keyed::Index(m.dict), [var(0)], found),
+        )
     } else {
         both
     };

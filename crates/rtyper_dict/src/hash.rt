@@ -104,8 +104,7 @@ fn with_item(h: COperand, x: COperand, body: &mut Body) -> Result<COperand, NoMe
     let mixed = body.fresh(SIGNED)?;
     body.ops.push(LlOp::Binary(mixed, CBinary::Xor, h, x))?;
     let into = body.fresh(SIGNED)?;
-    body.ops
-        .push(LlOp::Binary(into, CBinary::Mul, var(mixed), word(HASH_FACTOR)))?;
+    body.ops.push(LlOp::Binary(into, CBinary::Mul, var(mixed), word(HASH_FACTOR)))?;
     Ok(var(into))
 }
 
@@ -139,12 +138,7 @@ fn push_items(
     Ok(h)
 }
 
-fn of_tuple(
-    alloc: Global,
-    layout: &Layout,
-    n: u64,
-    found: &mut Found,
-) -> Result<LlGraph, NoMem> {
+fn of_tuple(alloc: Global, layout: &Layout, n: u64, found: &mut Found) -> Result<LlGraph, NoMem> {
     let mut body = Body::new(alloc);
     body.types.push(LlType::Ptr(n))?;
     let h = push_items(alloc, layout, n, found, &mut body)?;

@@ -56,7 +56,10 @@ pub fn fill(alloc: Global, array: u64, item: LlType) -> Result<LlGraph, NoMem> {
     let again = goto(alloc, 1, [var(0), var(4), var(2)]);
     let blocks = Ok(Seq::new(alloc));
     let blocks = and(blocks, written(alloc, [0, 1], first, goto(alloc, 1, all)));
-    let blocks = and(blocks, written(alloc, [0, 1, 2], asked, fork(alloc, 3, 2, all, 3, [])));
+    let blocks = and(
+        blocks,
+        written(alloc, [0, 1, 2], asked, fork(alloc, 3, 2, all, 3, [])),
+    );
     let blocks = and(blocks, written(alloc, [0, 1, 2], turn, again));
     let blocks = and(blocks, passes(alloc, [], ends()));
     graph_written(alloc, b"fill", 2, LlType::Void, types, blocks)
@@ -112,14 +115,29 @@ fn enter_start(alloc: Global, m: Mapping) -> Result<LlBlock, NoMem> {
 fn more_entries(alloc: Global) -> Result<LlBlock, NoMem> {
     let asked = ops(alloc, [less(9, 1, var(7))]);
     let all = [var(1), var(2), var(5), var(6), var(7), var(8)];
-    written(alloc, [1, 2, 5, 6, 7, 8], asked, fork(alloc, 9, 2, all, 6, []))
+    written(
+        alloc,
+        [1, 2, 5, 6, 7, 8],
+        asked,
+        fork(alloc, 9, 2, all, 6, []),
+    )
 }
 
 fn hashed(alloc: Global, m: Mapping, found: &mut Found) -> Result<LlBlock, NoMem> {
-    let hash = call(alloc, Some(12), Keyed::Hash(m.stored_key()), [var(11)], found);
+    let hash = call(
+        alloc,
+        Some(12),
+        Keyed::Hash(m.stored_key()),
+        [var(11)],
+        found,
+    );
     let key = ops(alloc, [key_at(10, m, 5, 1), key_of(11, m, 8, 2, 10)]);
     let all = op(op_made(key, hash), both(13, 12, var(6)));
-    let exit = goto(alloc, 3, [var(1), var(2), var(5), var(6), var(7), var(8), var(13)]);
+    let exit = goto(
+        alloc,
+        3,
+        [var(1), var(2), var(5), var(6), var(7), var(8), var(13)],
+    );
     written(alloc, [1, 2, 5, 6, 7, 8], all, exit)
 }
 
@@ -128,19 +146,33 @@ fn probed(alloc: Global, m: Mapping) -> Result<LlBlock, NoMem> {
     let word_there = LlOp::GetItem(14, m.second(), 2, var(13));
     let asked = ops(alloc, [word_there, same(9, 14, word(0))]);
     let all = [var(1), var(2), var(5), var(6), var(7), var(8), var(13)];
-    written(alloc, [1, 2, 5, 6, 7, 8, 13], asked, fork(alloc, 9, 4, all, 5, all))
+    written(
+        alloc,
+        [1, 2, 5, 6, 7, 8, 13],
+        asked,
+        fork(alloc, 9, 4, all, 5, all),
+    )
 }
 
 // Places are counted from 1 there.
 fn entered(alloc: Global, m: Mapping) -> Result<LlBlock, NoMem> {
     let put = LlOp::SetItem(m.second(), 2, var(13), var(15));
     let exit = goto(alloc, 1, [var(15), var(2), var(5), var(6), var(7), var(8)]);
-    written(alloc, [1, 2, 5, 6, 7, 8, 13], ops(alloc, [add(15, 1, word(1)), put]), exit)
+    written(
+        alloc,
+        [1, 2, 5, 6, 7, 8, 13],
+        ops(alloc, [add(15, 1, word(1)), put]),
+        exit,
+    )
 }
 
 pub fn enter(alloc: Global, m: Mapping, found: &mut Found) -> Result<LlGraph, NoMem> {
     let next = ops(alloc, [add(15, 13, word(1)), both(16, 15, var(6))]);
-    let again = goto(alloc, 3, [var(1), var(2), var(5), var(6), var(7), var(8), var(16)]);
+    let again = goto(
+        alloc,
+        3,
+        [var(1), var(2), var(5), var(6), var(7), var(8), var(16)],
+    );
     let blocks = Ok(Seq::new(alloc));
     let blocks = and(blocks, enter_start(alloc, m));
     let blocks = and(blocks, more_entries(alloc));
@@ -159,7 +191,12 @@ pub fn enter(alloc: Global, m: Mapping, found: &mut Found) -> Result<LlGraph, No
 fn index_start(alloc: Global, m: Mapping) -> Result<LlBlock, NoMem> {
     let arrays = ops(
         alloc,
-        [second(1, m, 0), length(2, m, 1), places(3, m, 0), sub(4, 2, var(3))],
+        [
+            second(1, m, 0),
+            length(2, m, 1),
+            places(3, m, 0),
+            sub(4, 2, var(3)),
+        ],
     );
     let exit = goto(alloc, 1, [var(0), var(1), var(4), word(0)]);
     written(alloc, [0], arrays, exit)
@@ -168,20 +205,39 @@ fn index_start(alloc: Global, m: Mapping) -> Result<LlBlock, NoMem> {
 fn more_words(alloc: Global) -> Result<LlBlock, NoMem> {
     let asked = ops(alloc, [less(6, 5, var(4))]);
     let all = [var(0), var(1), var(4), var(5)];
-    written(alloc, [0, 1, 4, 5], asked, fork(alloc, 6, 2, all, 3, [var(0)]))
+    written(
+        alloc,
+        [0, 1, 4, 5],
+        asked,
+        fork(alloc, 6, 2, all, 3, [var(0)]),
+    )
 }
 
 fn emptied(alloc: Global, m: Mapping) -> Result<LlBlock, NoMem> {
     let put = LlOp::SetItem(m.second(), 1, var(5), word(0));
     let exit = goto(alloc, 1, [var(0), var(1), var(4), var(7)]);
-    written(alloc, [0, 1, 4, 5], ops(alloc, [put, add(7, 5, word(1))]), exit)
+    written(
+        alloc,
+        [0, 1, 4, 5],
+        ops(alloc, [put, add(7, 5, word(1))]),
+        exit,
+    )
 }
 
 pub fn index(alloc: Global, m: Mapping, found: &mut Found) -> Result<LlGraph, NoMem> {
     let kind = LlType::Ptr(m.second());
     let types = kinds(
         alloc,
-        [LlType::Ptr(m.dict), kind, SIGNED, SIGNED, SIGNED, SIGNED, BOOL, SIGNED],
+        [
+            LlType::Ptr(m.dict),
+            kind,
+            SIGNED,
+            SIGNED,
+            SIGNED,
+            SIGNED,
+            BOOL,
+            SIGNED,
+        ],
     );
     let enter = call(alloc, None, Keyed::Enter(m.dict), [var(0), word(0)], found);
     let entries = op_made(ops(alloc, []), enter);

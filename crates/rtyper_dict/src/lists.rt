@@ -7,8 +7,8 @@ use csub_tree::{CBinary, COperand};
 use ll_code::{LlBlock, LlExit, LlGraph, LlOp, LlType};
 use rpy_base::{NoMem, Seq};
 use rtyper_data::{
-    Body, Found, Keyed, Listed, and, default_operand, flag, fork, gives, goto, graph_written, kinds, op, op_made,
-    ops, passes, value_as, var, word, written,
+    Body, Found, Keyed, Listed, and, default_operand, flag, fork, gives, goto, graph_written,
+    kinds, op, op_made, ops, passes, value_as, var, word, written,
 };
 use rtyper_layout::{Layout, Mapping};
 use std::alloc::Global;
@@ -35,7 +35,10 @@ fn value_types(alloc: Global, m: Mapping) -> Result<Seq<LlType>, NoMem> {
 
 fn read_value(alloc: Global, m: Mapping) -> Result<Seq<LlOp>, NoMem> {
     if m.keys_last() {
-        return ops(alloc, [first(2, m, 0), LlOp::GetItem(8, m.first(), 2, var(1))]);
+        return ops(
+            alloc,
+            [first(2, m, 0), LlOp::GetItem(8, m.first(), 2, var(1))],
+        );
     }
     ops(
         alloc,
@@ -64,7 +67,14 @@ pub fn value(alloc: Global, m: Mapping) -> Result<LlGraph, NoMem> {
 fn get_types(alloc: Global, m: Mapping, kind: LlType) -> Result<Seq<LlType>, NoMem> {
     kinds(
         alloc,
-        [LlType::Ptr(m.dict), m.stored_key(), kind, SIGNED, BOOL, m.stored_value()],
+        [
+            LlType::Ptr(m.dict),
+            m.stored_key(),
+            kind,
+            SIGNED,
+            BOOL,
+            m.stored_value(),
+        ],
     )
 }
 
@@ -76,7 +86,13 @@ fn got(
     found: &mut Found,
     body: &mut Body,
 ) -> Result<LlBlock, NoMem> {
-    let read = call(alloc, Some(5), Keyed::Value(m.dict), [var(0), var(3)], found)?;
+    let read = call(
+        alloc,
+        Some(5),
+        Keyed::Value(m.dict),
+        [var(0), var(3)],
+        found,
+    )?;
     body.ops.push(read)?;
     let x = unstored(var(5), m.stored_value(), m.value, body)?;
     let x = value_as(alloc, layout, x, m.value, kind, found, body)?;
@@ -162,7 +178,10 @@ fn list_types(alloc: Global, m: Mapping, to: Target) -> Result<Seq<LlType>, NoMe
 
 // All is paid before: one step, and one for each item, or two where the items are tuples.
 fn paid(alloc: Global, m: Mapping, part: Part) -> Result<Seq<LlOp>, NoMem> {
-    let all = ops(alloc, [count(1, m, 0), LlOp::Step(word(1)), LlOp::Step(var(1))]);
+    let all = ops(
+        alloc,
+        [count(1, m, 0), LlOp::Step(word(1)), LlOp::Step(var(1))],
+    );
     match part {
         Part::Both => op(all, LlOp::Step(var(1))),
         Part::Key | Part::Value => all,
@@ -178,7 +197,10 @@ fn made(
 ) -> Result<LlBlock, NoMem> {
     let make = listed(alloc, Some(2), Listed::Make(to.list), [var(1)], found);
     let all = op_made(paid(alloc, m, part), make);
-    let all = op(op(all, LlOp::GetField(3, to.list, 2, 1)), same(5, 1, word(0)));
+    let all = op(
+        op(all, LlOp::GetField(3, to.list, 2, 1)),
+        same(5, 1, word(0)),
+    );
     let exit = fork(alloc, 5, 4, [var(2)], 1, [var(0), var(1), var(2), var(3)]);
     written(alloc, [0], all, exit)
 }
@@ -325,5 +347,12 @@ pub fn list(
     let blocks = and(blocks, more(alloc));
     let blocks = and(blocks, turn);
     let blocks = and(blocks, passes(alloc, [2], gives(2)));
-    graph_written(alloc, b"dict_list", 1, LlType::Ptr(to.list), Ok(types), blocks)
+    graph_written(
+        alloc,
+        b"dict_list",
+        1,
+        LlType::Ptr(to.list),
+        Ok(types),
+        blocks,
+    )
 }

@@ -73,7 +73,12 @@ fn hashed(alloc: Global, m: Mapping, found: &mut Found) -> Result<LlBlock, NoMem
     let hash = call(alloc, Some(8), Keyed::Hash(m.stored_key()), [var(1)], found);
     let arrays = ops(
         alloc,
-        [first_of_keys(4, m, 0), second(5, m, 0), length(6, m, 5), sub(7, 6, var(2))],
+        [
+            first_of_keys(4, m, 0),
+            second(5, m, 0),
+            length(6, m, 5),
+            sub(7, 6, var(2)),
+        ],
     );
     let there = op_made(arrays, hash);
     let start = op(op(there, sub(9, 7, word(1))), both(10, 8, var(9)));

@@ -45,9 +45,8 @@ pub fn is_dict_op(op: &RowOp, args: &[Operand<'_>]) -> bool {
         (RowOp::Compare(CmpOp::Within), [_, b]) | (RowOp::Compare(CmpOp::NotWithin), [_, b]) => {
             is_dict(*b) || is_none(*b)
         }
-        (RowOp::Index(_), [a, ..])
-        | (RowOp::StoreIndex, [a, ..])
-        | (RowOp::DeleteIndex, [a, ..]) => is_dict(*a) || is_none(*a),
+        (RowOp::Index(_), [a, ..]) | (RowOp::StoreIndex, [a, ..]) | (RowOp::DeleteIndex, [a, ..]) =>
+            is_dict(*a) || is_none(*a),
         (RowOp::Len, [a]) | (RowOp::Walk(_), [a]) | (RowOp::Method(_, _), [a, ..]) => is_dict(*a),
         _ => false,
     }
@@ -271,7 +270,14 @@ fn push_get(
         None => default_operand(kind),
         Some(c) => given(alloc, around, c, kind, found, body)?,
     };
-    let got = by_keyed(alloc, Keyed::Get(m.dict, kind), kind, [x, k, v], found, body)?;
+    let got = by_keyed(
+        alloc,
+        Keyed::Get(m.dict, kind),
+        kind,
+        [x, k, v],
+        found,
+        body,
+    )?;
     body.ops.push(LlOp::Set(place.variable, got))
 }
 
@@ -316,9 +322,7 @@ fn push_method(
     let list = list_at(around, place);
     match (name, args) {
         (b"get", [a, b]) => push_get(alloc, around, place, m, *a, *b, None, found, body),
-        (b"get", [a, b, c]) => {
-            push_get(alloc, around, place, m, *a, *b, Some(*c), found, body)
-        }
+        (b"get", [a, b, c]) => { push_get(alloc, around, place, m, *a, *b, Some(*c), found, body) }
         (b"keys", [a]) | (b"iterkeys", [a]) => {
             let keyed = Keyed::Keys(m.dict, list);
             push_list(alloc, around, place, keyed, *a, found, body)

@@ -2,9 +2,7 @@
 use csub_tree::{CBinary, CConst, COperand, CUnary};
 use ll_code::{LlExit, LlOp, LlType, VarId};
 use rpy_base::{NoMem, Seq};
-use rtyper_data::{
-    Body, Found, Keyed, Listed, Small, operands, small_number, variable_of, word,
-};
+use rtyper_data::{Body, Found, Keyed, Listed, Small, operands, small_number, variable_of, word};
 use rtyper_layout::Mapping;
 use std::alloc::Global;
 
@@ -135,12 +133,7 @@ pub fn listed<const N: usize>(
 // ---- values as they stand in arrays
 
 /// The value as one of an array, in which words stand for bools and chars.
-pub fn stored(
-    x: COperand,
-    kind: LlType,
-    item: LlType,
-    body: &mut Body,
-) -> Result<COperand, NoMem> {
+pub fn stored(x: COperand, kind: LlType, item: LlType, body: &mut Body) -> Result<COperand, NoMem> {
     if kind == item {
         return Ok(x);
     }

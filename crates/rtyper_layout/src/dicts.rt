@@ -51,7 +51,11 @@ impl Mapping {
 
     /// The type of the keys in their array.
     pub fn stored_key(self) -> LlType {
-        if is_plain(self.key) { LlType::Signed } else { self.key }
+        if is_plain(self.key) {
+            LlType::Signed
+        } else {
+            self.key
+        }
     }
 
     /// The type of the values in their array.

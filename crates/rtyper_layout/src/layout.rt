@@ -118,11 +118,7 @@ fn with_classes(
 }
 
 // The sites of all lists, or of all dicts, behind these.
-fn push_all(
-    annotation: &Annotation,
-    of_dicts: bool,
-    sites: &mut Seq<SiteId>,
-) -> Result<(), NoMem> {
+fn push_all(annotation: &Annotation, of_dicts: bool, sites: &mut Seq<SiteId>) -> Result<(), NoMem> {
     push_all_sites(annotation.params.as_slice(), of_dicts, sites)?;
     push_sites_in(annotation.results.as_slice(), of_dicts, sites)?;
     push_all_sites(annotation.vars.as_slice(), of_dicts, sites)?;

@@ -151,11 +151,7 @@ fn push_site(site: Option<SiteId>, sites: &mut Seq<SiteId>) -> Result<(), NoMem>
 
 // The sites of lists, or of dicts, inside an element.
 #[cycle(sites)]
-fn push_sites(
-    element: &Element,
-    of_dicts: bool,
-    sites: &mut Seq<SiteId>,
-) -> Result<(), NoMem> {
+fn push_sites(element: &Element, of_dicts: bool, sites: &mut Seq<SiteId>) -> Result<(), NoMem> {
     match element {
         Element::Tuple(parts) => push_sites_in(parts.as_slice(), of_dicts, sites),
         _ => push_site(site_of(element, of_dicts), sites),
