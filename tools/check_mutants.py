@@ -4,7 +4,7 @@ reader, annotator and machine agree.
 
 Bytes and tokens of the examples and of the programs in ../shared are changed; `check` has to answer as the reference does, and
 what is accepted has to run as it does. The C texts that `build` writes of the examples, and some that are written by hand, are
-changed likewise and given to `crun`. Half of five minutes each. Words: how many of each, and another program than the one that
+changed likewise and given to `crun`. A minute each. Words: how many of each, and another program than the one that
 is built here. Where ../shared is missing the check is skipped. The last line is 'N passed, M failed'."""
 import glob
 import os
@@ -18,7 +18,7 @@ import time
 TOP = os.path.dirname(os.path.dirname(os.path.abspath(__file__)))
 SHARED = os.path.join(os.path.dirname(TOP), 'shared')
 PROGRAM = os.path.join(TOP, 'crates', 'rpy', 'out', 'rpy')
-SECONDS = 145
+SECONDS = 60
 BOUND = 3000
 LONGEST = 10
 MACHINE = os.path.join(SHARED, 'csub', 'crun.py')
