@@ -22,8 +22,8 @@ SECONDS = 60
 BOUND = 3000
 LONGEST = 10
 MACHINE = os.path.join(SHARED, 'csub', 'crun.py')
-# Version 2 is not there yet.
-LATER = b'/* C-sub 2'
+# Version 2 and operations on unsigned words are not there yet.
+LATER = re.compile(rb'\A/\* C-sub 2|\bRPY_U(DIV|MOD|SHR|LT|LE)\b')
 TOKEN = re.compile(rb'\w+|\s|[^\w\s]')
 
 
@@ -91,7 +91,7 @@ class Mutants:
         self.told('source %d, run' % seed, got, self.orafix.run(words))
 
     def text(self, seed, text):
-        if text.startswith(LATER):
+        if LATER.search(text):
             return
         with open('c.c', 'wb') as file:
             file.write(text)
