@@ -17,9 +17,8 @@ import sys
 import tempfile
 import time
 
-TOP = os.path.dirname(os.path.dirname(os.path.abspath(__file__)))
-SHARED = os.path.join(os.path.dirname(TOP), 'shared')
-PROGRAM = os.path.join(TOP, 'crates', 'rpy', 'out', 'rpy')
+from references import PROGRAM, SHARED, ended, number, unready, use
+
 SECONDS = 240
 CONFLICT = re.compile(rb'[^\n:]*:\d+: conflict: [^\n]+\n')
 
@@ -191,20 +190,17 @@ class Tester:
 
 
 def main():
-    if not os.path.isdir(os.path.join(SHARED, 'oracle')):
-        print('annotate: skipped, the references in ../shared are not here')
-        return 0
-    if not os.path.exists(PROGRAM):
-        print('annotate: the program is not built')
-        return 1
-    sys.path[:0] = [os.path.join(SHARED, 'oracle'), os.path.join(SHARED, 'fuzz')]
+    stopped = unready('annotate', PROGRAM, 'oracle', 'fuzz')
+    if stopped is not None:
+        return stopped
+    use('oracle', 'fuzz')
     import annotate
     import gen
     import mutate
     import orafix
     share_nodes(annotate)
-    random_count = int(sys.argv[1]) if len(sys.argv) > 1 else 600
-    mutant_count = int(sys.argv[2]) if len(sys.argv) > 2 else 600
+    random_count = number(1, 600)
+    mutant_count = number(2, 600)
     seconds = SECONDS if len(sys.argv) < 2 else 100000
     start = time.time()
     tester = None
@@ -226,10 +222,9 @@ def main():
                     tester.both(name, files)
         return 0
 
-    ended = orafix.run_with_stack(work)
+    broken = orafix.run_with_stack(work)
     print('annotate: programs by status: %r' % (sorted(tester.statuses.items()),))
-    print('%d passed, %d failed' % (tester.passed, tester.failed))
-    return 1 if ended or tester.failed else 0
+    return ended(tester.passed, tester.failed) or (1 if broken else 0)
 
 
 if __name__ == '__main__':

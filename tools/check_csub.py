@@ -12,9 +12,9 @@ import subprocess
 import sys
 from concurrent.futures import ThreadPoolExecutor
 
-TOP = os.path.dirname(os.path.dirname(os.path.abspath(__file__)))
-CASES = os.path.join(os.path.dirname(TOP), 'shared', 'csub', 'examples')
-PROGRAM = os.path.join(TOP, 'crates', 'rpy', 'out', 'rpy')
+from references import PROGRAM, SHARED, ended, unready
+
+CASES = os.path.join(SHARED, 'csub', 'examples')
 SECONDS = 60
 
 # forms that are not there yet
@@ -76,12 +76,9 @@ def verdict(case):
 
 
 def main():
-    if not os.path.exists(os.path.join(CASES, 'cases.tsv')):
-        print('C texts: skipped, the cases in ../shared are not here')
-        return 0
-    if not os.path.exists(PROGRAM):
-        print('C texts: the program is not built')
-        return 1
+    stopped = unready('C texts', PROGRAM, 'csub/examples/cases.tsv')
+    if stopped is not None:
+        return stopped
     every = list(cases())
     here = [case for case in every if not is_later(case[1])]
     print('C texts: %d cases left out, with forms that are not there yet' % (len(every) - len(here)))
@@ -91,8 +88,7 @@ def main():
         if fault:
             print(fault)
     failed = sum(1 for fault in faults if fault)
-    print('%d passed, %d failed' % (len(faults) - failed, failed))
-    return 1 if failed else 0
+    return ended(len(faults) - failed, failed)
 
 
 if __name__ == '__main__':

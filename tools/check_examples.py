@@ -14,8 +14,8 @@ import subprocess
 import sys
 import tempfile
 
-TOP = os.path.dirname(os.path.dirname(os.path.abspath(__file__)))
-PROGRAM = os.path.join(TOP, 'crates', 'rpy', 'out', 'rpy')
+from references import TOP, asked, ended, unready
+
 # Their output is in the order of a dict.
 UNORDERED = ['json', 'words']
 # A function that knows the scope which knows it is a cycle of references, and these are not released.
@@ -93,15 +93,14 @@ class Examples:
 
 
 def main():
-    program = os.path.abspath(sys.argv[1]) if sys.argv[1:] else PROGRAM
-    if not os.path.exists(program):
-        print('examples: the program is not built')
-        return 1
+    _, program = asked()
+    stopped = unready('examples', program)
+    if stopped is not None:
+        return stopped
     examples = Examples(program, python2())
     for file in sorted(glob.glob(os.path.join(TOP, 'examples', '*.py'))):
         examples.add(file)
-    print('%d passed, %d failed' % (examples.passed, examples.failed))
-    return 0 if examples.failed == 0 and examples.passed > 0 else 1
+    return ended(examples.passed, examples.failed)
 
 
 if __name__ == '__main__':

@@ -9,11 +9,10 @@ import subprocess
 import sys
 import tempfile
 
-TOP = os.path.dirname(os.path.dirname(os.path.abspath(__file__)))
-SHARED = os.path.join(os.path.dirname(TOP), 'shared')
+from references import PROGRAM, SHARED, ended, unready
+
 CRUN = os.path.join(SHARED, 'csub', 'crun.py')
 ORACLE = os.path.join(SHARED, 'oracle', 'oracle.py')
-PROGRAM = os.path.join(TOP, 'crates', 'rpy', 'out', 'rpy')
 
 BODIES = [
     ['return 0'],
@@ -53,12 +52,9 @@ def written(body):
 
 
 def main():
-    if not (os.path.exists(CRUN) and os.path.exists(ORACLE)):
-        print('first path: skipped, the references in ../shared are not here')
-        return 0
-    if not os.path.exists(PROGRAM):
-        print('first path: the program is not built')
-        return 1
+    stopped = unready('first path', PROGRAM, 'csub/crun.py', 'oracle/oracle.py')
+    if stopped is not None:
+        return stopped
     passed = failed = 0
     with tempfile.TemporaryDirectory() as folder:
         source, text = os.path.join(folder, 'a.py'), os.path.join(folder, 'a.c')
@@ -85,8 +81,7 @@ def main():
             else:
                 failed += 1
                 print('refused otherwise: %r gives %r, status %d' % (body, err, status))
-    print('%d passed, %d failed' % (passed, failed))
-    return 1 if failed else 0
+    return ended(passed, failed)
 
 
 if __name__ == '__main__':

@@ -11,8 +11,8 @@ import subprocess
 import sys
 import time
 
-TOP = os.path.dirname(os.path.dirname(os.path.abspath(__file__)))
-SHARED = os.path.join(os.path.dirname(TOP), 'shared')
+from references import SHARED, TOP, ended, number, unready, use
+
 PROGRAM = os.path.join(TOP, 'crates', 'meaning_check', 'out', 'meaning_check')
 MOST = 20000
 SECONDS = 240
@@ -94,27 +94,30 @@ def corpus(programs):
                 pass
 
 
-def fuzz(programs, generate, count):
+def fuzz(check, programs, generate, count, seconds, smaller):
     for seed in range(count):
-        if time.time() - programs.start > SECONDS:
-            print('flow: stopped after %d seconds' % SECONDS)
+        if time.time() - programs.start > seconds:
+            print('%s: stopped after %d seconds, at seed %d' % (check, seconds, seed))
             return
         made = generate(seed, 5)
         sources = [text.encode('latin-1') for _, text in made.files]
         try:
-            programs.add('seed %d' % seed, [name for name, _ in made.files], sources, list(made.args), 3)
+            programs.add('seed %d' % seed, [name for name, _ in made.files], sources, list(made.args), smaller)
         except programs.oracle.Refused:
             pass
 
 
+def done(programs, work):
+    programs.oracle.run_with_stack(work)
+    print('%d programs' % programs.programs)
+    return ended(programs.passed, programs.failed)
+
+
 def main():
-    if not os.path.isdir(os.path.join(SHARED, 'oracle')):
-        print('flow: skipped, the references in ../shared are not here')
-        return 0
-    if not os.path.exists(PROGRAM):
-        print('flow: the program is not built')
-        return 1
-    sys.path[:0] = [os.path.join(SHARED, 'oracle'), os.path.join(SHARED, 'fuzz')]
+    stopped = unready('flow', PROGRAM, 'oracle', 'fuzz')
+    if stopped is not None:
+        return stopped
+    use('oracle', 'fuzz')
     import gen
     import meaning
     import oracle
@@ -122,14 +125,11 @@ def main():
 
     def work():
         corpus(programs)
-        fuzz(programs, gen.generate, int(sys.argv[1]) if len(sys.argv) > 1 else 1000)
+        fuzz('flow', programs, gen.generate, number(1, 1000), SECONDS, 3)
         programs.flush()
         return 0
 
-    oracle.run_with_stack(work)
-    print('%d programs' % programs.programs)
-    print('%d passed, %d failed' % (programs.passed, programs.failed))
-    return 0 if programs.failed == 0 and programs.passed > 0 else 1
+    return done(programs, work)
 
 
 if __name__ == '__main__':

@@ -8,18 +8,15 @@ begun. One small program more is run with every bound. What a run holds is compu
 missing the check is skipped. The last line is 'N passed, M failed'."""
 import functools
 import gc
-import os
 import re
 import resource
 import subprocess
 import sys
-import time
 import types
 
 import check_flow
+from references import number, unready, use
 
-TOP = check_flow.TOP
-SHARED = check_flow.SHARED
 PROGRAM = check_flow.PROGRAM
 piece = check_flow.piece
 SMALLER = 10
@@ -216,29 +213,13 @@ class Programs(check_flow.Programs):
         self.waiting = []
 
 
-def fuzz(programs, generate, count, seconds):
-    for seed in range(count):
-        if time.time() - programs.start > seconds:
-            print('meaning: stopped after %d seconds, at seed %d' % (seconds, seed))
-            return
-        made = generate(seed, 5)
-        sources = [text.encode('latin-1') for _, text in made.files]
-        try:
-            programs.add('seed %d' % seed, [name for name, _ in made.files], sources, list(made.args), SMALLER)
-        except programs.oracle.Refused:
-            pass
-
-
 def main():
-    if not os.path.isdir(os.path.join(SHARED, 'oracle')):
-        print('meaning: skipped, the references in ../shared are not here')
-        return 0
-    if not os.path.exists(PROGRAM):
-        print('meaning: the program is not built')
-        return 1
-    count = int(sys.argv[1]) if len(sys.argv) > 1 else COUNT
-    seconds = int(sys.argv[2]) if len(sys.argv) > 2 else SECONDS
-    sys.path[:0] = [os.path.join(SHARED, 'oracle'), os.path.join(SHARED, 'fuzz')]
+    stopped = unready('meaning', PROGRAM, 'oracle', 'fuzz')
+    if stopped is not None:
+        return stopped
+    count = number(1, COUNT)
+    seconds = number(2, SECONDS)
+    use('oracle', 'fuzz')
     import gen
     import meaning
     import oracle
@@ -248,14 +229,11 @@ def main():
     def work():
         programs.add('places', ['places.py'], [PLACES], [], 60)
         check_flow.corpus(programs)
-        fuzz(programs, gen.generate, count, seconds)
+        check_flow.fuzz('meaning', programs, gen.generate, count, seconds, SMALLER)
         programs.flush()
         return 0
 
-    oracle.run_with_stack(work)
-    print('%d programs' % programs.programs)
-    print('%d passed, %d failed' % (programs.passed, programs.failed))
-    return 0 if programs.failed == 0 and programs.passed > 0 else 1
+    return check_flow.done(programs, work)
 
 
 if __name__ == '__main__':

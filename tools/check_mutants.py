@@ -15,9 +15,8 @@ import sys
 import tempfile
 import time
 
-TOP = os.path.dirname(os.path.dirname(os.path.abspath(__file__)))
-SHARED = os.path.join(os.path.dirname(TOP), 'shared')
-PROGRAM = os.path.join(TOP, 'crates', 'rpy', 'out', 'rpy')
+from references import SHARED, TOP, Verdicts, asked, ended, unready, use
+
 SECONDS = 60
 BOUND = 3000
 LONGEST = 10
@@ -57,20 +56,17 @@ def changed(rng, text):
     return text
 
 
-class Mutants:
+class Mutants(Verdicts):
     def __init__(self, program, orafix):
+        super().__init__()
         self.program = program
         self.orafix = orafix
-        self.passed = self.failed = self.lasting = 0
+        self.lasting = 0
         self.statuses = {}
 
-    def told(self, what, got, want):
+    def compare(self, what, got, want):
         self.statuses[got[0]] = self.statuses.get(got[0], 0) + 1
-        if got == want:
-            self.passed += 1
-        else:
-            self.failed += 1
-            print('%s: %r, and not %r' % (what, got, want))
+        self.told(what, got == want, got, want)
 
     def source(self, seed, text):
         with open('a.py', 'wb') as file:
@@ -80,7 +76,7 @@ class Mutants:
         # Which of several conflicts is shown is free.
         if got[0] == want[0] == 4:
             got = want = 4, b'', b''
-        self.told('source %d, check' % seed, got, want)
+        self.compare('source %d, check' % seed, got, want)
         if got[0] != 0:
             return
         words = ['run', '--steps', str(BOUND), 'a.py']
@@ -88,7 +84,7 @@ class Mutants:
         if got[0] is None:
             self.lasting += 1
             return
-        self.told('source %d, run' % seed, got, self.orafix.run(words))
+        self.compare('source %d, run' % seed, got, self.orafix.run(words))
 
     def text(self, seed, text):
         if LATER.search(text):
@@ -99,7 +95,7 @@ class Mutants:
         if got[0] is None:
             self.lasting += 1
             return
-        self.told('C text %d' % seed, got, run([sys.executable, MACHINE, '--steps', str(BOUND), 'c.c']))
+        self.compare('C text %d' % seed, got, run([sys.executable, MACHINE, '--steps', str(BOUND), 'c.c']))
 
 
 def sources():
@@ -118,16 +114,11 @@ def texts(program):
 
 
 def main():
-    if not os.path.isdir(os.path.join(SHARED, 'fuzz')):
-        print('mutants: skipped, the references in ../shared are not here')
-        return 0
-    numbers = [int(word) for word in sys.argv[1:] if word.isdigit()]
-    others = [os.path.abspath(word) for word in sys.argv[1:] if not word.isdigit()]
-    program = others[0] if others else PROGRAM
-    if not os.path.exists(program):
-        print('mutants: the program is not built')
-        return 1
-    sys.path[:0] = [os.path.join(SHARED, 'fuzz')]
+    numbers, program = asked()
+    stopped = unready('mutants', program, 'fuzz')
+    if stopped is not None:
+        return stopped
+    use('fuzz')
     import orafix
     mutants = Mutants(program, orafix)
 
@@ -143,11 +134,10 @@ def main():
 
     with tempfile.TemporaryDirectory() as folder:
         os.chdir(folder)
-        ended = orafix.run_with_stack(work)
+        broken = orafix.run_with_stack(work)
         os.chdir(TOP)
     print('mutants: by status %r, %d ran on' % (sorted(mutants.statuses.items()), mutants.lasting))
-    print('%d passed, %d failed' % (mutants.passed, mutants.failed))
-    return 1 if ended or mutants.failed or mutants.passed == 0 else 0
+    return ended(mutants.passed, mutants.failed) or (1 if broken else 0)
 
 
 if __name__ == '__main__':

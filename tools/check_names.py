@@ -18,9 +18,8 @@ import sys
 import tempfile
 import time
 
-TOP = os.path.dirname(os.path.dirname(os.path.abspath(__file__)))
-SHARED = os.path.join(os.path.dirname(TOP), 'shared')
-PROGRAM = os.path.join(TOP, 'crates', 'rpy', 'out', 'rpy')
+from references import PROGRAM, SHARED, ended, number, unready, use
+
 SECONDS = 240
 NAME = re.compile(rb'[A-Za-z_][A-Za-z_0-9]*')
 NUMBERS = [b'0', b'63', b'64', b'9223372036854775807', b'1 << 62', b'(-1)', b"'q'", b'1 / 0', b'7 % 0']
@@ -154,18 +153,15 @@ def build(folder, files):
 
 
 def main():
-    if not os.path.isdir(os.path.join(SHARED, 'oracle')):
-        print('names: skipped, the references in ../shared are not here')
-        return 0
-    if not os.path.exists(PROGRAM):
-        print('names: the program is not built')
-        return 1
-    sys.path[:0] = [os.path.join(SHARED, 'oracle')]
+    stopped = unready('names', PROGRAM, 'oracle')
+    if stopped is not None:
+        return stopped
+    use('oracle')
     sys.setrecursionlimit(20000)
     import grammar
     import names
     import tokens
-    count = int(sys.argv[1]) if len(sys.argv) > 1 else 4000
+    count = number(1, 4000)
     whole = list(programs())
     passed = failed = refused = 0
     start = time.time()
@@ -195,8 +191,7 @@ def main():
             if not good:
                 print('differs: %s\n  got  %d %r\n  want %r' % (name, done.returncode, done.stderr, want))
     print('names: %d of them are refused' % refused)
-    print('%d passed, %d failed' % (passed, failed))
-    return 1 if failed else 0
+    return ended(passed, failed)
 
 
 if __name__ == '__main__':

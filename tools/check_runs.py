@@ -16,9 +16,8 @@ import sys
 import tempfile
 import time
 
-TOP = os.path.dirname(os.path.dirname(os.path.abspath(__file__)))
-SHARED = os.path.join(os.path.dirname(TOP), 'shared')
-PROGRAM = os.path.join(TOP, 'crates', 'rpy', 'out', 'rpy')
+from references import SHARED, TOP, Verdicts, asked, ended, unready, use
+
 CBUILD = os.path.join(SHARED, 'csub', 'cbuild.sh')
 COUNTING = os.path.join(SHARED, 'csub', 'crun.py')
 MOST = 300000
@@ -34,21 +33,15 @@ def run(words, **more):
     return done.returncode, done.stdout, done.stderr
 
 
-class Runs:
+class Runs(Verdicts):
     def __init__(self, orafix, program):
+        super().__init__()
         self.orafix = orafix
         self.program = program
-        self.passed = self.failed = self.compiled = 0
+        self.compiled = 0
         self.programs = {}
         self.counted = {}
         self.start = time.time()
-
-    def told(self, what, good, got, want):
-        if good:
-            self.passed += 1
-        else:
-            self.failed += 1
-            print('%s: %r, and not %r' % (what, got, want))
 
     def wanted(self, names, args, bound):
         """Status, output and ending, the steps paid, and the number of values held."""
@@ -126,16 +119,11 @@ class Runs:
 
 
 def main():
-    if not os.path.isdir(os.path.join(SHARED, 'fuzz')):
-        print('runs: skipped, the references in ../shared are not here')
-        return 0
-    numbers = [int(word) for word in sys.argv[1:] if word.isdigit()]
-    others = [os.path.abspath(word) for word in sys.argv[1:] if not word.isdigit()]
-    program = others[0] if others else PROGRAM
-    if not os.path.exists(program):
-        print('runs: the program is not built')
-        return 1
-    sys.path[:0] = [os.path.join(SHARED, 'fuzz')]
+    numbers, program = asked()
+    stopped = unready('runs', program, 'fuzz')
+    if stopped is not None:
+        return stopped
+    use('fuzz')
     import gen
     import orafix
     count = numbers[0] if numbers else 1000
@@ -158,8 +146,7 @@ def main():
     for level in sorted(runs.programs):
         print('level %d: %d programs, %d of them counted' % (level, runs.programs[level], runs.counted.get(level, 0)))
     print('%d compiled by gcc' % runs.compiled)
-    print('%d passed, %d failed' % (runs.passed, runs.failed))
-    return 0 if runs.failed == 0 and runs.passed > 0 else 1
+    return ended(runs.passed, runs.failed)
 
 
 if __name__ == '__main__':

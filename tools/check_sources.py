@@ -14,9 +14,8 @@ import sys
 import tempfile
 import time
 
-TOP = os.path.dirname(os.path.dirname(os.path.abspath(__file__)))
-SHARED = os.path.join(os.path.dirname(TOP), 'shared')
-PROGRAM = os.path.join(TOP, 'crates', 'rpy', 'out', 'rpy')
+from references import PROGRAM, SHARED, ended, number, unready, use
+
 SECONDS = 240
 LIMIT = 1048576
 
@@ -49,18 +48,15 @@ def mutants(sources, count, mutate):
 
 
 def main():
-    if not os.path.isdir(os.path.join(SHARED, 'oracle')):
-        print('sources: skipped, the references in ../shared are not here')
-        return 0
-    if not os.path.exists(PROGRAM):
-        print('sources: the program is not built')
-        return 1
-    sys.path[:0] = [os.path.join(SHARED, 'oracle'), os.path.join(SHARED, 'fuzz')]
+    stopped = unready('sources', PROGRAM, 'oracle', 'fuzz')
+    if stopped is not None:
+        return stopped
+    use('oracle', 'fuzz')
     sys.setrecursionlimit(20000)
     import grammar
     import mutate
     import tokens
-    count = int(sys.argv[1]) if len(sys.argv) > 1 else 2000
+    count = number(1, 2000)
     whole = list(sources_of_programs())
     passed = failed = refused = 0
     start = time.time()
@@ -77,7 +73,7 @@ def main():
             want = reference(source, tokens, grammar)
             refused += want is not None
             if want is None:
-                good = done.returncode not in (2, 13) and 0 <= done.returncode <= 16
+                good = done.returncode not in (2, 13) and 0 <= done.returncode <= 15
             else:
                 good = done.returncode == 2 and done.stderr == b'a.py:%s\n' % want.encode() and done.stdout == b''
             if good:
@@ -86,8 +82,7 @@ def main():
                 failed += 1
                 print('differs: %s\n  got  %d %r\n  want %r' % (name, done.returncode, done.stderr, want))
     print('sources: %d of them are refused' % refused)
-    print('%d passed, %d failed' % (passed, failed))
-    return 1 if failed else 0
+    return ended(passed, failed)
 
 
 if __name__ == '__main__':

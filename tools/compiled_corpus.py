@@ -13,9 +13,8 @@ import sys
 import tempfile
 from concurrent.futures import ThreadPoolExecutor
 
-TOP = os.path.dirname(os.path.dirname(os.path.abspath(__file__)))
-SHARED = os.path.join(os.path.dirname(TOP), 'shared')
-PROGRAM = os.path.join(TOP, 'crates', 'rpy', 'out', 'rpy')
+from references import PROGRAM, SHARED
+
 CBUILD = os.path.join(SHARED, 'csub', 'cbuild.sh')
 SANITIZED = dict(os.environ, ASAN_OPTIONS='detect_leaks=0')
 REPORT = re.compile(rb'\n(tally|leaks?)\b.*', re.S)

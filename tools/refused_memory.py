@@ -8,8 +8,8 @@ import subprocess
 import sys
 import tempfile
 
-TOP = os.path.dirname(os.path.dirname(os.path.abspath(__file__)))
-PROGRAM = os.path.join(TOP, 'crates', 'rpy', 'out', 'rpy')
+from references import PROGRAM, TOP
+
 STACK = os.path.join(TOP, 'examples', 'stack.py')
 
 

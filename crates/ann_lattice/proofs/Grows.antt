@@ -1,15 +1,16 @@
 -- What is grown by monotone rules is below each assignment that is closed and free.
-use Rattle.std.proofs.Common.{◌≡◌, ◌≢◌, ◌<◌, ◌≤◌, ℕ, Bool, true, false, List, [], ◌∷◌, length, get_or, set, refl, sym, ap, ◌∙◌, arith, subst, ◌⊎◌, ⊎_elim, inl, inr}
+use Rattle.std.proofs.Common.{◌≡◌, ◌≢◌, ◌<◌, ℕ, Bool, true, false, List, [], ◌∷◌, length, get_or, set, refl, sym, ap, ◌∙◌, arith, subst, ◌⊎◌, inl, inr}
 use Rattle.std.specs.Prelude.{nat_lt, if◌then◌else◌}
 use Rattle.std.proofs.lemmas.Bool.{ltb-true}
 use Rattle.std.proofs.lemmas.List.{get_or-set_same, get_or-set_other, length-set}
 use Rattle.rpy_tree.specs.declared.program.ClassInfo.{ClassInfo}
 use Rattle.ann_lattice.specs.Shape.{Shape, Nothing}
 use Rattle.ann_lattice.specs.Order.{Below}
-use Rattle.ann_lattice.specs.Join.{Within, join, classes_after}
-use Rattle.ann_lattice.specs.Laws.{IsTree, IsFormed, IsJoin}
-use Rattle.ann_lattice.specs.Assign.{Assignment, at, mark, Less, Need, Up, Set, Under, Holds, raised, raise, meet, Rules, Grown, begin, step, Closed, Free, Fits, Monotone, IsLeast}
+use Rattle.ann_lattice.specs.Join.{join}
+use Rattle.ann_lattice.specs.Laws.{IsTree, IsFormed}
+use Rattle.ann_lattice.specs.Assign.{Assignment, at, mark, Less, Need, Up, Set, Under, Holds, raised, raise, meet, Rules, Grown, begin, step, IsTable, Monotone, IsLeast}
 use Rattle.ann_lattice.proofs.Joined.{is_join}
+use Rattle.ann_lattice.proofs.Tables.{meet_table}
 
 same_number : (c d : ℕ) → (c ≡ d) ⊎ (c ≢ d)
 same_number c d = grind arith
@@ -101,12 +102,16 @@ module _ (k : List ClassInfo) (tree : IsTree k) where
     grown_marks _ begin = refl
     grown_marks _ (step a r g) = meet_marks (rules r a) a ∙ grown_marks a g
 
-    grown_less : (spots : ℕ → Bool) → Monotone k rules spots → (a : Assignment) → Grown k rules start a → IsLeast k rules spots start a
-    grown_less spots mono _ begin b fits closed free = fits.above
-    grown_less spots mono _ (step a r g) b fits closed free =
-        let l = grown_less spots mono a g b fits closed free in
-        meet_less (rules r a) a b (fits.cells ∙ sym (grown_cells a g)) (fits.marks ∙ sym (grown_marks a g)) l fits.formed (mono r a b l closed free)
+    grown_table : IsTable (length start.same) start.same → (a : Assignment) → Grown k rules start a → IsTable (length start.same) a.same
+    grown_table t _ begin = t
+    grown_table t _ (step a r g) = meet_table (length start.same) k (rules r a) a (grown_table t a g)
 
-pub grown_is_least : (k : List ClassInfo) → IsTree k → (rules : Rules) (spots : ℕ → Bool) → Monotone k rules spots
-    → (start a : Assignment) → Grown k rules start a → IsLeast k rules spots start a
-grown_is_least k tree rules spots mono start a g = grown_less k tree rules start spots mono a g
+    grown_less : (spots : ℕ → Bool) → IsTable (length start.same) start.same → Monotone k rules spots start → (a : Assignment) → Grown k rules start a → IsLeast k rules spots start a
+    grown_less spots t mono _ begin b fits closed free = fits.above
+    grown_less spots t mono _ (step a r g) b fits closed free =
+        let l = grown_less spots t mono a g b fits closed free in
+        meet_less (rules r a) a b (fits.cells ∙ sym (grown_cells a g)) (fits.marks ∙ sym (grown_marks a g)) l fits.formed (mono r a b (grown_table t a g) l fits closed free)
+
+pub grown_is_least : (k : List ClassInfo) → IsTree k → (rules : Rules) (spots : ℕ → Bool) (start : Assignment) → IsTable (length start.same) start.same
+    → Monotone k rules spots start → (a : Assignment) → Grown k rules start a → IsLeast k rules spots start a
+grown_is_least k tree rules spots start t mono a g = grown_less k tree rules start spots t mono a g

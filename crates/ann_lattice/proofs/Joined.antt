@@ -1,17 +1,17 @@
 -- The join is the least element above both, under the finest classes that allow it.
-use Rattle.std.proofs.Common.{◌≡◌, ℕ, zero, suc, ◌<◌, ◌≤◌, Bool, true, false, List, [], ◌∷◌, ◌++◌, Option, Some, None, refl, sym, ap, ◌∙◌, arith, subst, ⊎_elim, inl, inr}
-use Rattle.std.specs.Prelude.{◌==◌, ◌||◌, ◌&&◌, not, if◌then◌else◌, nat_lt, nat_le, max, map}
-use Rattle.std.proofs.lemmas.Bool.{eqb-true, eq-eqb, ltb-true, ltb-false, leb-true, le-leb}
+use Rattle.std.proofs.Common.{◌≡◌, ℕ, ◌≤◌, Bool, true, false, List, [], ◌∷◌, ◌++◌, Option, Some, None, refl, sym, ap, ◌∙◌, arith, subst}
+use Rattle.std.specs.Prelude.{◌||◌, ◌&&◌, not, if◌then◌else◌, nat_lt, nat_le, max, map}
+use Rattle.std.proofs.lemmas.Bool.{ltb-false, leb-true, le-leb}
 use Rattle.rpy_tree.specs.declared.program.ClassInfo.{ClassInfo}
 use Rattle.class_desc.specs.Line.{common_base}
-use Rattle.ann_element.specs.Sites.{leader, Same}
+use Rattle.ann_element.specs.Sites.{Same}
 use Rattle.ann_lattice.specs.Shape.{Width, One, Any, OrNone, Shape, Nothing, NoneOnly, Truth, Num, Str, Tup, Lst, Dct, Inst, Fun, Clash, Shapes, end, more}
 use Rattle.ann_lattice.specs.Order.{kept, lists, all_lists, dicts, all_dicts, In, Held, Implies, Wider, LessKnown, Sub, has, Among, Below, least, none, none_str, none_list, none_dict, none_inst, none_fun, truth, num, str, tuple, list, dict, inst, fun, clash, Each, no_more, and_more}
-use Rattle.ann_lattice.specs.Join.{Within, AllSame, unites, chain, first, max_width, max_known, join_inst, put, union, is_clash, no_clash, equal_count, depth, depths, conflict, stays, join, joins, all_tied, tied, all_each, classes_after}
+use Rattle.ann_lattice.specs.Join.{Within, AllSame, chain, first, max_width, max_known, join_inst, put, union, is_clash, no_clash, equal_count, depth, depths, conflict, stays, join, joins, all_tied, tied, all_each, classes_after}
 use Rattle.ann_lattice.specs.Laws.{IsTree, IsFormed, IsJoin, Alike, Level, IsLattice, from, rising, is_sound, are_sound}
 use Rattle.ann_lattice.proofs.Sites.{within_self, within_on, same_split, same_append, unites_old, unites_new, unites_least}
 use Rattle.ann_lattice.proofs.Tree.{sub_self, common_above, common_least}
-use Rattle.ann_lattice.proofs.Ordered.{implies_self, wider_self, known_self, has_first, has_more, among_self, among_more, held_append, held_split, held_kept, below_self, below_more, below_on, no, and_left, and_right}
+use Rattle.ann_lattice.proofs.Ordered.{wider_self, has_first, among_self, among_more, held_append, held_split, below_self, below_more, below_on, no, and_left, and_right}
 
 -- ---- each kind
 

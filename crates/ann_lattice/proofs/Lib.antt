@@ -5,4 +5,6 @@ pub mod Joined
 pub mod Tested
 pub mod Meeting
 mod Rows
+pub mod Tables
 pub mod Grows
+pub mod Passed

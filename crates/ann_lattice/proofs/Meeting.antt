@@ -1,5 +1,5 @@
 -- The sites that meet in a join, one after the other, and what the items of tuples join to.
-use Rattle.std.proofs.Common.{◌≡◌, ℕ, zero, suc, ◌-◌, ◌<◌, ◌≤◌, Bool, true, false, List, [], ◌∷◌, ◌++◌, map, Option, Some, None, refl, sym, ap, ◌∙◌, arith, subst}
+use Rattle.std.proofs.Common.{◌≡◌, ℕ, zero, suc, ◌-◌, ◌<◌, ◌≤◌, Bool, true, false, List, [], ◌∷◌, ◌++◌, length, map, Option, Some, None, refl, sym, ap, ◌∙◌, arith, subst}
 use Rattle.std.specs.Prelude.{◌&&◌, ◌||◌, if◌then◌else◌, nat_le, max}
 use Rattle.std.proofs.lemmas.Bool.{leb-true, leb-false, le-leb}
 use Rattle.std.proofs.lemmas.List.{append-nil}
@@ -69,6 +69,10 @@ again (more x xs) = ap (λ l. more x l) (again xs)
 
 pub joined_all : (es : List Element) (xs : Shapes) → map shape es ≡ [] ++ items xs → shapes es ≡ xs
 joined_all es xs e = ap shapes_of e ∙ again xs
+
+pub item_count : (es : List Element) → length es ≡ length (items (shapes es))
+item_count [] = refl
+item_count (e ∷ es) = ap suc (item_count es)
 
 -- ---- tuples
 

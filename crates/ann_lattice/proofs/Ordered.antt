@@ -1,5 +1,5 @@
 -- The order of elements is one.
-use Rattle.std.proofs.Common.{◌≡◌, ◌≢◌, ℕ, zero, suc, ◌<◌, ◌≤◌, Bool, true, false, List, [], ◌∷◌, ◌++◌, Option, Some, None, refl, sym, ap, ◌∙◌, arith, subst, ⊎_elim, inl, inr}
+use Rattle.std.proofs.Common.{◌≡◌, ℕ, ◌<◌, Bool, true, false, List, [], ◌∷◌, ◌++◌, Option, Some, None, refl, sym, ap, ◌∙◌, arith, subst}
 use Rattle.std.specs.Prelude.{◌==◌, ◌||◌, ◌&&◌, nat_lt}
 use Rattle.std.proofs.lemmas.Bool.{eqb-true, eq-eqb, ltb-true}
 use Rattle.rpy_tree.specs.declared.program.ClassInfo.{ClassInfo}
@@ -7,7 +7,7 @@ use Rattle.ann_element.specs.Sites.{leader, Same}
 use Rattle.ann_lattice.specs.Shape.{Width, One, Any, OrNone, Shape, Nothing, NoneOnly, Truth, Num, Str, Tup, Lst, Dct, Inst, Fun, Clash, Shapes, end, more}
 use Rattle.ann_lattice.specs.Order.{kept, lists, all_lists, dicts, all_dicts, In, Held, Implies, Wider, LessKnown, Sub, has, Among, Below, least, none, none_str, none_list, none_dict, none_inst, none_fun, truth, num, str, tuple, list, dict, inst, fun, clash, Each, no_more, and_more}
 use Rattle.ann_lattice.specs.Join.{Within, no_clash}
-use Rattle.ann_lattice.specs.Laws.{IsTree, IsOrder, IsFormed, name_of, named, all_named, from, rising, is_sound, are_sound}
+use Rattle.ann_lattice.specs.Laws.{IsTree, IsOrder, name_of, named, all_named, from, rising, is_sound, are_sound}
 use Rattle.ann_lattice.proofs.Tree.{sub_self, sub_on, sub_both}
 
 -- ---- each kind

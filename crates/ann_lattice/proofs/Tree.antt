@@ -1,12 +1,11 @@
 -- Classes: above and below, and the nearest common base.
-use Rattle.std.proofs.Common.{◌≡◌, ℕ, zero, suc, ◌<◌, ◌≤◌, Bool, true, false, List, [], ◌∷◌, Option, Some, None, length, refl, sym, ap, ◌∙◌, arith, subst, ◌⊎◌, ⊎_elim, inl, inr}
-use Rattle.std.specs.Prelude.{◌==◌, ◌||◌, if◌then◌else◌, find, slice_get, nat_lt}
-use Rattle.std.specs.List.{list_any}
+use Rattle.std.proofs.Common.{◌≡◌, ℕ, zero, suc, ◌<◌, ◌≤◌, Bool, true, false, List, [], ◌∷◌, Option, Some, None, length, refl, sym, ap, ◌∙◌, arith, ◌⊎◌, ⊎_elim, inl, inr}
+use Rattle.std.specs.Prelude.{◌==◌, ◌||◌, if◌then◌else◌, find, nat_lt}
 use Rattle.std.proofs.lemmas.Bool.{eqb-true, eq-eqb, ltb-true, ltb-false}
 use Rattle.std.proofs.lemmas.Option.{slice_get_past}
 use Rattle.rpy_tree.specs.declared.program.ClassInfo.{ClassInfo}
 use Rattle.class_desc.specs.Line.{base_in, base, onward, line, above, is_below, common_base}
-use Rattle.class_desc.specs.Range.{ends, IsForest}
+use Rattle.class_desc.specs.Range.{ends}
 use Rattle.ann_lattice.specs.Order.{Sub, has}
 use Rattle.ann_lattice.specs.Laws.{IsTree}
 
@@ -17,7 +16,7 @@ or_right : (a b : Bool) → b ≡ true → (a || b) ≡ true
 or_right true b e = refl
 or_right false b e = e
 
-abbrev after : List ℕ → ℕ → List ℕ
+abbrev pub after : List ℕ → ℕ → List ℕ
 after [] d = []
 after (m ∷ ms) d = if m == d then m ∷ ms else after ms d
 
@@ -160,7 +159,7 @@ module _ (classes : List ClassInfo) where
     all_end c = ends_by (nat_lt c (length classes)) c refl
 
     -- from a base on, the bases are the base's own
-    after_base : (c d : ℕ) → Sub classes c d → after (above classes c) d ≡ above classes d
+    pub after_base : (c d : ℕ) → Sub classes c d → after (above classes c) d ≡ above classes d
     after_base c d h =
         let r = from_line (length classes) c d (all_end c) h in
         r.is ∙ sym (same_line r.count (length classes) d r.ending r.fewer)

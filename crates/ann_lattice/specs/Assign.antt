@@ -1,6 +1,7 @@
 -- Assignments of elements that grow until they are closed.
 use Rattle.std.specs.Prelude.{◌≡◌, ◌<◌, ℕ, nat_lt, if◌then◌else◌, Bool, true, false, List, [], ◌∷◌, length, get_or, set}
 use Rattle.rpy_tree.specs.declared.program.ClassInfo.{ClassInfo}
+use Rattle.ann_element.specs.Sites.{leader}
 use Rattle.ann_lattice.specs.Shape.{Shape, Nothing}
 use Rattle.ann_lattice.specs.Order.{Below}
 use Rattle.ann_lattice.specs.Join.{Within, is_clash, join, classes_after}
@@ -67,16 +68,24 @@ Closed k rules a = (r : ℕ) → Holds k a (rules r a)
 abbrev pub Free : (ℕ → Bool) → Assignment → Type 0
 Free spots a = (c : ℕ) → spots c ≡ true → is_clash (at a c) ≡ false
 
--- as many cells and marks, above the start, with well-formed elements
+-- a table of n sites gives each site one that is its own leader
+pub record IsTable (n : ℕ) (t : List ℕ) : Type 0 where
+  pub count : length t ≡ n
+  pub leads : (s : ℕ) → leader t (leader t s) ≡ leader t s
+  pub sites : (s : ℕ) → leader t s < n
+
+-- as many cells, marks and sites, above the start, with well-formed elements
 pub record Fits (k : List ClassInfo) (start b : Assignment) : Type 0 where
   pub cells : length b.cells ≡ length start.cells
   pub marks : length b.marks ≡ length start.marks
+  pub table : IsTable (length start.same) b.same
   pub above : Less k start b
   pub formed : (c : ℕ) → IsFormed (at b c)
 
--- what a rule asks of a smaller assignment holds in a larger one that is closed and free
-abbrev pub Monotone : List ClassInfo → Rules → (ℕ → Bool) → Type 0
-Monotone k rules spots = (r : ℕ) (a b : Assignment) → Less k a b → Closed k rules b → Free spots b → Holds k b (rules r a)
+-- what a rule asks of a smaller assignment holds in a larger one that is closed, free and well-formed; both have the cells, marks and sites of
+-- the start
+abbrev pub Monotone : List ClassInfo → Rules → (ℕ → Bool) → Assignment → Type 0
+Monotone k rules spots start = (r : ℕ) (a b : Assignment) → IsTable (length start.same) a.same → Less k a b → Fits k start b → Closed k rules b → Free spots b → Holds k b (rules r a)
 
 -- a is below each that is closed and free
 abbrev pub IsLeast : List ClassInfo → Rules → (ℕ → Bool) → Assignment → Assignment → Type 0

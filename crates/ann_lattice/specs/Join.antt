@@ -1,5 +1,5 @@
 -- The least element above two others, and the sites that it brings into one class.
-use Rattle.std.specs.Prelude.{◌≡◌, ℕ, suc, ◌&&◌, ◌||◌, not, nat_lt, nat_le, max, Bool, true, false, if◌then◌else◌, List, [], ◌∷◌, ◌++◌, map, Option, Some, None}
+use Rattle.std.specs.Prelude.{ℕ, suc, ◌&&◌, ◌||◌, not, nat_lt, nat_le, max, Bool, true, false, if◌then◌else◌, List, [], ◌∷◌, ◌++◌, map, Option, Some, None}
 use Rattle.rpy_tree.specs.declared.program.ClassInfo.{ClassInfo}
 use Rattle.class_desc.specs.Line as line
 use Rattle.ann_element.specs.Sites.{Same, unite}

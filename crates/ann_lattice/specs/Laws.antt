@@ -1,9 +1,9 @@
 -- What holds of the order of elements and of their join.
-use Rattle.std.specs.Prelude.{◌≡◌, ℕ, ◌<◌, ◌≤◌, ◌&&◌, nat_le, nat_lt, Bool, true, false, List, [], ◌∷◌, length, Option, Some, None}
+use Rattle.std.specs.Prelude.{◌≡◌, ℕ, ◌<◌, ◌≤◌, ◌&&◌, nat_lt, Bool, true, List, [], ◌∷◌, length, Option, Some, None}
 use Rattle.rpy_tree.specs.declared.program.ClassInfo.{ClassInfo}
 use Rattle.class_desc.specs.Range.{IsForest}
 use Rattle.ann_element.specs.Sites.{leader}
-use Rattle.ann_lattice.specs.Shape.{Shape, Nothing, NoneOnly, Truth, Num, Str, Tup, Lst, Dct, Inst, Fun, Clash, Shapes, end, more}
+use Rattle.ann_lattice.specs.Shape.{Shape, Tup, Lst, Dct, Fun, Clash, Shapes, end, more}
 use Rattle.ann_lattice.specs.Order.{Below, is_below}
 use Rattle.ann_lattice.specs.Join.{Within, depth, no_clash, join, classes_after}
 

@@ -1,7 +1,12 @@
 // Instances, functions and what tests say of a local.
-use crate::container::part_of;
-use crate::number::{conflict, known};
-use ann_element::{Element, copy_element, copy_functions, is_int, is_str};
+ghost use Rattle.std.specs.Prelude.{◌≡◌, ◌∷◌, [], ◌++◌, false, map, is_some, IfOk, OnOk};
+ghost use Rattle.class_desc.specs.Line as line;
+ghost use Rattle.ann_lattice.specs.Shape.{Fun, shape};
+ghost use Rattle.ann_lattice.specs.Row as spec;
+
+use crate::container::{copy_if, if_shallow, nothing_if};
+use crate::kind::{conflict, is_int, is_positive, is_str, known};
+use ann_element::{Element, copy_element, copy_functions};
 use class_desc::Classes;
 use rpy_base::{NoMem, Text};
 use rpy_tree::{ClassId, Const};
@@ -10,7 +15,9 @@ use std::alloc::Global;
 /// The class `Exception`.
 const EXCEPTION: ClassId = 0;
 
-fn has_home(classes: &Classes, class: ClassId, name: &Text) -> bool {
+fn has_home(classes: &Classes, class: ClassId, name: &Text) -> bool
+    ensures { result ≡ spec.has_home classes.now name.now class }
+{
     match classes.home(class, name) {
         None => false,
         Some(_) => true,
@@ -23,17 +30,13 @@ pub fn attribute_row(
     classes: &Classes,
     name: &Text,
     a: &Element,
-    parts: &[Element],
-) -> Result<Element, NoMem> {
+    part: &Element,
+) -> Result<Element, NoMem>
+    ensures { IfOk result (λ e. shape e ≡ spec.attribute classes.now name.now (shape a.now) (shape part.now)) }
+{
     match a {
         Element::NoneOnly => Ok(Element::Unreached),
-        Element::Instance(class, _) => {
-            if has_home(classes, *class, name) {
-                part_of(alloc, parts)
-            } else {
-                Ok(conflict())
-            }
-        }
+        Element::Instance(class, _) => copy_if(alloc, has_home(classes, *class, name), part),
         _ => Ok(conflict()),
     }
 }
@@ -45,22 +48,20 @@ pub fn store_attribute_row(
     name: &Text,
     a: &Element,
     value: &Element,
-) -> Result<Element, NoMem> {
+) -> Result<Element, NoMem>
+    ensures { IfOk result (λ e. shape e ≡ spec.store_attribute classes.now name.now (shape a.now) (shape value.now)) }
+{
     match a {
         Element::NoneOnly => Ok(Element::Unreached),
-        Element::Instance(class, _) => {
-            if has_home(classes, *class, name) {
-                copy_element(alloc, value)
-            } else {
-                Ok(conflict())
-            }
-        }
+        Element::Instance(class, _) => copy_if(alloc, has_home(classes, *class, name), value),
         _ => Ok(conflict()),
     }
 }
 
 // Of an instance that is not `None`.
-fn surely_instance(classes: &Classes, class: ClassId, of: ClassId) -> Element {
+fn surely_instance(classes: &Classes, class: ClassId, of: ClassId) -> Element
+    ensures { shape result ≡ spec.surely classes.now.classes class of }
+{
     if classes.below(class, of) {
         known(true)
     } else if classes.below(of, class) {
@@ -70,7 +71,9 @@ fn surely_instance(classes: &Classes, class: ClassId, of: ClassId) -> Element {
     }
 }
 
-fn perhaps_instance(classes: &Classes, class: ClassId, of: ClassId) -> Element {
+fn perhaps_instance(classes: &Classes, class: ClassId, of: ClassId) -> Element
+    ensures { shape result ≡ spec.perhaps classes.now.classes class of }
+{
     if classes.below(class, of) || classes.below(of, class) {
         Element::Bool
     } else {
@@ -79,7 +82,9 @@ fn perhaps_instance(classes: &Classes, class: ClassId, of: ClassId) -> Element {
 }
 
 /// `isinstance` with a class.
-pub fn is_instance_row(classes: &Classes, of: ClassId, a: &Element) -> Element {
+pub fn is_instance_row(classes: &Classes, of: ClassId, a: &Element) -> Element
+    ensures { shape result ≡ spec.is_instance classes.now.classes of (shape a.now) }
+{
     match a {
         Element::NoneOnly => known(false),
         Element::Instance(class, none) => {
@@ -94,7 +99,9 @@ pub fn is_instance_row(classes: &Classes, of: ClassId, a: &Element) -> Element {
 }
 
 // Without an `__init__` a call takes no argument; below `Exception` one string may stand.
-fn takes_arguments(classes: &Classes, class: ClassId, xs: &[Element]) -> bool {
+fn takes_arguments(classes: &Classes, class: ClassId, xs: &[Element]) -> bool
+    ensures { result ≡ spec.takes_arguments classes.now.classes class (map shape xs.now) }
+{
     match xs {
         [] => true,
         [s] => is_str(s) && classes.below(class, EXCEPTION),
@@ -102,23 +109,23 @@ fn takes_arguments(classes: &Classes, class: ClassId, xs: &[Element]) -> bool {
     }
 }
 
+fn has_init(classes: &Classes, class: ClassId) -> bool
+    ensures { result ≡ is_some (line.init classes.now.classes class) }
+{
+    match classes.init(class) {
+        None => false,
+        Some(_) => true,
+    }
+}
+
 /// The call of a class.
-pub fn new_row(
-    alloc: Global,
-    classes: &Classes,
-    class: ClassId,
-    xs: &[Element],
-) -> Result<Element, NoMem> {
-    let init = Text::from_bytes(alloc, b"__init__")?;
-    match classes.method(class, &init) {
-        Some(_) => Ok(Element::Instance(class, false)),
-        None => {
-            if takes_arguments(classes, class, xs) {
-                Ok(Element::Instance(class, false))
-            } else {
-                Ok(conflict())
-            }
-        }
+pub fn new_row(classes: &Classes, class: ClassId, xs: &[Element]) -> Element
+    ensures { shape result ≡ spec.new classes.now.classes class (map shape xs.now) }
+{
+    if has_init(classes, class) || takes_arguments(classes, class, xs) {
+        Element::Instance(class, false)
+    } else {
+        conflict()
     }
 }
 
@@ -128,40 +135,36 @@ pub fn call_of_row(
     classes: &Classes,
     class: ClassId,
     xs: &[Element],
-    parts: &[Element],
-) -> Result<Element, NoMem> {
+    part: &Element,
+) -> Result<Element, NoMem>
+    ensures { IfOk result (λ e. shape e ≡ spec.call_of classes.now.classes class (map shape xs.now) (shape part.now)) }
+{
     match xs {
-        [Element::Instance(of, false), ..] => {
-            if classes.below(*of, class) {
-                part_of(alloc, parts)
-            } else {
-                Ok(conflict())
-            }
+        [Element::Instance(of, false), _others @ ..] => {
+            copy_if(alloc, classes.below(*of, class), part)
         }
         _ => Ok(conflict()),
     }
 }
 
 /// The call of a value. The further part is the join of the results.
-pub fn call_value_row(alloc: Global, xs: &[Element], parts: &[Element]) -> Result<Element, NoMem> {
+pub fn call_value_row(alloc: Global, xs: &[Element], part: &Element) -> Result<Element, NoMem>
+    ensures { IfOk result (λ e. shape e ≡ spec.call_value (map shape xs.now) (shape part.now)) }
+{
     match xs {
-        [Element::NoneOnly, ..] => Ok(Element::Unreached),
-        [Element::Func(_, _), ..] => part_of(alloc, parts),
+        [Element::NoneOnly, _others @ ..] => Ok(Element::Unreached),
+        [Element::Func(_, _), _others @ ..] => copy_element(alloc, part),
         _ => Ok(conflict()),
     }
 }
 
 /// `raise` of an instance of an exception class.
-pub fn raise_row(classes: &Classes, a: &Element) -> Element {
+pub fn raise_row(classes: &Classes, a: &Element) -> Element
+    ensures { shape result ≡ spec.raised classes.now.classes (shape a.now) }
+{
     match a {
         Element::NoneOnly => Element::Unreached,
-        Element::Instance(class, _) => {
-            if classes.below(*class, EXCEPTION) {
-                Element::NoneOnly
-            } else {
-                conflict()
-            }
-        }
+        Element::Instance(class, _) => nothing_if(classes.below(*class, EXCEPTION)),
         _ => conflict(),
     }
 }
@@ -169,24 +172,30 @@ pub fn raise_row(classes: &Classes, a: &Element) -> Element {
 // ---- constants
 
 /// A constant.
-pub fn constant_row(alloc: Global, value: &Const) -> Result<Element, NoMem> {
+pub fn constant_row(alloc: Global, value: &Const) -> Result<Element, NoMem>
+    ensures { IfOk result (λ e. shape e ≡ spec.constant value.now) }
+{
     let element = constant_element(alloc, value)?;
-    if ann_element::depth_of(&element) > crate::upper::TUPLE_LIMIT {
-        return Ok(conflict());
-    }
-    Ok(element)
+    Ok(if_shallow(element))
+}
+
+fn function_element(alloc: Global, function: u32) -> Result<Element, NoMem>
+    ensures { IfOk result (λ e. shape e ≡ Fun (function ∷ []) false) }
+{
+    let functions = copy_functions(alloc, &[function])?;
+    Ok(Element::Func(functions, false))
 }
 
 #[cycle(constant)]
-fn constant_element(alloc: Global, value: &Const) -> Result<Element, NoMem> {
+fn constant_element(alloc: Global, value: &Const) -> Result<Element, NoMem>
+    ensures { IfOk result (λ e. shape e ≡ spec.constant_shape value.now) }
+{
     match value {
         Const::Word(word) => Ok(crate::number::word_row(*word)),
         Const::Bool(flag) => Ok(known(*flag)),
         Const::Str(text) => Ok(crate::number::text_row(text.bytes().len())),
         Const::None => Ok(Element::NoneOnly),
-        Const::Function(function) => {
-            Ok(Element::Func(copy_functions(alloc, &[*function])?, false))
-        }
+        Const::Function(function) => function_element(alloc, *function),
         Const::Tuple(parts) => {
             let mut elements = rpy_base::Seq::new(alloc);
             constant_parts(alloc, parts.as_slice(), &mut elements)?;
@@ -202,33 +211,47 @@ fn constant_parts(
     alloc: Global,
     parts: &[Const],
     elements: &mut rpy_base::Seq<Element>,
-) -> Result<(), NoMem> {
-    for part in parts {
-        let element = constant_element(alloc, part)?;
-        elements.push(element)?;
+) -> Result<(), NoMem>
+    ensures { OnOk result (map shape elements.new ≡ map shape elements.old ++ map spec.constant_shape parts.now) }
+{
+    match parts {
+        [] => Ok(()),
+        [part, parts @ ..] => {
+            let element = constant_element(alloc, part)?;
+            elements.push(element)?;
+            constant_parts(alloc, parts, elements)
+        }
     }
-    Ok(())
 }
 
 // ---- what a test says of a local
 
+fn copy_without_none(alloc: Global, functions: &[u32]) -> Result<Element, NoMem>
+    ensures { IfOk result (λ e. shape e ≡ Fun functions.now false) }
+{
+    let functions = copy_functions(alloc, functions)?;
+    Ok(Element::Func(functions, false))
+}
+
 /// A value that is not `None`.
-pub fn drop_none_row(alloc: Global, a: &Element) -> Result<Element, NoMem> {
+pub fn drop_none_row(alloc: Global, a: &Element) -> Result<Element, NoMem>
+    ensures { IfOk result (λ e. shape e ≡ spec.drop_none (shape a.now)) }
+{
     match a {
         Element::NoneOnly => Ok(Element::Unreached),
         Element::StrOrNone => Ok(Element::Str),
         Element::List(site, _) => Ok(Element::List(*site, false)),
         Element::Dict(site, _) => Ok(Element::Dict(*site, false)),
         Element::Instance(class, _) => Ok(Element::Instance(*class, false)),
-        Element::Func(functions, _) => {
-            Ok(Element::Func(copy_functions(alloc, functions.as_slice())?, false))
-        }
+        Element::Func(functions, _) => copy_without_none(alloc, functions.as_slice()),
         _ => copy_element(alloc, a),
     }
 }
 
 /// A value that is not true: of an instance or function, `None`.
-pub fn false_none_row(alloc: Global, a: &Element) -> Result<Element, NoMem> {
+pub fn false_none_row(alloc: Global, a: &Element) -> Result<Element, NoMem>
+    ensures { IfOk result (λ e. shape e ≡ spec.false_none (shape a.now)) }
+{
     match a {
         Element::Instance(_, _) => Ok(Element::NoneOnly),
         Element::Func(_, _) => Ok(Element::NoneOnly),
@@ -236,7 +259,9 @@ pub fn false_none_row(alloc: Global, a: &Element) -> Result<Element, NoMem> {
     }
 }
 
-fn lower_instance(classes: &Classes, class: ClassId, of: ClassId) -> Element {
+fn lower_instance(classes: &Classes, class: ClassId, of: ClassId) -> Element
+    ensures { shape result ≡ spec.lower_instance classes.now.classes class of }
+{
     if classes.below(class, of) {
         Element::Instance(class, false)
     } else if classes.below(of, class) {
@@ -252,7 +277,9 @@ pub fn lower_row(
     classes: &Classes,
     of: ClassId,
     a: &Element,
-) -> Result<Element, NoMem> {
+) -> Result<Element, NoMem>
+    ensures { IfOk result (λ e. shape e ≡ spec.lower classes.now.classes of (shape a.now)) }
+{
     match a {
         Element::NoneOnly => Ok(Element::Unreached),
         Element::Instance(class, _) => Ok(lower_instance(classes, *class, of)),
@@ -261,15 +288,12 @@ pub fn lower_row(
 }
 
 /// An integer that is not below another.
-pub fn non_negative_row(alloc: Global, a: &Element, other: &Element) -> Result<Element, NoMem> {
-    match other {
-        Element::IntPos => {
-            if is_int(a) {
-                Ok(Element::IntPos)
-            } else {
-                copy_element(alloc, a)
-            }
-        }
-        _ => copy_element(alloc, a),
+pub fn non_negative_row(alloc: Global, a: &Element, other: &Element) -> Result<Element, NoMem>
+    ensures { IfOk result (λ e. shape e ≡ spec.non_negative (shape a.now) (shape other.now)) }
+{
+    if is_positive(other) && is_int(a) {
+        Ok(Element::IntPos)
+    } else {
+        copy_element(alloc, a)
     }
 }

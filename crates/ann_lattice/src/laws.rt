@@ -1,8 +1,8 @@
 // Laws of the order of elements and of their join, over all classes and all classes of sites.
-ghost use Rattle.std.specs.Prelude.{ℕ, Bool, List};
+ghost use Rattle.std.specs.Prelude.{ℕ, Bool, List, length};
 ghost use Rattle.rpy_tree.specs.declared.program.ClassInfo.{ClassInfo};
 ghost use Rattle.ann_lattice.specs.Laws.{IsTree, IsOrder, IsJoin, IsLattice, IsTested};
-ghost use Rattle.ann_lattice.specs.Assign.{Assignment, Rules, Monotone, Grown, IsLeast};
+ghost use Rattle.ann_lattice.specs.Assign.{Assignment, Rules, IsTable, Monotone, Grown, IsLeast};
 
 /// The order is reflexive and transitive, and elements below each other are one, written with the least
 /// sites of their classes.
@@ -30,7 +30,7 @@ pub fn the_order_is_tested()
 {}
 
 /// What is grown by monotone rules, in any order, is below each assignment that is closed under them, is
-/// free of conflict and is above the start.
+/// free of conflict and is above the start, whose sites stand each by the least of its class.
 pub fn what_is_grown_is_least()
-    ensures { (classes : List ClassInfo) → IsTree classes → (rules : Rules) (spots : ℕ → Bool) → Monotone classes rules spots → (start a : Assignment) → Grown classes rules start a → IsLeast classes rules spots start a }
+    ensures { (classes : List ClassInfo) → IsTree classes → (rules : Rules) (spots : ℕ → Bool) (start : Assignment) → IsTable (length start.same) start.same → Monotone classes rules spots start → (a : Assignment) → Grown classes rules start a → IsLeast classes rules spots start a }
 {}

@@ -1,9 +1,11 @@
 //! The order of elements, their least upper bounds, and what each operation gives for elements.
 #![tactic(auto)]
 
+mod arguments;
 mod compare;
 mod container;
 mod instance;
+mod kind;
 mod laws;
 mod method;
 mod number;

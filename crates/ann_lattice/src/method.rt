@@ -1,9 +1,18 @@
 // Methods by their names, and those of lists, dicts and instances.
-use crate::container::part_of;
-use crate::number::conflict;
-use crate::text::text_method_row;
+ghost use Rattle.std.specs.Prelude.{◌≡◌, ◌||◌, [], ◌∷◌, map, IfOk, OnOk};
+ghost use Rattle.std.specs.Str.{bytes_eq};
+ghost use Rattle.ann_lattice.specs.Shape.{Nothing, shape};
+ghost use Rattle.ann_lattice.specs.Kind as kind;
+ghost use Rattle.ann_lattice.specs.Methods as spec;
+
+use crate::arguments::{
+    no_args, none_or_int, one_arg, one_char, one_list_or_none, one_or_two, one_str, place_and_value,
+};
+use crate::container::{copy_if, nothing_if};
+use crate::kind::conflict;
+use crate::text::{own_list, text_method_row};
 use crate::upper::join;
-use ann_element::{Element, Sites, is_conflict, is_int, is_str};
+use ann_element::{Element, Sites};
 use class_desc::Classes;
 use rpy_base::{NoMem, Text};
 use rpy_tree::{ClassId, SiteId};
@@ -33,11 +42,15 @@ pub enum Method {
     Other,
 }
 
-fn is(name: &[u8], other: &[u8]) -> bool {
-    other == name
+fn is(name: &[u8], other: &[u8]) -> bool
+    ensures { result ≡ bytes_eq name.now other.now }
+{
+    name == other
 }
 
-fn text_method(name: &[u8]) -> Method {
+fn text_method(name: &[u8]) -> Method
+    ensures { result ≡ spec.method_named name.now }
+{
     if is(name, b"join") {
         Method::Join
     } else if is(name, b"split") {
@@ -61,7 +74,9 @@ fn text_method(name: &[u8]) -> Method {
     }
 }
 
-fn list_method(name: &[u8]) -> Method {
+fn list_method(name: &[u8]) -> Method
+    ensures { result ≡ spec.list_method_named name.now }
+{
     if is(name, b"append") {
         Method::Append
     } else if is(name, b"pop") {
@@ -77,7 +92,9 @@ fn list_method(name: &[u8]) -> Method {
     }
 }
 
-fn dict_method(name: &[u8]) -> Method {
+fn dict_method(name: &[u8]) -> Method
+    ensures { result ≡ spec.dict_method_named name.now }
+{
     if is(name, b"get") {
         Method::Get
     } else if is(name, b"keys") || is(name, b"iterkeys") {
@@ -92,97 +109,63 @@ fn dict_method(name: &[u8]) -> Method {
 }
 
 /// The method of strings, lists and dicts that has this name.
-pub fn method_of(name: &Text) -> Method {
+pub fn method_of(name: &Text) -> Method
+    ensures { result ≡ spec.method_named name.now }
+{
     text_method(name.bytes())
 }
 
-// A class by its number; there are fewer than 2^32.
-fn number_of(class: usize) -> ClassId {
-    if class <= 4294967295 {
-        class as u32
-    } else {
-        4294967295
-    }
-}
-
-/// Whether some class has a method of this name.
-pub fn is_class_method(classes: &Classes, name: &Text) -> bool {
-    for class in 0..classes.len() {
-        if has_method(classes, number_of(class), name) {
-            return true;
-        }
-    }
-    false
-}
-
-fn has_method(classes: &Classes, class: ClassId, name: &Text) -> bool {
+fn has_method(classes: &Classes, class: ClassId, name: &Text) -> bool
+    ensures { result ≡ spec.has_method classes.now.classes name.now class }
+{
     match classes.method(class, name) {
         None => false,
         Some(_) => true,
     }
 }
 
+/// Whether some class has a method of this name.
+#[tactic(auto, using(crate::proofs::Passed::passed))]
+pub fn is_class_method(classes: &Classes, name: &Text) -> bool
+    ensures { result ≡ spec.is_class_method classes.now.classes name.now }
+{
+    let count = (classes.len() as u64).min(4294967296);
+    for class in 0..count {
+        if has_method(classes, class as u32, name) {
+            return true;
+        }
+    }
+    false
+}
+
 // ---- `None` as the receiver
 
-fn one_text(args: &[Element]) -> bool {
-    match args {
-        [s] => is_str(s),
-        _ => false,
-    }
-}
-
-fn one_char(args: &[Element]) -> bool {
-    match args {
-        [Element::Char] => true,
-        _ => false,
-    }
-}
-
-fn positive_and_more(args: &[Element]) -> bool {
-    match args {
-        [Element::IntPos, _] => true,
-        _ => false,
-    }
-}
-
-fn one_list_or_none(args: &[Element]) -> bool {
-    match args {
-        [Element::NoneOnly] => true,
-        [Element::List(_, _)] => true,
-        _ => false,
-    }
-}
-
-fn none_or_int(args: &[Element]) -> bool {
-    match args {
-        [] => true,
-        [i] => is_int(i),
-        _ => false,
-    }
-}
-
 /// Whether a line for this method takes `None` as its receiver, with these arguments.
-pub fn fits_none(method: Method, args: &[Element]) -> bool {
+pub fn fits_none(method: Method, args: &[Element]) -> bool
+    ensures { result ≡ spec.takes_none method (map shape args.now) }
+{
     match method {
         Method::Split => one_char(args),
-        Method::Find => one_text(args),
-        Method::StartsWith => one_text(args),
-        Method::EndsWith => one_text(args),
-        Method::Strip => args.is_empty(),
-        Method::Append => args.len() == 1,
-        Method::Insert => positive_and_more(args),
+        Method::Find => one_str(args),
+        Method::StartsWith => one_str(args),
+        Method::EndsWith => one_str(args),
+        Method::Strip => no_args(args),
+        Method::Append => one_arg(args),
+        Method::Insert => place_and_value(args),
         Method::Extend => one_list_or_none(args),
-        Method::Reverse => args.is_empty(),
+        Method::Reverse => no_args(args),
         Method::Pop => none_or_int(args),
-        Method::Get => args.len() == 1 || args.len() == 2,
-        Method::Keys => args.is_empty(),
-        Method::Values => args.is_empty(),
-        Method::Items => args.is_empty(),
+        Method::Get => one_or_two(args),
+        Method::Keys => no_args(args),
+        Method::Values => no_args(args),
+        Method::Items => no_args(args),
         _ => false,
     }
 }
 
-fn none_row(classes: &Classes, name: &Text, method: Method, args: &[Element]) -> Element {
+fn none_row(classes: &Classes, name: &Text, method: Method, args: &[Element]) -> Element
+    ensures { shape result ≡ kind.given (spec.takes_none method (map shape args.now) || spec.is_class_method classes.now.classes name.now) Nothing }
+{
     if fits_none(method, args) || is_class_method(classes, name) {
         Element::Unreached
     } else {
@@ -192,11 +175,9 @@ fn none_row(classes: &Classes, name: &Text, method: Method, args: &[Element]) ->
 
 // ---- lists
 
-fn nothing_if(fits: bool) -> Element {
-    if fits { Element::NoneOnly } else { conflict() }
-}
-
-fn extend_row(args: &[Element]) -> Element {
+fn extend_row(args: &[Element]) -> Element
+    ensures { shape result ≡ spec.extended (map shape args.now) }
+{
     match args {
         [Element::NoneOnly] => Element::Unreached,
         [Element::List(_, _)] => Element::NoneOnly,
@@ -209,25 +190,31 @@ fn list_method_row(
     alloc: Global,
     method: Method,
     args: &[Element],
-    parts: &[Element],
-) -> Result<Element, NoMem> {
+    part: &Element,
+) -> Result<Element, NoMem>
+    ensures { IfOk result (λ e. shape e ≡ spec.list_method method (map shape args.now) (shape part.now)) }
+{
     match method {
-        Method::Append => Ok(nothing_if(args.len() == 1)),
-        Method::Insert => Ok(nothing_if(positive_and_more(args))),
+        Method::Append => Ok(nothing_if(one_arg(args))),
+        Method::Insert => Ok(nothing_if(place_and_value(args))),
         Method::Extend => Ok(extend_row(args)),
-        Method::Reverse => Ok(nothing_if(args.is_empty())),
-        Method::Pop => {
-            if none_or_int(args) {
-                part_of(alloc, parts)
-            } else {
-                Ok(conflict())
-            }
-        }
+        Method::Reverse => Ok(nothing_if(no_args(args))),
+        Method::Pop => copy_if(alloc, none_or_int(args), part),
         _ => Ok(conflict()),
     }
 }
 
 // ---- dicts
+
+// A conflict that a row gives keeps no class of sites.
+fn blunt(e: Element) -> Element
+    ensures { shape result ≡ kind.blunt (shape e) }
+{
+    match e {
+        Element::Conflict(_, _) => conflict(),
+        other => other,
+    }
+}
 
 fn joined_row(
     alloc: Global,
@@ -235,12 +222,12 @@ fn joined_row(
     same: &mut Sites,
     a: &Element,
     b: &Element,
-) -> Result<Element, NoMem> {
+) -> Result<Element, NoMem>
+    ensures row { IfOk result (λ e. shape e ≡ kind.gathered classes.now.classes (shape a.now ∷ shape b.now ∷ [])) }
+    ensures classes { OnOk result (same.new ≡ kind.classes_gathered classes.now.classes same.old (shape a.now ∷ shape b.now ∷ [])) }
+{
     let joined = join(alloc, classes, same, a, b)?;
-    if is_conflict(&joined) {
-        return Ok(conflict());
-    }
-    Ok(joined)
+    Ok(blunt(joined))
 }
 
 // The value with what stands in for a missing one.
@@ -249,28 +236,15 @@ fn get_row(
     classes: &Classes,
     same: &mut Sites,
     args: &[Element],
-    parts: &[Element],
-) -> Result<Element, NoMem> {
-    match parts {
-        [value] => match args {
-            [_] => joined_row(alloc, classes, same, value, &Element::NoneOnly),
-            [_, other] => joined_row(alloc, classes, same, value, other),
-            _ => Ok(conflict()),
-        },
+    value: &Element,
+) -> Result<Element, NoMem>
+    ensures row { IfOk result (λ e. shape e ≡ kind.gathered classes.now.classes (spec.got (map shape args.now) (shape value.now))) }
+    ensures classes { OnOk result (same.new ≡ kind.classes_gathered classes.now.classes same.old (spec.got (map shape args.now) (shape value.now))) }
+{
+    match args {
+        [_key] => joined_row(alloc, classes, same, value, &Element::NoneOnly),
+        [_key, other] => joined_row(alloc, classes, same, value, other),
         _ => Ok(conflict()),
-    }
-}
-
-fn listed_row(site: Option<SiteId>, args: &[Element]) -> Element {
-    match site {
-        None => conflict(),
-        Some(site) => {
-            if args.is_empty() {
-                Element::List(site, false)
-            } else {
-                conflict()
-            }
-        }
     }
 }
 
@@ -281,35 +255,22 @@ fn dict_method_row(
     method: Method,
     site: Option<SiteId>,
     args: &[Element],
-    parts: &[Element],
-) -> Result<Element, NoMem> {
+    part: &Element,
+) -> Result<Element, NoMem>
+    ensures row { IfOk result (λ e. shape e ≡ kind.gathered classes.now.classes (spec.dict_method method site (map shape args.now) (shape part.now))) }
+    ensures classes { OnOk result (same.new ≡ kind.classes_gathered classes.now.classes same.old (spec.dict_method method site (map shape args.now) (shape part.now))) }
+{
     match method {
-        Method::Get => get_row(alloc, classes, same, args, parts),
-        Method::Keys => Ok(listed_row(site, args)),
-        Method::Values => Ok(listed_row(site, args)),
-        Method::Items => Ok(listed_row(site, args)),
+        Method::Get => get_row(alloc, classes, same, args, part),
+        Method::Keys => Ok(own_list(site, no_args(args))),
+        Method::Values => Ok(own_list(site, no_args(args))),
+        Method::Items => Ok(own_list(site, no_args(args))),
         _ => Ok(conflict()),
     }
 }
 
-// ---- instances
-
-// The further part is the join of the results of the methods that the call reaches.
-fn instance_method_row(
-    alloc: Global,
-    classes: &Classes,
-    class: ClassId,
-    name: &Text,
-    parts: &[Element],
-) -> Result<Element, NoMem> {
-    if has_method(classes, class, name) {
-        part_of(alloc, parts)
-    } else {
-        Ok(conflict())
-    }
-}
-
-/// A method call on a receiver with arguments.
+/// A method call on a receiver with arguments. The further part of an instance's is the join of the
+/// results of the methods that the call reaches.
 pub fn method_row(
     alloc: Global,
     classes: &Classes,
@@ -318,17 +279,20 @@ pub fn method_row(
     site: Option<SiteId>,
     receiver: &Element,
     args: &[Element],
-    parts: &[Element],
-) -> Result<Element, NoMem> {
+    part: &Element,
+) -> Result<Element, NoMem>
+    ensures row { IfOk result (λ e. shape e ≡ kind.gathered classes.now.classes (spec.method classes.now.classes name.now site (shape receiver.now) (map shape args.now) (shape part.now))) }
+    ensures classes { OnOk result (same.new ≡ kind.classes_gathered classes.now.classes same.old (spec.method classes.now.classes name.now site (shape receiver.now) (map shape args.now) (shape part.now))) }
+{
     let method = method_of(name);
     match receiver {
         Element::NoneOnly => Ok(none_row(classes, name, method, args)),
-        Element::Char => Ok(text_method_row(method, site, receiver, args, parts)),
-        Element::Str => Ok(text_method_row(method, site, receiver, args, parts)),
-        Element::StrOrNone => Ok(text_method_row(method, site, receiver, args, parts)),
-        Element::List(_, _) => list_method_row(alloc, method, args, parts),
-        Element::Dict(_, _) => { dict_method_row(alloc, classes, same, method, site, args, parts) }
-        Element::Instance(class, _) => { instance_method_row(alloc, classes, *class, name, parts) }
+        Element::Char => Ok(text_method_row(method, site, receiver, args, part)),
+        Element::Str => Ok(text_method_row(method, site, receiver, args, part)),
+        Element::StrOrNone => Ok(text_method_row(method, site, receiver, args, part)),
+        Element::List(_, _) => list_method_row(alloc, method, args, part),
+        Element::Dict(_, _) => dict_method_row(alloc, classes, same, method, site, args, part),
+        Element::Instance(class, _) => copy_if(alloc, has_method(classes, *class, name), part),
         _ => Ok(conflict()),
     }
 }

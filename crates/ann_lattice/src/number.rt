@@ -1,38 +1,24 @@
 // Numbers: literals, arithmetic and conversions.
-use ann_element::{Element, is_bool, is_int, is_str};
+ghost use Rattle.std.specs.Prelude.{◌≡◌, false};
+ghost use Rattle.ann_lattice.specs.Shape.{Num, Str, One, shape};
+ghost use Rattle.ann_lattice.specs.Kind as kind;
+ghost use Rattle.ann_lattice.specs.Row as spec;
+
+use crate::kind::{conflict, is_bool, is_char, is_int, is_positive, positive_if};
+use ann_element::Element;
 use rpy_tree::{BinOp, UnOp};
 
-pub fn conflict() -> Element {
-    Element::Conflict(None, None)
-}
-
-fn is_positive(e: &Element) -> bool {
-    match e {
-        Element::IntPos => true,
-        _ => false,
-    }
-}
-
-fn positive_if(holds: bool) -> Element {
-    if holds { Element::IntPos } else { Element::Int }
-}
-
 /// A word that is known.
-pub fn word_row(word: i64) -> Element {
+pub fn word_row(word: i64) -> Element
+    ensures { shape result ≡ spec.word word }
+{
     positive_if(word >= 0)
 }
 
-/// A truth value that is known.
-pub fn known(value: bool) -> Element {
-    if value {
-        Element::KnownTrue
-    } else {
-        Element::KnownFalse
-    }
-}
-
 /// A string of so many bytes that is known.
-pub fn text_row(length: usize) -> Element {
+pub fn text_row(length: usize) -> Element
+    ensures { shape result ≡ spec.text length }
+{
     if length == 1 {
         Element::Char
     } else {
@@ -41,7 +27,9 @@ pub fn text_row(length: usize) -> Element {
 }
 
 /// An operation on two integers.
-pub fn number_row(op: BinOp, a: &Element, b: &Element) -> Element {
+pub fn number_row(op: BinOp, a: &Element, b: &Element) -> Element
+    ensures { shape result ≡ spec.number op (shape a.now) (shape b.now) }
+{
     match op {
         BinOp::Add => positive_if(is_positive(a) && is_positive(b)),
         BinOp::Mul => positive_if(is_positive(a) && is_positive(b)),
@@ -57,8 +45,17 @@ pub fn number_row(op: BinOp, a: &Element, b: &Element) -> Element {
     }
 }
 
+/// Whether both are integers.
+pub fn both_int(a: &Element, b: &Element) -> bool
+    ensures { result ≡ spec.both_int (shape a.now) (shape b.now) }
+{
+    is_int(a) && is_int(b)
+}
+
 /// `-`, `~` and `+` of one integer.
-pub fn unary_row(op: UnOp, a: &Element) -> Element {
+pub fn unary_row(op: UnOp, a: &Element) -> Element
+    ensures { shape result ≡ spec.unary op (shape a.now) }
+{
     if !is_int(a) {
         return conflict();
     }
@@ -70,7 +67,9 @@ pub fn unary_row(op: UnOp, a: &Element) -> Element {
 }
 
 // The operations that `ovfcheck` takes.
-fn can_be_checked(op: BinOp) -> bool {
+fn can_be_checked(op: BinOp) -> bool
+    ensures { result ≡ spec.can_be_checked op }
+{
     match op {
         BinOp::Add => true,
         BinOp::Sub => true,
@@ -84,8 +83,10 @@ fn can_be_checked(op: BinOp) -> bool {
 }
 
 /// `ovfcheck` of an operation on two integers.
-pub fn checked_row(op: BinOp, a: &Element, b: &Element) -> Element {
-    if is_int(a) && is_int(b) && can_be_checked(op) {
+pub fn checked_row(op: BinOp, a: &Element, b: &Element) -> Element
+    ensures { shape result ≡ spec.checked op (shape a.now) (shape b.now) }
+{
+    if both_int(a, b) && can_be_checked(op) {
         number_row(op, a, b)
     } else {
         conflict()
@@ -93,7 +94,9 @@ pub fn checked_row(op: BinOp, a: &Element, b: &Element) -> Element {
 }
 
 /// `intmask`.
-pub fn intmask_row(a: &Element) -> Element {
+pub fn intmask_row(a: &Element) -> Element
+    ensures { shape result ≡ spec.intmask (shape a.now) }
+{
     if is_int(a) {
         positive_if(is_positive(a))
     } else {
@@ -102,8 +105,10 @@ pub fn intmask_row(a: &Element) -> Element {
 }
 
 /// `min` of two integers.
-pub fn min_row(a: &Element, b: &Element) -> Element {
-    if is_int(a) && is_int(b) {
+pub fn min_row(a: &Element, b: &Element) -> Element
+    ensures { shape result ≡ spec.min_of (shape a.now) (shape b.now) }
+{
+    if both_int(a, b) {
         positive_if(is_positive(a) && is_positive(b))
     } else {
         conflict()
@@ -111,8 +116,10 @@ pub fn min_row(a: &Element, b: &Element) -> Element {
 }
 
 /// `max` of two integers.
-pub fn max_row(a: &Element, b: &Element) -> Element {
-    if is_int(a) && is_int(b) {
+pub fn max_row(a: &Element, b: &Element) -> Element
+    ensures { shape result ≡ spec.max_of (shape a.now) (shape b.now) }
+{
+    if both_int(a, b) {
         positive_if(is_positive(a) || is_positive(b))
     } else {
         conflict()
@@ -120,18 +127,25 @@ pub fn max_row(a: &Element, b: &Element) -> Element {
 }
 
 /// `int` of an integer, a truth value or a string.
-pub fn to_int_row(a: &Element) -> Element {
-    if is_positive(a) || is_bool(a) {
-        Element::IntPos
-    } else if is_int(a) || is_str(a) {
-        Element::Int
-    } else {
-        conflict()
+pub fn to_int_row(a: &Element) -> Element
+    ensures { shape result ≡ spec.to_int (shape a.now) }
+{
+    match a {
+        Element::IntPos => Element::IntPos,
+        Element::KnownTrue => Element::IntPos,
+        Element::KnownFalse => Element::IntPos,
+        Element::Bool => Element::IntPos,
+        Element::Int => Element::Int,
+        Element::Char => Element::Int,
+        Element::Str => Element::Int,
+        _ => conflict(),
     }
 }
 
 /// `str` of an integer, a truth value or a string.
-pub fn to_str_row(a: &Element) -> Element {
+pub fn to_str_row(a: &Element) -> Element
+    ensures { shape result ≡ spec.to_str (shape a.now) }
+{
     match a {
         Element::Char => Element::Char,
         Element::Str => Element::Str,
@@ -146,14 +160,19 @@ pub fn to_str_row(a: &Element) -> Element {
 }
 
 /// `chr`.
-pub fn chr_row(a: &Element) -> Element {
+pub fn chr_row(a: &Element) -> Element
+    ensures { shape result ≡ kind.given (kind.is_int (shape a.now)) (Str One) }
+{
     if is_int(a) { Element::Char } else { conflict() }
 }
 
 /// `ord`.
-pub fn ord_row(a: &Element) -> Element {
-    match a {
-        Element::Char => Element::IntPos,
-        _ => conflict(),
+pub fn ord_row(a: &Element) -> Element
+    ensures { shape result ≡ kind.given (kind.is_char (shape a.now)) (Num false) }
+{
+    if is_char(a) {
+        Element::IntPos
+    } else {
+        conflict()
     }
 }

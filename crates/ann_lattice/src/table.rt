@@ -1,47 +1,57 @@
 // The table: what each operation gives for elements.
+ghost use Rattle.std.specs.Prelude.{◌≡◌, map, IfOk, OnOk};
+ghost use Rattle.ann_lattice.specs.Shape.{shape};
+ghost use Rattle.ann_lattice.specs.Kind as kind;
+ghost use Rattle.ann_lattice.specs.Methods as methods;
+ghost use Rattle.ann_lattice.specs.Row as spec;
+
 use crate::compare::{equal_row, is_row, less_row, negated, truth_of, within_row};
 use crate::container::{
-    binary_row, bounded_slice_row, delete_index_row, index_row, len_row, part_of, print_row,
-    slice_row, store_index_row, tuple_row, unpack_row, write_row,
+    binary_row, bounded_slice_row, delete_index_row, index_row, len_row, print_row, slice_row,
+    store_index_row, tuple_row, unpack_row, write_row,
 };
 use crate::instance::{
     attribute_row, call_of_row, call_value_row, constant_row, drop_none_row, false_none_row,
     is_instance_row, lower_row, new_row, non_negative_row, raise_row, store_attribute_row,
 };
+use crate::kind::{conflict, is_int, is_list, is_unreached, known};
 use crate::method::{Method, method_of, method_row};
 use crate::number::{
-    checked_row, chr_row, conflict, intmask_row, known, max_row, min_row, ord_row, text_row,
-    to_int_row, to_str_row, unary_row, word_row,
+    checked_row, chr_row, intmask_row, max_row, min_row, ord_row, text_row, to_int_row, to_str_row,
+    unary_row, word_row,
 };
+use crate::upper::is_clash;
 use crate::walk::{advance_row, has_item_row, item_row, walk_row};
-use ann_element::{Element, Sites, copy_element, is_conflict, is_int, is_unreached};
+use ann_element::{Element, Sites, copy_element};
 use class_desc::Classes;
-use rpy_base::NoMem;
+use rpy_base::{NoMem, Text};
 use rpy_meaning::RowOp;
 use rpy_tree::CmpOp;
 use std::alloc::Global;
 
-fn some_unreached(xs: &[Element]) -> bool {
-    for x in xs {
-        if is_unreached(x) {
-            return true;
-        }
+fn some_unreached(xs: &[Element]) -> bool
+    ensures { result ≡ kind.some_nothing (map shape xs.now) }
+{
+    match xs {
+        [] => false,
+        [x, xs @ ..] => is_unreached(x) || some_unreached(xs),
     }
-    false
 }
 
-fn some_conflict(xs: &[Element]) -> bool {
-    for x in xs {
-        if is_conflict(x) {
-            return true;
-        }
+fn some_conflict(xs: &[Element]) -> bool
+    ensures { result ≡ kind.some_clash (map shape xs.now) }
+{
+    match xs {
+        [] => false,
+        [x, xs @ ..] => is_clash(x) || some_conflict(xs),
     }
-    false
 }
 
 // ---- operations without operands
 
-fn leaf_row(alloc: Global, op: &RowOp) -> Result<Element, NoMem> {
+fn leaf_row(alloc: Global, op: &RowOp) -> Result<Element, NoMem>
+    ensures { IfOk result (λ e. shape e ≡ spec.of_none op.now) }
+{
     match op {
         RowOp::Word(word) => Ok(word_row(*word)),
         RowOp::Str(text) => Ok(text_row(text.bytes().len())),
@@ -62,8 +72,10 @@ fn one_row(
     classes: &Classes,
     op: &RowOp,
     a: &Element,
-    parts: &[Element],
-) -> Result<Element, NoMem> {
+    part: &Element,
+) -> Result<Element, NoMem>
+    ensures { IfOk result (λ e. shape e ≡ spec.of_one classes.now op.now (shape a.now) (shape part.now)) }
+{
     match op {
         RowOp::Copy => copy_element(alloc, a),
         RowOp::Unary(op) => Ok(unary_row(*op, a)),
@@ -77,7 +89,7 @@ fn one_row(
         RowOp::ToStr => Ok(to_str_row(a)),
         RowOp::ToInt => Ok(to_int_row(a)),
         RowOp::IsInstance(class) => Ok(is_instance_row(classes, *class, a)),
-        RowOp::Attr(name) => attribute_row(alloc, classes, name, a, parts),
+        RowOp::Attr(name) => attribute_row(alloc, classes, name, a, part),
         RowOp::AllButLast(site) => Ok(slice_row(*site, a)),
         RowOp::Raise => Ok(raise_row(classes, a)),
         RowOp::Walk(site) => walk_row(alloc, *site, a),
@@ -91,7 +103,9 @@ fn narrowing_row(
     classes: &Classes,
     op: &RowOp,
     a: &Element,
-) -> Result<Element, NoMem> {
+) -> Result<Element, NoMem>
+    ensures { IfOk result (λ e. shape e ≡ spec.narrowed classes.now.classes op.now (shape a.now)) }
+{
     match op {
         RowOp::DropNone => drop_none_row(alloc, a),
         RowOp::OnlyNone => Ok(Element::NoneOnly),
@@ -103,13 +117,9 @@ fn narrowing_row(
 
 // ---- operations on two operands
 
-fn compare_row(
-    classes: &Classes,
-    op: CmpOp,
-    a: &Element,
-    b: &Element,
-    parts: &[Element],
-) -> Element {
+fn compare_row(classes: &Classes, op: CmpOp, a: &Element, b: &Element, part: &Element) -> Element
+    ensures { shape result ≡ spec.compare classes.now.classes op (shape a.now) (shape b.now) (shape part.now) }
+{
     match op {
         CmpOp::Lt => less_row(a, b),
         CmpOp::Le => less_row(a, b),
@@ -117,16 +127,19 @@ fn compare_row(
         CmpOp::Ge => less_row(a, b),
         CmpOp::Eq => equal_row(a, b),
         CmpOp::Ne => equal_row(a, b),
-        CmpOp::Within => within_row(a, b, parts),
-        CmpOp::NotWithin => within_row(a, b, parts),
+        CmpOp::Within => within_row(a, b, part),
+        CmpOp::NotWithin => within_row(a, b, part),
         CmpOp::Is => is_row(classes, a, b),
         CmpOp::IsNot => negated(is_row(classes, a, b)),
     }
 }
 
 // An item that is added to the list of a comprehension.
-fn add_item_row(list: &Element) -> Element {
+fn add_item_row(list: &Element) -> Element
+    ensures { shape result ≡ spec.add_item (shape list.now) }
+{
     match list {
+        Element::NoneOnly => Element::Unreached,
         Element::List(_, _) => Element::NoneOnly,
         _ => conflict(),
     }
@@ -138,34 +151,41 @@ fn two_row(
     op: &RowOp,
     a: &Element,
     b: &Element,
-    parts: &[Element],
-) -> Result<Element, NoMem> {
+    part: &Element,
+) -> Result<Element, NoMem>
+    ensures { IfOk result (λ e. shape e ≡ spec.of_two classes.now op.now (shape a.now) (shape b.now) (shape part.now)) }
+{
     match op {
         RowOp::Binary(op, site) => Ok(binary_row(*op, *site, a, b)),
         RowOp::AddTo => Ok(binary_row(rpy_tree::BinOp::Add, None, a, b)),
         RowOp::Checked(op) => Ok(checked_row(*op, a, b)),
-        RowOp::Compare(op) => Ok(compare_row(classes, *op, a, b, parts)),
+        RowOp::Compare(op) => Ok(compare_row(classes, *op, a, b, part)),
         RowOp::Min => Ok(min_row(a, b)),
         RowOp::Max => Ok(max_row(a, b)),
         RowOp::Write => Ok(write_row(b)),
-        RowOp::Index(literal) => index_row(alloc, *literal, a, b, parts),
+        RowOp::Index(literal) => index_row(alloc, *literal, a, b, part),
         RowOp::DeleteIndex => Ok(delete_index_row(a, b)),
         RowOp::StoreAttr(name) => store_attribute_row(alloc, classes, name, a, b),
         RowOp::AddItem => Ok(add_item_row(a)),
         RowOp::HasItem(step) => Ok(has_item_row(*step, a, b)),
-        RowOp::Item(step) => item_row(alloc, *step, a, b, parts),
+        RowOp::Item(step) => item_row(alloc, *step, a, b, part),
         RowOp::Advance(step) => Ok(advance_row(*step, a, b)),
         RowOp::NonNegative => non_negative_row(alloc, a, b),
         _ => Ok(conflict()),
     }
 }
 
-fn three_row(alloc: Global, op: &RowOp, xs: &[Element]) -> Result<Element, NoMem> {
+fn three_row(
+    alloc: Global,
+    op: &RowOp,
+    a: &Element,
+    i: &Element,
+    value: &Element,
+) -> Result<Element, NoMem>
+    ensures { IfOk result (λ e. shape e ≡ spec.of_three op.now (shape a.now) (shape i.now) (shape value.now)) }
+{
     match op {
-        RowOp::StoreIndex => match xs {
-            [a, i, value] => store_index_row(alloc, a, i, value),
-            _ => Ok(conflict()),
-        },
+        RowOp::StoreIndex => store_index_row(alloc, a, i, value),
         _ => Ok(conflict()),
     }
 }
@@ -178,13 +198,16 @@ fn counted_row(
     classes: &Classes,
     op: &RowOp,
     xs: &[Element],
-    parts: &[Element],
-) -> Result<Element, NoMem> {
+    part: &Element,
+) -> Result<Element, NoMem>
+    ensures { IfOk result (λ e. shape e ≡ spec.counted classes.now op.now (map shape xs.now) (shape part.now)) }
+{
     match xs {
         [] => leaf_row(alloc, op),
-        [a] => one_row(alloc, classes, op, a, parts),
-        [a, b] => two_row(alloc, classes, op, a, b, parts),
-        _ => three_row(alloc, op, xs),
+        [a] => one_row(alloc, classes, op, a, part),
+        [a, b] => two_row(alloc, classes, op, a, b, part),
+        [a, i, value] => three_row(alloc, op, a, i, value),
+        _ => Ok(conflict()),
     }
 }
 
@@ -194,31 +217,46 @@ fn fitting_row(
     same: &mut Sites,
     op: &RowOp,
     xs: &[Element],
-    parts: &[Element],
-) -> Result<Element, NoMem> {
+    part: &Element,
+) -> Result<Element, NoMem>
+    ensures row { IfOk result (λ e. shape e ≡ kind.gathered classes.now.classes (spec.fitting classes.now op.now (map shape xs.now) (shape part.now))) }
+    ensures classes { OnOk result (same.new ≡ kind.classes_gathered classes.now.classes same.old (spec.fitting classes.now op.now (map shape xs.now) (shape part.now))) }
+{
     match op {
         RowOp::Tuple => tuple_row(alloc, xs),
         RowOp::List(site) => Ok(Element::List(*site, false)),
         RowOp::Print => Ok(print_row(xs)),
         RowOp::Slice(site, _, _) => Ok(bounded_slice_row(*site, xs)),
-        RowOp::Call(_) => part_of(alloc, parts),
-        RowOp::CallOf(class, _) => call_of_row(alloc, classes, *class, xs, parts),
-        RowOp::CallValue => call_value_row(alloc, xs, parts),
-        RowOp::New(class) => new_row(alloc, classes, *class, xs),
+        RowOp::Call(_) => copy_element(alloc, part),
+        RowOp::CallOf(class, _) => call_of_row(alloc, classes, *class, xs, part),
+        RowOp::CallValue => call_value_row(alloc, xs, part),
+        RowOp::New(class) => Ok(new_row(classes, *class, xs)),
         RowOp::Method(name, site) => match xs {
             [receiver, args @ ..] => {
-                method_row(alloc, classes, same, name, *site, receiver, args, parts)
+                method_row(alloc, classes, same, name, *site, receiver, args, part)
             }
-            _ => Ok(conflict()),
+            [] => Ok(conflict()),
         },
-        _ => counted_row(alloc, classes, op, xs, parts),
+        _ => counted_row(alloc, classes, op, xs, part),
+    }
+}
+
+// The further part, where there is one.
+fn the_part<'a>(parts: &'a [Element], none: &'a Element) -> &'a Element
+    requires { shape none.now ≡ kind.misfit }
+    ensures { shape result.now ≡ spec.the_part (map shape parts.now) }
+{
+    match parts {
+        [part] => part,
+        _ => none,
     }
 }
 
 /// What an operation gives for its operands: with one that is unreached `Unreached`, else with a conflict
 /// among them a conflict. Where the operation gives the item of a list, the value of a dict, an attribute
 /// or the result of a function, that is the one further part, and so is the item of a list that `in` or
-/// `join` looks at. What no line of the table fits is a conflict.
+/// `join` looks at. What no line of the table fits is a conflict. Where the result is a join, the classes
+/// of sites that meet in it become one.
 pub fn row_of(
     alloc: Global,
     classes: &Classes,
@@ -226,44 +264,75 @@ pub fn row_of(
     op: &RowOp,
     xs: &[Element],
     parts: &[Element],
-) -> Result<Element, NoMem> {
+) -> Result<Element, NoMem>
+    ensures row { IfOk result (λ e. shape e ≡ kind.gathered classes.now.classes (spec.pieces classes.now op.now (map shape xs.now) (spec.the_part (map shape parts.now)))) }
+    ensures classes { OnOk result (same.new ≡ kind.classes_gathered classes.now.classes same.old (spec.pieces classes.now op.now (map shape xs.now) (spec.the_part (map shape parts.now)))) }
+{
     if some_unreached(xs) {
-        Ok(Element::Unreached)
-    } else if some_conflict(xs) {
-        Ok(conflict())
-    } else {
-        fitting_row(alloc, classes, same, op, xs, parts)
+        return Ok(Element::Unreached);
     }
+    if some_conflict(xs) {
+        return Ok(conflict());
+    }
+    let none = conflict();
+    fitting_row(alloc, classes, same, op, xs, the_part(parts, &none))
 }
 
 // ---- operands and further parts in one list
 
-fn is_list(e: &Element) -> bool {
-    match e {
-        Element::List(_, _) => true,
+fn second_is_list(xs: &[Element]) -> bool
+    ensures { result ≡ spec.second_is_list (map shape xs.now) }
+{
+    match xs {
+        [_first, second, _others @ ..] => is_list(second),
         _ => false,
     }
 }
 
 // Whether the last of the elements is no operand, where a method is called.
-fn method_has_part(method: Method, xs: &[Element]) -> bool {
+fn method_has_part(name: &Text, xs: &[Element]) -> bool
+    ensures { result ≡ spec.method_has_part name.now (map shape xs.now) }
+{
+    let method = method_of(name);
     match xs {
-        [Element::Instance(_, _), ..] => true,
-        [Element::List(_, _), ..] => method == Method::Pop,
-        [Element::Dict(_, _), ..] => method == Method::Get,
-        [receiver, list, ..] => { method == Method::Join && is_list(list) && !is_int(receiver) }
+        [Element::Instance(_, _), _others @ ..] => true,
+        [Element::List(_, _), _others @ ..] => is_pop(method),
+        [Element::Dict(_, _), _others @ ..] => is_get(method),
+        [receiver, list, _others @ ..] => is_join(method) && is_list(list) && !is_int(receiver),
         _ => false,
     }
 }
 
-fn second_is_list(xs: &[Element]) -> bool {
-    match xs {
-        [_, second, ..] => is_list(second),
+fn is_pop(method: Method) -> bool
+    ensures { result ≡ methods.is_pop method }
+{
+    match method {
+        Method::Pop => true,
         _ => false,
     }
 }
 
-fn compare_has_part(op: CmpOp, xs: &[Element]) -> bool {
+fn is_get(method: Method) -> bool
+    ensures { result ≡ methods.is_get method }
+{
+    match method {
+        Method::Get => true,
+        _ => false,
+    }
+}
+
+fn is_join(method: Method) -> bool
+    ensures { result ≡ methods.is_join method }
+{
+    match method {
+        Method::Join => true,
+        _ => false,
+    }
+}
+
+fn compare_has_part(op: CmpOp, xs: &[Element]) -> bool
+    ensures { result ≡ spec.compare_has_part op (map shape xs.now) }
+{
     match op {
         CmpOp::Within => second_is_list(xs),
         CmpOp::NotWithin => second_is_list(xs),
@@ -271,30 +340,38 @@ fn compare_has_part(op: CmpOp, xs: &[Element]) -> bool {
     }
 }
 
-fn first_holds_items(xs: &[Element]) -> bool {
+fn first_holds_items(xs: &[Element]) -> bool
+    ensures { result ≡ spec.first_holds_items (map shape xs.now) }
+{
     match xs {
-        [Element::List(_, _), ..] => true,
-        [Element::Dict(_, _), ..] => true,
+        [Element::List(_, _), _others @ ..] => true,
+        [Element::Dict(_, _), _others @ ..] => true,
         _ => false,
     }
 }
 
-fn first_is_function(xs: &[Element]) -> bool {
+fn first_is_function(xs: &[Element]) -> bool
+    ensures { result ≡ spec.first_is_function (map shape xs.now) }
+{
     match xs {
-        [Element::Func(_, _), ..] => true,
+        [Element::Func(_, _), _others @ ..] => true,
         _ => false,
     }
 }
 
-fn first_is_instance(xs: &[Element]) -> bool {
+fn first_is_instance(xs: &[Element]) -> bool
+    ensures { result ≡ spec.first_is_instance (map shape xs.now) }
+{
     match xs {
-        [Element::Instance(_, _), ..] => true,
+        [Element::Instance(_, _), _others @ ..] => true,
         _ => false,
     }
 }
 
 // Whether the last of the elements is no operand.
-fn has_part(op: &RowOp, xs: &[Element]) -> bool {
+fn has_part(op: &RowOp, xs: &[Element]) -> bool
+    ensures { result ≡ spec.has_part op.now (map shape xs.now) }
+{
     match op {
         RowOp::Compare(op) => compare_has_part(*op, xs),
         RowOp::Index(_) => first_holds_items(xs),
@@ -303,8 +380,18 @@ fn has_part(op: &RowOp, xs: &[Element]) -> bool {
         RowOp::Call(_) => true,
         RowOp::CallOf(_, _) => true,
         RowOp::CallValue => first_is_function(xs),
-        RowOp::Method(name, _) => method_has_part(method_of(name), xs),
+        RowOp::Method(name, _) => method_has_part(name, xs),
         _ => false,
+    }
+}
+
+fn operand_count(op: &RowOp, xs: &[Element]) -> usize
+    ensures { result ≡ spec.operand_count op.now (map shape xs.now) }
+{
+    if has_part(op, xs) {
+        xs.len().saturating_sub(1)
+    } else {
+        xs.len()
     }
 }
 
@@ -314,13 +401,12 @@ pub fn row(
     classes: &Classes,
     same: &mut Sites,
     op: &RowOp,
-    parts: &[Element],
-) -> Result<Element, NoMem> {
-    let count = if has_part(op, parts) {
-        parts.len().saturating_sub(1)
-    } else {
-        parts.len()
-    };
-    let (xs, further) = parts.split_at(count.min(parts.len()));
-    row_of(alloc, classes, same, op, xs, further)
+    elements: &[Element],
+) -> Result<Element, NoMem>
+    ensures row { IfOk result (λ e. shape e ≡ kind.gathered classes.now.classes (spec.asked classes.now op.now (map shape elements.now))) }
+    ensures classes { OnOk result (same.new ≡ kind.classes_gathered classes.now.classes same.old (spec.asked classes.now op.now (map shape elements.now))) }
+{
+    let count = operand_count(op, elements).min(elements.len());
+    let (xs, parts) = elements.split_at(count);
+    row_of(alloc, classes, same, op, xs, parts)
 }

@@ -477,7 +477,8 @@ fn join_conflict(
 
 // ---- tuples
 
-fn is_clash(e: &Element) -> bool
+/// Whether it is a conflict.
+pub fn is_clash(e: &Element) -> bool
     ensures { result ≡ spec.is_clash (shape e.now) }
 {
     match e {
@@ -495,10 +496,10 @@ fn no_clash(parts: &[Element]) -> bool
     }
 }
 
-// Whether at most so many tuples stand inside one another.
+/// Whether at most so many tuples stand inside one another.
 #[cycle(shallow)]
 #[tactic(auto, using(crate::proofs::Meeting::deeper))]
-fn is_shallow(e: &Element, levels: u64) -> bool
+pub fn is_shallow(e: &Element, levels: u64) -> bool
     ensures { result ≡ nat_le (spec.depth (shape e.now)) levels }
 {
     match e {

@@ -8,6 +8,7 @@ mod expression;
 mod narrow;
 mod places;
 mod statement;
+mod walk;
 mod whole;
 
 pub use whole::flow;

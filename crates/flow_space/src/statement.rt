@@ -3,10 +3,9 @@ use crate::NEVER;
 use crate::code::{Aim, Code, Hand, Jump, Scope, jump_and, jump_first, jump_stored, op_at};
 use crate::copy::copy_op;
 use crate::covers::{copy_hands, covers_of};
-use crate::expression::{
-    Walk, put_advance, put_bind, put_expr, put_subject, put_test, put_turn, step_of,
-};
+use crate::expression::{put_bind, put_expr, put_subject, put_test};
 use crate::places::{one, plus, three, two};
+use crate::walk::{Walk, put_advance, put_turn, step_of};
 use rpy_base::{NoMem, Seq, Text};
 use rpy_meaning::{Covers, RowOp};
 use rpy_resolved::{Class, Clause, Expr, Stmt, Subject, Target};

@@ -71,12 +71,12 @@ statement order (op.Raise a) = stmt.ExcClear
 
 -- ---- links
 
--- an input that takes its own value is left alone
+-- an input takes another value than its own
 abbrev pub moves : ℕ → COperand → Bool
 moves v (Var w) = not (v == w)
 moves v other = true
 
--- the variable is an input that takes another value
+-- the variable is this input, which takes another value
 abbrev pub is_changed : ℕ → ℕ → COperand → Bool
 is_changed w v x = w == v && moves v x
 
@@ -88,27 +88,32 @@ abbrev pub reads_changed : List ℕ → List COperand → COperand → Bool
 reads_changed vs xs (Var w) = changes w vs xs
 reads_changed vs xs other = false
 
--- an input takes the value of one that takes another
+-- the variable is an input that takes another value
+unfoldable pub is_new : List ℕ → List COperand → ℕ → Bool
+is_new vs xs v = changes v vs xs
+
+-- an input that takes another value takes that of one that does
 abbrev pub crosses_in : List ℕ → List COperand → List ℕ → List COperand → Bool
-crosses_in all_vs all_xs (v ∷ vs) (x ∷ xs) = (moves v x && reads_changed all_vs all_xs x) || crosses_in all_vs all_xs vs xs
+crosses_in all_vs all_xs (v ∷ vs) (x ∷ xs) = (is_new all_vs all_xs v && reads_changed all_vs all_xs x) || crosses_in all_vs all_xs vs xs
 crosses_in all_vs all_xs vs xs = false
 
 abbrev pub crosses : List ℕ → List COperand → Bool
 crosses vs xs = crosses_in vs xs vs xs
 
--- each input takes its value; or a variable of its own does, `above` the input
-abbrev pub assigns : Order → ℕ → List ℕ → List COperand → List CStmt
-assigns order above (v ∷ vs) (x ∷ xs) = cond (moves v x) (stmt.Set (above + v) (operand order x) ∷ assigns order above vs xs) (assigns order above vs xs)
-assigns order above vs xs = []
+-- each input that takes another value takes it; or a variable of its own does, `above` the input
+abbrev pub assigns : Order → ℕ → List ℕ → List COperand → List ℕ → List COperand → List CStmt
+assigns order above all_vs all_xs (v ∷ vs) (x ∷ xs) =
+    cond (is_new all_vs all_xs v) (stmt.Set (above + v) (operand order x) ∷ assigns order above all_vs all_xs vs xs) (assigns order above all_vs all_xs vs xs)
+assigns order above all_vs all_xs vs xs = []
 
--- each input takes the value that waits for it
-abbrev pub takes : ℕ → List ℕ → List COperand → List CStmt
-takes above (v ∷ vs) (x ∷ xs) = cond (moves v x) (stmt.Set v (Var (above + v)) ∷ takes above vs xs) (takes above vs xs)
-takes above vs xs = []
+-- each of them takes the value that waits for it
+abbrev pub takes : ℕ → List ℕ → List COperand → List ℕ → List COperand → List CStmt
+takes above all_vs all_xs (v ∷ vs) (x ∷ xs) = cond (is_new all_vs all_xs v) (stmt.Set v (Var (above + v)) ∷ takes above all_vs all_xs vs xs) (takes above all_vs all_xs vs xs)
+takes above all_vs all_xs vs xs = []
 
 -- the inputs take their values as if all at once
 abbrev pub moved : Order → ℕ → List ℕ → List COperand → List CStmt
-moved order above vs xs = cond (crosses vs xs) (assigns order above vs xs ++ takes above vs xs) (assigns order 0 vs xs)
+moved order above vs xs = cond (crosses vs xs) (assigns order above vs xs vs xs ++ takes above vs xs vs xs) (assigns order 0 vs xs vs xs)
 
 abbrev pub inputs_of : Option LlBlock → List ℕ
 inputs_of None = []

@@ -38,6 +38,13 @@ fn changes(w: VarId, inputs: &[VarId], xs: &[COperand]) -> bool
     false
 }
 
+#[tactic(auto, unfolding(crate::specs::Lower::is_new))]
+fn is_new(inputs: &[VarId], xs: &[COperand], v: VarId) -> bool
+    ensures { result ≡ spec.is_new inputs.now xs.now v }
+{
+    changes(v, inputs, xs)
+}
+
 fn reads_changed(inputs: &[VarId], xs: &[COperand], x: COperand) -> bool
     ensures { result ≡ spec.reads_changed inputs.now xs.now x }
 {
@@ -47,7 +54,7 @@ fn reads_changed(inputs: &[VarId], xs: &[COperand], x: COperand) -> bool
     }
 }
 
-// Whether an input takes the value of one that takes another.
+// Whether an input that takes another value takes that of one that does.
 fn crosses(inputs: &[VarId], xs: &[COperand]) -> bool
     ensures { result ≡ spec.crosses inputs.now xs.now }
 {
@@ -55,7 +62,7 @@ fn crosses(inputs: &[VarId], xs: &[COperand]) -> bool
         if i >= xs.len() {
             return false;
         }
-        if moves(inputs[i], xs[i]) && reads_changed(inputs, xs, xs[i]) {
+        if is_new(inputs, xs, inputs[i]) && reads_changed(inputs, xs, xs[i]) {
             return true;
         }
     }
@@ -72,7 +79,7 @@ fn above_it(above: u64, v: VarId) -> Result<u64, NoMem>
     }
 }
 
-// Each input, or the variable above it, takes its value.
+// Each input that takes another value, or the variable above it, takes it.
 fn push_assigns(
     order: Order,
     above: u64,
@@ -80,33 +87,33 @@ fn push_assigns(
     xs: &[COperand],
     into: &mut Seq<CStmt>,
 ) -> Result<(), NoMem>
-    ensures { OnOk result (into.new ≡ into.old ++ spec.assigns order above inputs.now xs.now) }
+    ensures { OnOk result (into.new ≡ into.old ++ spec.assigns order above inputs.now xs.now inputs.now xs.now) }
 {
     for i in 0..inputs.len() {
         if i >= xs.len() {
             return Ok(());
         }
-        if moves(inputs[i], xs[i]) {
+        if is_new(inputs, xs, inputs[i]) {
             into.push(CStmt::Set(above_it(above, inputs[i])?, operand(order, xs[i])))?;
         }
     }
     Ok(())
 }
 
-// Each input takes the value that waits for it.
+// Each of them takes the value that waits for it.
 fn push_takes(
     above: u64,
     inputs: &[VarId],
     xs: &[COperand],
     into: &mut Seq<CStmt>,
 ) -> Result<(), NoMem>
-    ensures { OnOk result (into.new ≡ into.old ++ spec.takes above inputs.now xs.now) }
+    ensures { OnOk result (into.new ≡ into.old ++ spec.takes above inputs.now xs.now inputs.now xs.now) }
 {
     for i in 0..inputs.len() {
         if i >= xs.len() {
             return Ok(());
         }
-        if moves(inputs[i], xs[i]) {
+        if is_new(inputs, xs, inputs[i]) {
             into.push(CStmt::Set(inputs[i], COperand::Var(above_it(above, inputs[i])?)))?;
         }
     }

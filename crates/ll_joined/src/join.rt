@@ -2,11 +2,13 @@
 ghost use Rattle.std.specs.Prelude.{IfOk};
 ghost use Rattle.ll_joined.specs.Keeps.{Keeps};
 
+use crate::copies::without_copies;
 use crate::count::{Counts, counts_of, follows, taken_in};
+use crate::marks::marks_of;
 use crate::names::{Names, exit, push_named, variables};
-use crate::number::{blocks_by, named_in, numbers_of, places_of, stays, types_of};
+use crate::number::{blocks_by, numbers_of, places_of, stays, types_of};
 use csub_tree::COperand;
-use ll_code::{LlBlock, LlExit, LlGraph, LlLink, LlOp, LlProgram, VarId};
+use ll_code::{LlBlock, LlExit, LlGraph, LlLink, LlOp, LlProgram, LlType, VarId};
 use rpy_base::{NoMem, Seq};
 use std::alloc::Global;
 
@@ -120,6 +122,18 @@ fn joined_blocks(
     Ok(all)
 }
 
+// The ways without copies.
+fn plain_ways(
+    alloc: Global,
+    params: &[VarId],
+    types: &[LlType],
+    ways: &[LlBlock],
+) -> Result<Seq<LlBlock>, NoMem> {
+    let counts = counts_of(alloc, types.len(), ways)?;
+    let marks = marks_of(alloc, types.len(), params, ways)?;
+    without_copies(alloc, types, &counts, &marks, ways)
+}
+
 fn joined(alloc: Global, graph: LlGraph) -> Result<LlGraph, NoMem> {
     let LlGraph {
         name,
@@ -132,15 +146,17 @@ fn joined(alloc: Global, graph: LlGraph) -> Result<LlGraph, NoMem> {
     let taken = taken_in(alloc, blocks.as_slice(), &counts)?;
     let numbers = numbers_of(alloc, &counts, taken.as_slice())?;
     let ways = joined_blocks(alloc, blocks.as_slice(), &counts, taken.as_slice())?;
-    let named = named_in(alloc, types.len(), params.as_slice(), ways.as_slice())?;
-    let places = places_of(alloc, named.as_slice())?;
+    let blocks = plain_ways(alloc, params.as_slice(), types.as_slice(), ways.as_slice())?;
+    let marks = marks_of(alloc, types.len(), params.as_slice(), blocks.as_slice())?;
+    let named = marks.named.as_slice();
+    let places = places_of(alloc, named)?;
     let names = Names::Places(places.as_slice());
     Ok(LlGraph {
         name,
         params: variables(alloc, names, params.as_slice())?,
         result,
-        types: types_of(alloc, named.as_slice(), types.as_slice())?,
-        blocks: blocks_by(alloc, names, numbers.as_slice(), ways.as_slice())?,
+        types: types_of(alloc, named, types.as_slice())?,
+        blocks: blocks_by(alloc, names, numbers.as_slice(), blocks.as_slice())?,
     })
 }
 

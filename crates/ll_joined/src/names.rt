@@ -5,10 +5,12 @@ use rpy_base::{NoMem, Seq};
 use std::alloc::Global;
 
 /// The names of variables: where one is the first of a pair, the second, or else its own; or what stands at its place.
+/// Where a constant stands there, it takes the place of the variable where it can.
 #[derive(Clone, Copy)]
 pub enum Names<'a> {
     Pairs(&'a [(VarId, VarId)]),
     Places(&'a [VarId]),
+    Values(&'a [COperand]),
 }
 
 fn by_pairs(pairs: &[(VarId, VarId)], v: VarId) -> VarId {
@@ -28,12 +30,26 @@ impl<'a> Names<'a> {
                 None => v,
                 Some(place) => *place,
             },
+            Names::Values(values) => match values.get(v as usize) {
+                Some(COperand::Var(value)) => *value,
+                _ => v,
+            },
+        }
+    }
+
+    fn value(self, v: VarId) -> COperand {
+        match self {
+            Names::Values(values) => match values.get(v as usize) {
+                Some(value) => *value,
+                None => COperand::Var(v),
+            },
+            names => COperand::Var(names.of(v)),
         }
     }
 
     pub fn operand(self, x: COperand) -> COperand {
         match x {
-            COperand::Var(v) => COperand::Var(self.of(v)),
+            COperand::Var(v) => self.value(v),
             COperand::Const(c) => COperand::Const(c),
         }
     }
@@ -108,7 +124,8 @@ fn types(alloc: Global, kinds: &[LlType]) -> Result<Seq<LlType>, NoMem> {
     Ok(Seq::from_vec(kinds))
 }
 
-fn named(alloc: Global, names: Names<'_>, op: &LlOp) -> Result<LlOp, NoMem> {
+/// An operation with these names.
+pub fn named(alloc: Global, names: Names<'_>, op: &LlOp) -> Result<LlOp, NoMem> {
     match op {
         LlOp::Call(a, graph, xs) => {
             let xs = operands(alloc, names, xs.as_slice())?;

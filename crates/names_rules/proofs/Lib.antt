@@ -6,23 +6,23 @@ pub mod Declares
 pub mod Entry
 pub mod Fine
 pub mod Found
-mod Fusion
+pub mod Fusion
 pub mod Injective
 pub mod Imports
 pub mod Known
-mod Layers
+pub mod Layers
 pub mod Least
 pub mod Listed
-mod Runs
-mod Sites
-mod Stack
+pub mod Runs
+pub mod Sites
+pub mod Stack
 pub mod Stated
-mod StmtFusion
-mod StmtSites
+pub mod StmtFusion
+pub mod StmtSites
 pub mod Locals
 pub mod Missing
 pub mod Modules
-mod Names
+pub mod Names
 pub mod Numbered
 pub mod Places
 pub mod Scopes

@@ -7,39 +7,14 @@ use Rattle.rpy_tree.specs.declared.syntax.Expr.TheOpen.{Expr-F, Target-F}
 use Rattle.rpy_tree.specs.declared.syntax.Target.{Target}
 use Rattle.names_rules.specs.Order as order
 use Rattle.names_rules.specs.Order.{Item, Items}
-use Rattle.names_rules.specs.Parts.{listed, both, expr_parts, target_parts}
+use Rattle.names_rules.specs.Parts.{listed, both, expr_parts, target_parts, expr_item, target_item}
 use Rattle.names_rules.proofs.Fusion.{expr_fuses, target_fuses}
-
--- the item of a node, by its layer
-abbrev pub expr_item : {X : Type 0} → Expr-F X X → Item
-expr_item (Expr-F.Int n v) = order.Int v
-expr_item (Expr-F.Str n text) = order.Str text
-expr_item (Expr-F.Expr::Name n name) = order.Name name
-expr_item (Expr-F.Unary n op a) = order.Unary op
-expr_item (Expr-F.Binary n op a b) = order.Binary op
-expr_item (Expr-F.Compare n op a b) = order.Other 2
-expr_item (Expr-F.Logic n is_and a b) = order.Other 2
-expr_item (Expr-F.Not n a) = order.Other 1
-expr_item (Expr-F.Call n f args) = order.Call (length args)
-expr_item (Expr-F.Expr::Attr n a name) = order.Attr name
-expr_item (Expr-F.Index n a i) = order.Other 2
-expr_item (Expr-F.Slice n a from to) = order.Slice (1 + length (listed from) + length (listed to))
-expr_item (Expr-F.Expr::Tuple n items) = order.Tuple (length items)
-expr_item (Expr-F.List n items) = order.List_of (length items)
-expr_item (Expr-F.Dict n pairs) = order.Dict (length pairs)
-expr_item (Expr-F.Comp n item target over test) = order.Comp (3 + length (listed test))
-
-abbrev pub target_item : {X : Type 0} → Target-F X X → Item
-target_item (Target-F.Target::Name n name) = order.Bind name
-target_item (Target-F.Target::Attr n a name) = order.BindAttr name
-target_item (Target-F.Item n a i) = order.Other 2
-target_item (Target-F.Target::Tuple n parts) = order.Other (length parts)
 
 pairs_all : (ps : List (Items × Items)) → order.all_pairs ps ≡ order.all (both ps)
 pairs_all [] = refl
 pairs_all (p ∷ ps) = ap (λ rest. p.0 ++ (p.1 ++ rest)) (pairs_all ps)
 
-in_expr_parts : (x : Expr-F Items Items) → order.in_expr x ≡ order.all (expr_parts x) ++ expr_item x ∷ []
+pub in_expr_parts : (x : Expr-F Items Items) → order.in_expr x ≡ order.all (expr_parts x) ++ expr_item x ∷ []
 in_expr_parts (Expr-F.Int n v) = refl
 in_expr_parts (Expr-F.Str n text) = refl
 in_expr_parts (Expr-F.Expr::Name n name) = refl

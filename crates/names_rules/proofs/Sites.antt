@@ -25,12 +25,12 @@ use Rattle.names_rules.specs.Order as order
 use Rattle.names_rules.specs.Order.{Item, Items}
 use Rattle.names_rules.specs.Numbering.{next}
 use Rattle.names_rules.specs.Events.{Names, act_of}
-use Rattle.names_rules.specs.Parts.{both, expr_parts, target_parts}
+use Rattle.names_rules.specs.Parts.{both, expr_parts, target_parts, expr_item, target_item}
 use Rattle.names_rules.specs.Seen.{Sight, see_item, seen_by, name_part, bound_part, attr_part}
 use Rattle.names_rules.specs.Sites as rule
 use Rattle.names_rules.specs.Sites.{Found}
 use Rattle.names_rules.proofs.Fusion.{expr_fuses, target_fuses}
-use Rattle.names_rules.proofs.Runs.{expr_item, target_item, expr_parts_mapped, target_parts_mapped, expr_item_mapped, target_item_mapped, run, run_all, expr_moves, target_moves, run_expr, run_target}
+use Rattle.names_rules.proofs.Runs.{expr_parts_mapped, target_parts_mapped, expr_item_mapped, target_item_mapped, run, run_all, expr_moves, target_moves, run_expr, run_target}
 use Rattle.names_rules.proofs.Stack.{drops, under}
 
 -- ---- parts side by side
@@ -79,7 +79,7 @@ builtin_sites builtin.Xrange count = plain_range (count == 3) count
 builtin_sites builtin.OsWrite count = plain_write (count == 0) count
 builtin_sites other count = refl
 
-call_sites : (s : Stand) (makes : Bool) (count n : ℕ) (ss : List SiteAt) → add_sites (site_count (act.Call count) (called_by s makes count).called) (rule.list_at n) ss ≡ ss ++ rule.call_by s makes n
+pub call_sites : (s : Stand) (makes : Bool) (count n : ℕ) (ss : List SiteAt) → add_sites (site_count (act.Call count) (called_by s makes count).called) (rule.list_at n) ss ≡ ss ++ rule.call_by s makes n
 call_sites (stand.Builtin b) makes count n ss = ap (λ k. add_sites k (rule.list_at n) ss) (builtin_sites b count) ∙ sym (append-nil ss)
 call_sites other true count n ss = refl
 call_sites other false count n ss = sym (append-nil ss)
@@ -92,7 +92,7 @@ bind_sites : (o : Option ℕ) (name : ℕ) (site : SiteAt) (ss : List SiteAt) �
 bind_sites (Some local) name site ss = sym (append-nil ss)
 bind_sites None name site ss = sym (append-nil ss)
 
-operator_sites : (op : BinOp) (n : ℕ) (ss : List SiteAt) → add_sites (site_count (act.Binary op) called.Plain) (rule.list_at n) ss ≡ ss ++ rule.operator op n
+pub operator_sites : (op : BinOp) (n : ℕ) (ss : List SiteAt) → add_sites (site_count (act.Binary op) called.Plain) (rule.list_at n) ss ≡ ss ++ rule.operator op n
 operator_sites binary.Add n ss = refl
 operator_sites binary.Mul n ss = refl
 operator_sites other n ss = sym (append-nil ss)

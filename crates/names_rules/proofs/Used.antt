@@ -88,7 +88,7 @@ module _ (names : Names) where
   places [] i name h = refl
   places (x ∷ own) i name h = λ j. cond (compared names name x h j) (Some i) (places own (i + 1) name h j)
 
-  positions : (own : Names) (name : List ℕ) → Has names name → position (nat_eq (number names name)) (map (number names) own) ≡ position (bytes_eq name) own
+  pub positions : (own : Names) (name : List ℕ) → Has names name → position (nat_eq (number names name)) (map (number names) own) ≡ position (bytes_eq name) own
   positions own name h = position_from-zero (nat_eq (number names name)) (map (number names) own) ∙ places own 0 name h ∙ sym (position_from-zero (bytes_eq name) own)
 
   known_cond : (b : Bool) (i : ℕ) (o : Option ℕ) (r f : Bool) (name : ℕ) → units.known_by o name ≡ (r || f) → units.known_by (cond b (Some i) o) name ≡ ((b || r) || f)
@@ -104,18 +104,18 @@ module _ (names : Names) (s : Scopes) (bs cs : List Binding)
     (dots : (of : Stand) (name : List ℕ) → Has names name → code.member s of (number names name) ≡ scope.member bs cs s.bases of name)
     (fixed : (name : List ℕ) → known.is_fixed (number names name) ≡ is_fixed name) where
   module _ (ls : List ℕ) (at : Place) (own : Names) (local_is : (name : List ℕ) → Has names name → old.local_in ls at (number names name) ≡ position (bytes_eq name) own) where
-    abbrev found : Item → ℕ → Finder → Finder
+    abbrev pub found : Item → ℕ → Finder → Finder
     found i n w = old.find_event s ls at (record { node = n; act = act_of names i }) w
 
     abbrev name_stand : List ℕ → Stand
     name_stand = rule.name_stand bs cs s.bases at.file own
 
-    name_is : (name : List ℕ) → Has names name → (old.name_seen s ls at (number names name)).part.stand ≡ name_stand name
+    pub name_is : (name : List ℕ) → Has names name → (old.name_seen s ls at (number names name)).part.stand ≡ name_stand name
     name_is name has = local_stand (old.local_in ls at (number names name)) (code.global s at.file (number names name)) (code.is_late s at.file at.place (number names name))
         ∙ (λ j. rule.local_or (local_is name has j) ((globals at.file name has).1 j))
 
     -- what the code keeps of what stood right before
-    abbrev Keeps : State → Finder → Stand → Type 0
+    abbrev pub Keeps : State → Finder → Stand → Type 0
     Keeps Plain w before = Unit {0}
     Keeps Ends w before = (part_under w.parts 0).stand ≡ before
     Keeps Head w before = w.caught ≡ before
@@ -145,7 +145,7 @@ module _ (names : Names) (s : Scopes) (bs cs : List Binding)
     abbrev rest_of : Item → Finder → List Part
     rest_of i w = without (taken_besides (act_of names i)) (without (taken (act_of names i)) w.parts)
 
-    item_keeps : (i : Item) (n : ℕ) (w : Finder) (st : State) (before : Stand) → Needs i st → AllByRecursion (Has names) (said_by i) → Keeps st w before
+    pub item_keeps : (i : Item) (n : ℕ) (w : Finder) (st : State) (before : Stand) → Needs i st → AllByRecursion (Has names) (said_by i) → Keeps st w before
         → Keeps (after i) (found i n w) (rule.stand_after bs cs s.bases at.file own before i)
     item_keeps (Int v) n w st before needs has k = top (rest_of (Int v) w) _
     item_keeps (Str text) n w st before needs has k = top (rest_of (Str text) w) _

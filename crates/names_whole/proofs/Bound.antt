@@ -1,19 +1,16 @@
 -- What is bound, and the faults of it, are those of the rules.
-use Rattle.std.proofs.Common.{◌≡◌, ℕ, List, [], ◌++◌, Option, sym, ap, ◌∙◌, refl}
+use Rattle.std.proofs.Common.{◌≡◌, List, [], ◌++◌, sym, ap, ◌∙◌, refl}
 use Rattle.rpy_nodes.specs.Listing as listing
 use Rattle.rpy_nodes.specs.declared.listing.Named.{Named}
 use Rattle.names_bound.specs.Base.{class_bases, base_faults}
 use Rattle.names_bound.specs.Clash.{clashing, clash_faults}
 use Rattle.names_bound.specs.Declare as declare
 use Rattle.names_bound.specs.Fault.{lesser}
-use Rattle.names_bound.specs.Imports.{faults}
-use Rattle.names_bound.specs.declared.fault.Fault.{Fault}
 use Rattle.names_bound.specs.declared.scopes.Scopes.{Scopes}
 use Rattle.names_rules.specs.Bases as rule
-use Rattle.names_rules.specs.Bound.{entries}
 use Rattle.names_rules.specs.Clashes as clash
 use Rattle.names_rules.specs.Least.{least}
-use Rattle.names_rules.specs.Listed.{module_names, names_of}
+use Rattle.names_rules.specs.Listed.{module_names}
 use Rattle.names_rules.specs.Members.{members}
 use Rattle.names_rules.specs.Missing.{missing}
 use Rattle.names_rules.specs.Program.{module_bindings, body_bindings, named_bases, bases, bound_faults}

@@ -1,5 +1,5 @@
 -- The entry point of the code is that of the rules.
-use Rattle.std.proofs.Common.{◌≡◌, ℕ, ◌+◌, codes, List, [], ◌∷◌, Bool, true, false, map, Option, Some, None, sym, ap, ◌∙◌, refl, arith, cond}
+use Rattle.std.proofs.Common.{◌≡◌, ℕ, ◌+◌, codes, List, [], ◌∷◌, Bool, true, false, map, Option, Some, None, ap, ◌∙◌, refl, arith, cond}
 use Rattle.std.specs.Prelude.{nat_eq, not, ◌&&◌}
 use Rattle.std.specs.Str.{bytes_eq}
 use Rattle.rpy_nodes.specs.Listing as listing

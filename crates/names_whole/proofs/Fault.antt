@@ -1,12 +1,11 @@
 -- The fault that is told is that of the rules.
-use Rattle.std.proofs.Common.{◌≡◌, ℕ, List, [], ◌∷◌, ◌++◌, Option, Some, None, sym, ap, ◌∙◌, refl, subst}
+use Rattle.std.proofs.Common.{◌≡◌, List, [], ◌∷◌, Option, Some, None, sym, ap, ◌∙◌, refl}
 use Rattle.std.specs.Prelude.{Result, Ok, Err}
 use Rattle.rpy_nodes.specs.Listing as listing
 use Rattle.rpy_nodes.specs.declared.listing.Named.{Named}
 use Rattle.rpy_nodes.specs.declared.unit.Listing.{Listing}
 use Rattle.names_bound.specs.Fault.{lesser}
 use Rattle.names_bound.specs.declared.fault.Fault.{Fault}
-use Rattle.names_bound.specs.declared.scopes.Scopes.{Scopes}
 use Rattle.names_found.specs.Finder.{start, add_fault}
 use Rattle.names_found.specs.Units.{find_units}
 use Rattle.names_found.specs.declared.finder.Finder.{Finder}
@@ -28,7 +27,10 @@ use Rattle.rpy_names.specs.declared.build.Bound.{Bound}
 use Rattle.rpy_names.specs.declared.build.Entry.{Entry}
 use Rattle.rpy_names.specs.declared.build.Parts.{Parts}
 use Rattle.rpy_names.specs.declared.fault.NameFault.{NameFault}
-use Rattle.names_whole.specs.Whole.{as_entry, scopes, found_with, bad_constant, bad_constant_of, tells, IsWithout}
+use Rattle.names_constants.specs.Constants as constant
+use Rattle.names_constants.specs.Faults.{entry_site, bad_constants as rule_bad, faults}
+use Rattle.names_constants.proofs.Whole.{faults_follow}
+use Rattle.names_whole.specs.Whole.{as_entry, tells, IsWithout}
 use Rattle.names_whole.proofs.Bound.{scopes_are, fault_is}
 use Rattle.names_whole.proofs.Entry.{entry_is}
 
@@ -61,9 +63,27 @@ module _ (ms : List Named) where
       ∙ (λ j. lesser (fault_is ms j) (least (used (module_bindings ms) (body_bindings ms) (scopes_are ms j).bases (members ms))))
       ∙ sym (least_both (bound_faults ms) (used (module_bindings ms) (body_bindings ms) (bases ms) (members ms)))
 
-  pub fault_told : namefault ms ≡ tells (lesser (least (name_faults ms)) (bad_constant ms (entry (members ms)))) (entry (members ms))
-  fault_told = ap (λ e. fault_by (old.build_bound (listing.listing ms) e (old.bind (listing.listing ms)))) (entry_is ms)
-      ∙ told_bound (listing.listing ms) (old.bind (listing.listing ms)) (entry (members ms)) (least (name_faults ms)) (bad_constant ms (entry (members ms))) (names_are (as_entry (entry (members ms)))) refl
+  abbrev bound : Bound
+  bound = old.bind (listing.listing ms)
+
+  abbrev found_with : Option Entry → List Found
+  found_with e = (find_units bound.scopes (listing.listing ms).units (add_fault bound.fault (start (old.entry_site e)))).0
+
+  abbrev bad_constant : Option Entry → Option Fault
+  bad_constant e = (bad_constants (listing.listing ms).names (constant_values (listing.listing ms).names (found_with e) bound.constants).constants (found_with e) bound.constants).fault
+
+  site_is : (e : Option EntryPoint) → old.entry_site (as_entry e) ≡ entry_site e
+  site_is None = refl
+  site_is (Some e) = refl
+
+  constants_are : bad_constant (as_entry (entry (members ms))) ≡ least (rule_bad ms)
+  constants_are = faults_follow ms bound.scopes refl refl (old.entry_site (as_entry (entry (members ms)))) bound.fault
+      ∙ (λ j. least (constant.bad_constants (module_bindings ms) (body_bindings ms) (scopes_are ms j).bases (site_is (entry (members ms)) j ∷ []) (members ms)))
+
+  pub fault_told : namefault ms ≡ tells (least (faults ms)) (entry (members ms))
+  fault_told = ap (λ e. fault_by (old.build_bound (listing.listing ms) e bound)) (entry_is ms)
+      ∙ told_bound (listing.listing ms) bound (entry (members ms)) (least (name_faults ms)) (least (rule_bad ms)) (names_are (as_entry (entry (members ms)))) constants_are
+      ∙ ap (λ f. tells f (entry (members ms))) (sym (least_both (name_faults ms) (rule_bad ms)))
 
 without : (ms : List Named) (r : Result Parts NameFault) → IsWithout (program_by ms r) (fault_by r)
 without ms (Ok p) = tt

@@ -1,20 +1,16 @@
 -- The tables of the code as the rules have them.
-use Rattle.std.specs.Prelude.{List, Option, Some, None}
-use Rattle.rpy_nodes.specs.Listing.{listing}
+use Rattle.std.specs.Prelude.{List, map, Option, Some, None}
 use Rattle.rpy_nodes.specs.declared.listing.Named.{Named}
 use Rattle.rpy_tree.specs.declared.program.Program.{Program}
-use Rattle.names_bound.specs.Declare.{declared}
+use Rattle.rpy_tree.specs.declared.program.Site.{Site}
+use Rattle.names_found.specs.declared.step.SiteAt.{SiteAt}
 use Rattle.names_bound.specs.declared.fault.Fault.{Fault}
 use Rattle.names_bound.specs.declared.scopes.Scopes.{Scopes}
-use Rattle.names_found.specs.Finder.{start}
-use Rattle.names_found.specs.Units.{find_units}
-use Rattle.names_found.specs.declared.unit.Found.{Found}
 use Rattle.names_rules.specs.Bound.{entries}
 use Rattle.names_rules.specs.Entry.{EntryPoint}
 use Rattle.names_rules.specs.Listed.{names_of}
 use Rattle.names_rules.specs.Program.{module_bindings, body_bindings, bases}
-use Rattle.names_value.specs.Constants.{constant_values, bad_constants}
-use Rattle.rpy_names.specs.Build.{entry_site, bind, told}
+use Rattle.rpy_names.specs.Build.{told}
 use Rattle.rpy_names.specs.declared.build.Entry.{Entry}
 use Rattle.rpy_names.specs.declared.fault.NameFault.{NameFault}
 use Rattle.rpy_names.specs.declared.fault.NameFault.TheVariants as fault
@@ -26,16 +22,6 @@ as_entry (Some e) = Some (record { function = e.function; parameter = e.paramete
 -- names by their numbers in the table of the program
 abbrev pub scopes : List Named → Scopes
 scopes ms = record { bindings = entries (names_of ms) (module_bindings ms); members = entries (names_of ms) (body_bindings ms); bases = bases ms }
-
--- what the names of all members stand for, and the fault of constants, as the code finds them
-abbrev pub found_with : List Named → Option Entry → List Found
-found_with ms e = (find_units (bind (listing ms)).scopes (listing ms).units (Rattle.names_found.specs.Finder.add_fault (bind (listing ms)).fault (start (entry_site e)))).0
-
-abbrev pub bad_constant_of : List Named → List Found → Option Fault
-bad_constant_of ms found = (bad_constants (listing ms).names (constant_values (listing ms).names found (declared (listing ms).modules (listing ms).units).constants).constants found (declared (listing ms).modules (listing ms).units).constants).fault
-
-abbrev pub bad_constant : List Named → Option EntryPoint → Option Fault
-bad_constant ms e = bad_constant_of ms (found_with ms (as_entry e))
 
 -- no entry point is told exactly where no other fault stands and there is none
 abbrev pub tells : Option Fault → Option EntryPoint → Option NameFault
@@ -49,3 +35,10 @@ IsWithout None None = ⊥
 IsWithout (Some p) None = Unit {0}
 IsWithout None (Some f) = Unit {0}
 IsWithout (Some p) (Some f) = ⊥
+
+-- the node of a site, and whether it makes dicts
+abbrev pub site_place : Site → SiteAt
+site_place s = record { node = s.node; dict = s.dict }
+
+abbrev pub site_places : List Site → List SiteAt
+site_places ss = map site_place ss

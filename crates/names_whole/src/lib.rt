@@ -3,4 +3,7 @@
 
 mod laws;
 
-pub use laws::{bound_faults_follow_the_rules, entry_follows_the_rules, fault_follows_the_rules};
+pub use laws::{
+    bound_faults_follow_the_rules, entry_follows_the_rules, fault_follows_the_rules,
+    tables_follow_the_rules,
+};

@@ -1,5 +1,5 @@
-// The passes behind the checks, in a row. Where a pass has no place for a program, it is not compiled.
-ghost use Rattle.std.specs.Prelude.{IfOk, IfSome};
+// The passes behind the checks, in a row.
+ghost use Rattle.std.specs.Prelude.{IfOk};
 ghost use Rattle.rpy_compiled.specs.Compile.{IsFile};
 
 use csub_tree::{CFile, checked};
@@ -15,13 +15,8 @@ use rpy_tree::Program;
 use rtyper_program::rtype;
 use std::alloc::Global;
 
-/// The low-level program of a program that has passed its checks; `None` where something in it has no
-/// lowering yet.
-pub fn low_level(
-    alloc: Global,
-    program: &Program,
-    checked: &Checked,
-) -> Result<Option<LlProgram>, NoMem> {
+/// The low-level program of a program that has passed its checks.
+pub fn low_level(alloc: Global, program: &Program, checked: &Checked) -> Result<LlProgram, NoMem> {
     let resolved = resolved(alloc, program)?;
     let typed = rtype(
         alloc,
@@ -30,32 +25,27 @@ pub fn low_level(
         &checked.annotation,
         &checked.classes,
     )?;
-    match typed {
-        None => Ok(None),
-        Some(typed) => Ok(Some(join_blocks(alloc, typed)?)),
-    }
+    join_blocks(alloc, typed)
 }
 
-// The C file of a low-level program; `None` where one of the passes does not take it.
-fn file_of(alloc: Global, typed: LlProgram) -> Result<Option<CFile>, NoMem>
-    ensures { IfOk result (λ made. IfSome made IsFile) }
+// The C file of a low-level program. No program is known whose file breaks a rule; it would be no text
+// to hand out, and the answer that is always free stands for it.
+fn file_of(alloc: Global, typed: LlProgram) -> Result<CFile, NoMem>
+    ensures { IfOk result IsFile }
 {
     let explicit = make_explicit(alloc, typed)?;
     let counted = count(alloc, &explicit)?;
     let file = lower(alloc, &counted)?;
     match checked(&file) {
-        Ok(()) => Ok(Some(file)),
-        Err(_) => Ok(None),
+        Ok(()) => Ok(file),
+        Err(_) => Err(NoMem),
     }
 }
 
-/// The C file of a program that has passed its checks, which keeps every rule of C files; `None` where
-/// the program has no low-level program, or that no such file.
-pub fn compile(alloc: Global, program: &Program, checked: &Checked) -> Result<Option<CFile>, NoMem>
-    ensures { IfOk result (λ made. IfSome made IsFile) }
+/// The C file of a program that has passed its checks, which keeps every rule of C files.
+pub fn compile(alloc: Global, program: &Program, checked: &Checked) -> Result<CFile, NoMem>
+    ensures { IfOk result IsFile }
 {
-    match low_level(alloc, program, checked)? {
-        None => Ok(None),
-        Some(typed) => file_of(alloc, typed),
-    }
+    let typed = low_level(alloc, program, checked)?;
+    file_of(alloc, typed)
 }

@@ -13,7 +13,7 @@ use Rattle.rpy_tree.specs.declared.syntax.Module.{Module}
 use Rattle.rpy_first.specs.declared.fault.SourceKind.{SourceKind}
 use Rattle.rpy_first.specs.declared.fault.SourceKind.TheVariants.{BadByte, BadIndent, OpenString, BadNumber, LimitBrackets, LimitBlocks, LimitOperators, Syntax}
 use Rattle.rpy_first.specs.declared.fault.TranslateFault.{TranslateFault}
-use Rattle.rpy_first.specs.declared.fault.TranslateFault.TheVariants.{Source, Name, NotYet, NoMem}
+use Rattle.rpy_first.specs.declared.fault.TranslateFault.TheVariants.{Source, Name, NotFirst, NoMem}
 
 abbrev pub words_of : SourceKind → List ℕ
 words_of BadByte = codes "bad byte"
@@ -83,7 +83,7 @@ abbrev pub ReadsModule : List ℕ → Result Module TranslateFault → Type 0
 ReadsModule source (Ok m) = HasModule source m
 ReadsModule source (Err (Source file line kind)) = (file ≡ 0) × IsRefused source line kind
 ReadsModule source (Err (Name file line kind)) = ⊥
-ReadsModule source (Err NotYet) = ⊥
+ReadsModule source (Err NotFirst) = ⊥
 ReadsModule source (Err NoMem) = Unit {0}
 
 -- the fault for a cause, of the only source

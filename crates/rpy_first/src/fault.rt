@@ -35,9 +35,9 @@ pub enum TranslateFault {
     /// The sources are modules that make no program: which source, the line, and why.
     #[error("source {0}, line {1}: {2:?}")]
     Name(u32, u32, NameKind),
-    /// The sources are not among those that are translated so far.
-    #[error("not yet")]
-    NotYet,
+    /// The module is not one of the first path.
+    #[error("not of the first path")]
+    NotFirst,
     #[error("out of memory")]
     NoMem,
 }

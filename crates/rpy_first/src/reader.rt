@@ -42,11 +42,11 @@ fn local(parameter: &[u8], names: &[Text], name: &[u8]) -> Result<Sum, Translate
     ensures { Gives (spec.local parameter.now names.now name.now) result }
 {
     if is_reserved(parameter, name) {
-        return Err(TranslateFault::NotYet);
+        return Err(TranslateFault::NotFirst);
     }
     match place_of(names, name) {
         Some(place) => Ok(Sum::Local(place)),
-        None => Err(TranslateFault::NotYet),
+        None => Err(TranslateFault::NotFirst),
     }
 }
 
@@ -73,7 +73,7 @@ fn both(alloc: Global, op: Option<Arith>, a: Sum, b: Sum) -> Result<Sum, Transla
 {
     match op {
         Some(op) => Ok(Sum::Binary(op, Own::new(alloc, a)?, Own::new(alloc, b)?)),
-        None => Err(TranslateFault::NotYet),
+        None => Err(TranslateFault::NotFirst),
     }
 }
 
@@ -95,19 +95,19 @@ fn sum_of(
             let right = sum_of(alloc, parameter, names, b.get())?;
             both(alloc, arith_of(*op), left, right)
         }
-        Expr::Str(_, _) => Err(TranslateFault::NotYet),
-        Expr::Unary(_, _, _) => Err(TranslateFault::NotYet),
-        Expr::Compare(_, _, _, _) => Err(TranslateFault::NotYet),
-        Expr::Logic(_, _, _, _) => Err(TranslateFault::NotYet),
-        Expr::Not(_, _) => Err(TranslateFault::NotYet),
-        Expr::Call(_, _, _) => Err(TranslateFault::NotYet),
-        Expr::Attr(_, _, _) => Err(TranslateFault::NotYet),
-        Expr::Index(_, _, _) => Err(TranslateFault::NotYet),
-        Expr::Slice(_, _, _, _) => Err(TranslateFault::NotYet),
-        Expr::Tuple(_, _) => Err(TranslateFault::NotYet),
-        Expr::List(_, _) => Err(TranslateFault::NotYet),
-        Expr::Dict(_, _) => Err(TranslateFault::NotYet),
-        Expr::Comp(_, _, _, _, _) => Err(TranslateFault::NotYet),
+        Expr::Str(_, _) => Err(TranslateFault::NotFirst),
+        Expr::Unary(_, _, _) => Err(TranslateFault::NotFirst),
+        Expr::Compare(_, _, _, _) => Err(TranslateFault::NotFirst),
+        Expr::Logic(_, _, _, _) => Err(TranslateFault::NotFirst),
+        Expr::Not(_, _) => Err(TranslateFault::NotFirst),
+        Expr::Call(_, _, _) => Err(TranslateFault::NotFirst),
+        Expr::Attr(_, _, _) => Err(TranslateFault::NotFirst),
+        Expr::Index(_, _, _) => Err(TranslateFault::NotFirst),
+        Expr::Slice(_, _, _, _) => Err(TranslateFault::NotFirst),
+        Expr::Tuple(_, _) => Err(TranslateFault::NotFirst),
+        Expr::List(_, _) => Err(TranslateFault::NotFirst),
+        Expr::Dict(_, _) => Err(TranslateFault::NotFirst),
+        Expr::Comp(_, _, _, _, _) => Err(TranslateFault::NotFirst),
     }
 }
 
@@ -142,12 +142,12 @@ fn binding(
     match name_of(targets) {
         Some(name) => {
             if is_reserved(parameter, name.bytes()) {
-                Err(TranslateFault::NotYet)
+                Err(TranslateFault::NotFirst)
             } else {
                 Ok(Read::Assign(name.copy(alloc)?, value))
             }
         }
-        None => Err(TranslateFault::NotYet),
+        None => Err(TranslateFault::NotFirst),
     }
 }
 
@@ -165,10 +165,10 @@ fn read_statement(
         }
         Stmt::Print(_, trees) => match trees.as_slice() {
             [tree] => Ok(Read::Print(sum_of(alloc, parameter, names, tree)?)),
-            _ => Err(TranslateFault::NotYet),
+            _ => Err(TranslateFault::NotFirst),
         },
         Stmt::Return(_, Some(tree)) => Ok(Read::Return(sum_of(alloc, parameter, names, tree)?)),
-        _ => Err(TranslateFault::NotYet),
+        _ => Err(TranslateFault::NotFirst),
     }
 }
 
@@ -211,7 +211,7 @@ fn finished(
             result: sum,
             locals: names.len() as u64,
         }),
-        [_, ..] => Err(TranslateFault::NotYet),
+        [_, ..] => Err(TranslateFault::NotFirst),
     }
 }
 
@@ -233,7 +233,7 @@ fn body_of(alloc: Global, parameter: &[u8], statements: &[Stmt]) -> Result<Body,
             }
         }
     }
-    Err(TranslateFault::NotYet)
+    Err(TranslateFault::NotFirst)
 }
 
 // The one parameter of a function.
@@ -269,11 +269,11 @@ fn function_body(alloc: Global, function: &Function) -> Result<Body, TranslateFa
     ensures { Gives (spec.function_body function.now) result }
 {
     if function.name.bytes() != b"entry_point".as_slice() {
-        return Err(TranslateFault::NotYet);
+        return Err(TranslateFault::NotFirst);
     }
     match parameter_of(function.star, function.params.as_slice()) {
         Some(parameter) => body_of(alloc, parameter.bytes(), function.body.as_slice()),
-        None => Err(TranslateFault::NotYet),
+        None => Err(TranslateFault::NotFirst),
     }
 }
 
@@ -282,7 +282,7 @@ fn members_body(alloc: Global, members: &[Member]) -> Result<Body, TranslateFaul
 {
     match members {
         [Member::Def(function)] => function_body(alloc, function),
-        _ => Err(TranslateFault::NotYet),
+        _ => Err(TranslateFault::NotFirst),
     }
 }
 
@@ -294,6 +294,6 @@ pub fn first_path(alloc: Global, tree: &Module) -> Result<Body, TranslateFault>
     if is_bound(&whole) {
         Ok(whole)
     } else {
-        Err(TranslateFault::NotYet)
+        Err(TranslateFault::NotFirst)
     }
 }

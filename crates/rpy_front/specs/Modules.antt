@@ -4,7 +4,7 @@ use Rattle.rpy_nodes.specs.declared.listing.Named.{Named}
 use Rattle.rpy_first.specs.Source.{HasModule, IsRefused}
 use Rattle.rpy_first.specs.declared.fault.SourceKind.{SourceKind}
 use Rattle.rpy_first.specs.declared.fault.TranslateFault.{TranslateFault}
-use Rattle.rpy_first.specs.declared.fault.TranslateFault.TheVariants.{Source, Name, NotYet, NoMem}
+use Rattle.rpy_first.specs.declared.fault.TranslateFault.TheVariants.{Source, Name, NotFirst, NoMem}
 
 -- whether each source has at most as many bytes as one may have
 abbrev pub are_short : List (List ℕ) → Bool
@@ -40,14 +40,14 @@ abbrev pub ReadsNamed : List ℕ → List ℕ → Result Named TranslateFault �
 ReadsNamed source name (Ok m) = IsNamed source name m
 ReadsNamed source name (Err (Source file line kind)) = IsRefused source line kind
 ReadsNamed source name (Err (Name file line kind)) = ⊥
-ReadsNamed source name (Err NotYet) = ⊥
+ReadsNamed source name (Err NotFirst) = ⊥
 ReadsNamed source name (Err NoMem) = Unit {0}
 
 -- and what one does that reads all of them
 abbrev pub StopsBy : List (List ℕ) → List (List ℕ) → TranslateFault → Type 0
 StopsBy sources names (Source file line kind) = StopsAt sources names file line kind
 StopsBy sources names (Name file line kind) = ⊥
-StopsBy sources names NotYet = ⊥
+StopsBy sources names NotFirst = ⊥
 StopsBy sources names NoMem = Unit {0}
 
 abbrev pub ReadsModules : List (List ℕ) → List (List ℕ) → Result (List Named) TranslateFault → Type 0
@@ -58,5 +58,5 @@ ReadsModules sources names (Err fault) = StopsBy sources names fault
 abbrev pub at_file : ℕ → TranslateFault → TranslateFault
 at_file file (Source of line kind) = Source file line kind
 at_file file (Name of line kind) = Name file line kind
-at_file file NotYet = NotYet
+at_file file NotFirst = NotFirst
 at_file file NoMem = NoMem

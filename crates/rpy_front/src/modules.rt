@@ -30,7 +30,7 @@ fn at_file(file: usize, fault: TranslateFault) -> TranslateFault
     match fault {
         TranslateFault::Source(_, line, kind) => TranslateFault::Source(file as u32, line, kind),
         TranslateFault::Name(_, line, kind) => TranslateFault::Name(file as u32, line, kind),
-        TranslateFault::NotYet => TranslateFault::NotYet,
+        TranslateFault::NotFirst => TranslateFault::NotFirst,
         TranslateFault::NoMem => TranslateFault::NoMem,
     }
 }

@@ -16,7 +16,7 @@ use Rattle.rpy_front.specs.Modules.{AreModules}
 use Rattle.rpy_first.specs.declared.fault.TranslateFault.{TranslateFault as FrontFault}
 use Rattle.rpy_first.specs.declared.fault.TranslateFault.TheVariants as front
 use Rattle.rpy_top.specs.declared.fault.TranslateFault.{TranslateFault}
-use Rattle.rpy_top.specs.declared.fault.TranslateFault.TheVariants.{Source, Name, Conflict, Typing, NotYet, NoMem}
+use Rattle.rpy_top.specs.declared.fault.TranslateFault.TheVariants.{Source, Name, Conflict, Typing, NoMem}
 use Rattle.rpy_first.specs.Gives.{Gives}
 use Rattle.rpy_names.specs.Resolve.{prog}
 use Rattle.rpy_tree.specs.declared.program.Program.{Program}
@@ -86,10 +86,6 @@ written task sources names ms (Err (Source file line kind)) are t = absurd t
 written task sources names ms (Err (Name file line kind)) are t = record { modules = ms; are = are; misnamed = t }
 written task sources names ms (Err (Conflict file line words)) are t = record { modules = ms; make = record { are = are; program = t.0; is = t.1 }; checked = t.2 }
 written task sources names ms (Err (Typing file line kind)) are t = record { modules = ms; make = record { are = are; program = t.0; is = t.1 }; checked = t.2 }
-written Build sources names ms (Err NotYet) are t = record { modules = ms; make = record { are = are; program = t.0; is = t.1 }; is_none = t.2 }
-written Check sources names ms (Err NotYet) are t = absurd t.2
-written Annotate sources names ms (Err NotYet) are t = absurd t.2
-written Flow sources names ms (Err NotYet) are t = absurd t.2
 written task sources names ms (Err NoMem) are t = tt
 
 pub module_named : (name : List ℕ) → is_module_name name ≡ true → is_name name ≡ true
@@ -132,7 +128,6 @@ of_check task ms p (Source file line kind) is checked t = absurd t
 of_check task ms p (Name file line kind) is checked t = absurd t
 of_check task ms p (Conflict file line words) is checked t = (p, is, checked)
 of_check task ms p (Typing file line kind) is checked t = (p, is, checked)
-of_check task ms p NotYet is checked t = absurd t
 of_check task ms p NoMem is checked t = tt
 
 -- what becomes of modules that make a program is what becomes of the program
@@ -143,20 +138,17 @@ of_program Build name ms p (Ok body) (Err (Source file line kind)) named is give
 of_program Build name ms p (Ok body) (Err (Name file line kind)) named is gives t = absurd t
 of_program Build name ms p (Ok body) (Err (Conflict file line words)) named is gives t = absurd t
 of_program Build name ms p (Ok body) (Err (Typing file line kind)) named is gives t = absurd t
-of_program Build name ms p (Ok body) (Err NotYet) named is gives t = absurd t
-of_program Build name ms p (Err front.NotYet) (Ok text) named is gives t = (p, is, inr (gives, t))
-of_program Build name ms p (Err front.NotYet) (Err (Source file line kind)) named is gives t = absurd t
-of_program Build name ms p (Err front.NotYet) (Err (Name file line kind)) named is gives t = absurd t
-of_program Build name ms p (Err front.NotYet) (Err (Conflict file line words)) named is gives t = (p, is, gives)
-of_program Build name ms p (Err front.NotYet) (Err (Typing file line kind)) named is gives t = (p, is, gives)
-of_program Build name ms p (Err front.NotYet) (Err NotYet) named is gives t = (p, is, gives)
-of_program Build name ms p (Err front.NotYet) (Err NoMem) named is gives t = tt
+of_program Build name ms p (Err front.NotFirst) (Ok text) named is gives t = (p, is, inr (gives, t))
+of_program Build name ms p (Err front.NotFirst) (Err (Source file line kind)) named is gives t = absurd t
+of_program Build name ms p (Err front.NotFirst) (Err (Name file line kind)) named is gives t = absurd t
+of_program Build name ms p (Err front.NotFirst) (Err (Conflict file line words)) named is gives t = (p, is, gives)
+of_program Build name ms p (Err front.NotFirst) (Err (Typing file line kind)) named is gives t = (p, is, gives)
+of_program Build name ms p (Err front.NotFirst) (Err NoMem) named is gives t = tt
 of_program Build name ms p (Err front.NoMem) (Ok text) named is gives t = absurd t
 of_program Build name ms p (Err front.NoMem) (Err (Source file line kind)) named is gives t = absurd t
 of_program Build name ms p (Err front.NoMem) (Err (Name file line kind)) named is gives t = absurd t
 of_program Build name ms p (Err front.NoMem) (Err (Conflict file line words)) named is gives t = absurd t
 of_program Build name ms p (Err front.NoMem) (Err (Typing file line kind)) named is gives t = absurd t
-of_program Build name ms p (Err front.NoMem) (Err NotYet) named is gives t = absurd t
 of_program Build name ms p (Err front.NoMem) (Err NoMem) named is gives t = tt
 of_program Build name ms p (Err (front.Source file line kind)) r named is gives t = absurd gives
 of_program Build name ms p (Err (front.Name file line kind)) r named is gives t = absurd gives
@@ -174,7 +166,6 @@ of_lowered ms p (Err (Source file line kind)) is t = absurd t
 of_lowered ms p (Err (Name file line kind)) is t = absurd t
 of_lowered ms p (Err (Conflict file line words)) is t = (p, is)
 of_lowered ms p (Err (Typing file line kind)) is t = (p, is)
-of_lowered ms p (Err NotYet) is t = (p, is)
 of_lowered ms p (Err NoMem) is t = tt
 
 -- and of sources
@@ -184,5 +175,4 @@ lowered_of sources names ms (Err (Source file line kind)) are t = absurd t
 lowered_of sources names ms (Err (Name file line kind)) are t = record { modules = ms; are = are; misnamed = t }
 lowered_of sources names ms (Err (Conflict file line words)) are t = record { modules = ms; make = record { are = are; program = t.0; is = t.1 } }
 lowered_of sources names ms (Err (Typing file line kind)) are t = record { modules = ms; make = record { are = are; program = t.0; is = t.1 } }
-lowered_of sources names ms (Err NotYet) are t = record { modules = ms; make = record { are = are; program = t.0; is = t.1 } }
 lowered_of sources names ms (Err NoMem) are t = tt

@@ -20,7 +20,7 @@ use Rattle.rpy_checked.specs.Words.{words_of as type_words}
 use Rattle.ann_text.specs.AnnotationText.{annotation_text}
 use Rattle.ann_element.specs.declared.annotation.Annotation.{Annotation}
 use Rattle.rpy_top.specs.declared.fault.TranslateFault.{TranslateFault}
-use Rattle.rpy_top.specs.declared.fault.TranslateFault.TheVariants.{Source as Refused, Name as NoProgram, Conflict as InConflict, Typing as NoTypes, NotYet as Unready, NoMem as NoMemory}
+use Rattle.rpy_top.specs.declared.fault.TranslateFault.TheVariants.{Source as Refused, Name as NoProgram, Conflict as InConflict, Typing as NoTypes, NoMem as NoMemory}
 use Rattle.rpy_first.specs.declared.fault.NameKind.{NameKind}
 use Rattle.rpy_first.specs.Source.{refusal, line_at}
 use Rattle.rpy_nodes.specs.declared.listing.Named.{Named}
@@ -39,7 +39,7 @@ use Rattle.flow_graph.specs.Whole.{Covers}
 use Rattle.flow_graph.specs.declared.graph.Graphs.{Graphs}
 use Rattle.rpy_first.specs.declared.body.Body.{Body}
 use Rattle.rpy_top.specs.declared.status.Status.{Status}
-use Rattle.rpy_top.specs.declared.status.Status.TheVariants.{Done, Usage, NotSource, NotProgram, Conflicting, Untyped, TooMany, NotC, Stuck, NoFile, NotRead, WriteFault, Raised, Failed, Running, NoMem, WorkSpent, TooLong, NotYet}
+use Rattle.rpy_top.specs.declared.status.Status.TheVariants.{Done, Usage, NotSource, NotProgram, Conflicting, Untyped, TooMany, NotC, Stuck, NoFile, NotRead, WriteFault, Raised, Failed, Running, NoMem, WorkSpent, TooLong}
 
 abbrev pub code : Status → ℕ
 code Done = 0
@@ -56,7 +56,6 @@ code Running = 12
 code NoMem = 13
 code WorkSpent = 14
 code TooLong = 15
-code NotYet = 16
 code NotProgram = 3
 code Conflicting = 4
 code Untyped = 5
@@ -215,12 +214,6 @@ Writes Check sources names text = Approves sources names text
 Writes Annotate sources names text = Annotates sources names text
 Writes Flow sources names text = Draws sources names text
 
--- the sources are a program, which is not of one module of the first path
-pub record IsNotYet (sources names : List (List ℕ)) : Type 0 where
-  pub modules : List Named
-  pub make : AreProgram sources names modules
-  pub is_none : only_body modules ≡ None
-
 -- whether this is asked of modules that are checked first: a C text of one module of the first path is written at once
 abbrev pub IsChecked : Task → List Named → Type 0
 IsChecked Build ms = only_body ms ≡ None
@@ -238,11 +231,11 @@ pub record AreNoProgram (sources names : List (List ℕ)) (file line : ℕ) (kin
   pub are : AreModules sources names modules
   pub misnamed : IsMisnamed modules file line kind
 
--- causes why nothing is written, from those of the layers below
+-- causes why nothing is written, from those of the layers below; modules are read whatever their path
 abbrev pub front_fault : FrontFault → TranslateFault
 front_fault (front.Source file line kind) = Refused file line kind
 front_fault (front.Name file line kind) = NoProgram file line kind
-front_fault front.NotYet = Unready
+front_fault front.NotFirst = NoMemory
 front_fault front.NoMem = NoMemory
 
 abbrev pub check_fault : CheckFault → TranslateFault
@@ -264,13 +257,11 @@ IsCheck fault = ⊥
 -- what a call answers that writes the C text of a program by its low-level program
 abbrev pub CompilesProgram : Result (List ℕ) TranslateFault → Type 0
 CompilesProgram (Ok text) = Emits text
-CompilesProgram (Err Unready) = Unit {0}
 CompilesProgram (Err fault) = IsCheck fault
 
 -- and one that gives its low-level program
 abbrev pub LowersProgram : Result LlProgram TranslateFault → Type 0
 LowersProgram (Ok typed) = Unit {0}
-LowersProgram (Err Unready) = Unit {0}
 LowersProgram (Err fault) = IsCheck fault
 
 -- what a call answers that writes the C text of a program, whose only body was asked for
@@ -278,7 +269,7 @@ abbrev pub BuildsProgram : List ℕ → Result Body FrontFault → Result (List 
 BuildsProgram name (Ok body) (Ok text) = text ≡ text_of name body
 BuildsProgram name (Ok body) (Err NoMemory) = Unit {0}
 BuildsProgram name (Ok body) (Err fault) = ⊥
-BuildsProgram name (Err front.NotYet) result = CompilesProgram result
+BuildsProgram name (Err front.NotFirst) result = CompilesProgram result
 BuildsProgram name (Err fault) (Ok text) = ⊥
 BuildsProgram name (Err fault) (Err NoMemory) = Unit {0}
 BuildsProgram name (Err fault) (Err other) = ⊥
@@ -301,11 +292,6 @@ WritesOf Check ms p text = text ≡ approval
 WritesOf Annotate ms p text = AnnotatesProgram p text
 WritesOf Flow ms p text = DrawsProgram p text
 
--- whether there are modules of which this is not written yet
-abbrev pub IsNotThere : Task → List Named → Type 0
-IsNotThere Build ms = only_body ms ≡ None
-IsNotThere task ms = ⊥
-
 -- what a call answers that writes this of modules
 abbrev pub WritesModules : Task → List Named → Result (List ℕ) TranslateFault → Type 0
 WritesModules task ms (Ok text) = (p : Program) × (prog ms ≡ Some p) × WritesOf task ms p text
@@ -313,13 +299,7 @@ WritesModules task ms (Err (Refused file line kind)) = ⊥
 WritesModules task ms (Err (NoProgram file line kind)) = IsMisnamed ms file line kind
 WritesModules task ms (Err (InConflict file line words)) = (p : Program) × (prog ms ≡ Some p) × IsChecked task ms
 WritesModules task ms (Err (NoTypes file line kind)) = (p : Program) × (prog ms ≡ Some p) × IsChecked task ms
-WritesModules task ms (Err Unready) = (p : Program) × (prog ms ≡ Some p) × IsNotThere task ms
 WritesModules task ms (Err NoMemory) = Unit {0}
-
--- the sources are a program of which this is not written yet
-abbrev pub IsLeft : Task → List (List ℕ) → List (List ℕ) → Type 0
-IsLeft Build sources names = IsNotYet sources names
-IsLeft task sources names = ⊥
 
 -- what a call answers that writes this of the program that sources are
 abbrev pub WritesTo : Task → List (List ℕ) → List (List ℕ) → Result (List ℕ) TranslateFault → Type 0
@@ -328,7 +308,6 @@ WritesTo task sources names (Err (Refused file line kind)) = IsRefusedAt sources
 WritesTo task sources names (Err (NoProgram file line kind)) = AreNoProgram sources names file line kind
 WritesTo task sources names (Err (InConflict file line words)) = AreChecked task sources names
 WritesTo task sources names (Err (NoTypes file line kind)) = AreChecked task sources names
-WritesTo task sources names (Err Unready) = IsLeft task sources names
 WritesTo task sources names (Err NoMemory) = Unit {0}
 
 -- what a call answers that gives the low-level program of modules
@@ -361,33 +340,32 @@ StopsLoading (AtFile file TooLong) names files = StopsAt (IsTooLong limit files)
 StopsLoading (Ended NoMem) names files = AllRead files
 StopsLoading work names files = ⊥
 
--- the work on files that stops before something is made: what is known of sources for which it is not there yet, and of those that are checked
-abbrev pub Stops : (List (List ℕ) → List (List ℕ) → Type 0) → (List (List ℕ) → List (List ℕ) → Type 0) → BuildWork → List (List ℕ) → Filed → Type 0
-Stops Left Checked (Ended status) names files = StopsLoading (Ended status) names files
-Stops Left Checked (AtFile file NotYet) names files = (file ≡ 0) × OfSources Left names files × AllRead files
-Stops Left Checked (AtFile file status) names files = StopsLoading (AtFile file status) names files
-Stops Left Checked (RefusedAt file line kind) names files = OfSources (λ sources modules. IsRefusedAt sources modules file line kind) names files × AllRead files
-Stops Left Checked (Conflicts file line words) names files = OfSources Checked names files × AllRead files
-Stops Left Checked (Untypable file line kind) names files = OfSources Checked names files × AllRead files
-Stops Left Checked (Misnamed file line kind) names files = OfSources (λ sources modules. AreNoProgram sources modules file line kind) names files × AllRead files
+-- the work on files that stops before something is made: what is known of sources that are checked
+abbrev pub Stops : (List (List ℕ) → List (List ℕ) → Type 0) → BuildWork → List (List ℕ) → Filed → Type 0
+Stops Checked (Ended status) names files = StopsLoading (Ended status) names files
+Stops Checked (AtFile file status) names files = StopsLoading (AtFile file status) names files
+Stops Checked (RefusedAt file line kind) names files = OfSources (λ sources modules. IsRefusedAt sources modules file line kind) names files × AllRead files
+Stops Checked (Conflicts file line words) names files = OfSources Checked names files × AllRead files
+Stops Checked (Untypable file line kind) names files = OfSources Checked names files × AllRead files
+Stops Checked (Misnamed file line kind) names files = OfSources (λ sources modules. AreNoProgram sources modules file line kind) names files × AllRead files
 
 -- the text that is made of files, of which there are at most 64
 abbrev pub MakesText : Task → Bool → Result (List ℕ) BuildWork → List (List ℕ) → Filed → Type 0
 MakesText task true (Ok text) names files = OfSources (λ sources modules. Writes task sources modules text) names files × AllRead files
-MakesText task true (Err work) names files = Stops (IsLeft task) (AreChecked task) work names files
+MakesText task true (Err work) names files = Stops (AreChecked task) work names files
 MakesText task false result names files = (result ≡ Err (Ended TooMany)) × AllRead files
 
 -- the low-level program
 abbrev pub MakesCode : Bool → Result LlProgram BuildWork → List (List ℕ) → Filed → Type 0
 MakesCode true (Ok typed) names files = OfSources HasProgram names files × AllRead files
-MakesCode true (Err work) names files = Stops HasProgram HasProgram work names files
+MakesCode true (Err work) names files = Stops HasProgram work names files
 MakesCode false result names files = (result ≡ Err (Ended TooMany)) × AllRead files
 
 -- when the work on files ends in each way
 abbrev pub BuildsTo : Task → BuildWork → List (List ℕ) → Filed → Sunk → Type 0
 BuildsTo task (Ended Done) names files out = OfSources (λ sources modules. (text : List ℕ) × Writes task sources modules text × Took out text) names files × AllRead files
 BuildsTo task (Ended WriteFault) names files out = OfSources (λ sources modules. (text : List ℕ) × Writes task sources modules text × TookPart out text) names files × AllRead files
-BuildsTo task work names files out = Stops (IsLeft task) (AreChecked task) work names files × IsQuiet out
+BuildsTo task work names files out = Stops (AreChecked task) work names files × IsQuiet out
 
 -- at most 64 files make a program
 abbrev pub Builds : Task → Bool → BuildWork → List (List ℕ) → Filed → Sunk → Type 0
@@ -422,7 +400,6 @@ line Usage file = usage_line
 line NoFile file = file ++ codes ": no such file\n"
 line NotRead file = file ++ codes ": not read\n"
 line TooLong file = file ++ codes ": too long\n"
-line NotYet file = file ++ codes ": not yet\n"
 line TooMany file = codes "too many files\n"
 line other file = []
 
@@ -489,7 +466,6 @@ untranslated (Refused file line kind) = RefusedAt file line kind
 untranslated (NoProgram file line kind) = Misnamed file line kind
 untranslated (InConflict file line words) = Conflicts file line words
 untranslated (NoTypes file line kind) = Untypable file line kind
-untranslated Unready = AtFile 0 NotYet
 untranslated NoMemory = Ended NoMem
 
 abbrev pub WritesFiles : Task → List (List ℕ) → List (List ℕ) → Result (List ℕ) BuildWork → Type 0

@@ -175,14 +175,9 @@ abbrev pub WorksRun : RunWork → RunWords → Filed → Sunk → List Seen → 
 WorksRun (Unmade work) words files out seen seen_now = MakesText Build (nat_le (length words.files) 64) (Err work) words.files files × IsQuiet out × (seen_now ≡ seen)
 WorksRun (OfText work) words files out seen seen_now = (text : List ℕ) × MakesText Build (nat_le (length words.files) 64) (Ok text) words.files files × RunsBytes work text words out seen seen_now
 
--- a text that is not read is said to be not there yet
-abbrev pub SaidUnread : CFault → Status → List (List ℕ) → Sunk → Type 0
-SaidUnread NoMemToRead answered files err = SaysNothing status.NoMem answered err
-SaidUnread why answered files err = Says status.NotYet answered (line status.NotYet (file_at files 0)) err
-
 abbrev pub SaidOfText : CWork → Status → RunWords → List Seen → Sunk → Type 0
 SaidOfText (Unread why) answered words seen err = Says why answered (line why (file_at words.files 0)) err
-SaidOfText (Refused why) answered words seen err = SaidUnread why answered words.files err
+SaidOfText (Refused why) answered words seen err = SaysNothing status.NoMem answered err
 SaidOfText Starved answered words seen err = SaysNothing status.NoMem answered err
 SaidOfText (Ran result) answered words seen err = SaidRan result answered words seen err
 

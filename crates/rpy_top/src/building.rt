@@ -94,7 +94,6 @@ pub fn untranslated(fault: TranslateFault) -> BuildWork
         TranslateFault::Name(file, line, kind) => BuildWork::Misnamed(file, line, kind),
         TranslateFault::Conflict(file, line, words) => BuildWork::Conflicts(file, line, words),
         TranslateFault::Typing(file, line, kind) => BuildWork::Untypable(file, line, kind),
-        TranslateFault::NotYet => BuildWork::AtFile(0, Status::NotYet),
         TranslateFault::NoMem => BuildWork::Ended(Status::NoMem),
     }
 }

@@ -53,7 +53,6 @@ fn line_of(alloc: Global, status: Status, file: &[u8]) -> Result<Text, NoMem>
         Status::NoFile => joined(alloc, file, b": no such file\n"),
         Status::NotRead => joined(alloc, file, b": not read\n"),
         Status::TooLong => joined(alloc, file, b": too long\n"),
-        Status::NotYet => joined(alloc, file, b": not yet\n"),
         Status::TooMany => Text::from_bytes(alloc, b"too many files\n"),
         Status::Done
         | Status::NotSource

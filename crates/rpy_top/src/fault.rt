@@ -23,9 +23,6 @@ pub enum TranslateFault {
     /// The program has an annotation, but no types.
     #[error("source {0}, line {1}: {2:?}")]
     Typing(u32, u32, TypeKind),
-    /// The program is not among those that are translated so far.
-    #[error("not yet")]
-    NotYet,
     #[error("out of memory")]
     NoMem,
 }
@@ -50,7 +47,8 @@ pub fn front_fault(fault: rpy_first::TranslateFault) -> TranslateFault
             TranslateFault::Source(file, line, kind)
         }
         rpy_first::TranslateFault::Name(file, line, kind) => TranslateFault::Name(file, line, kind),
-        rpy_first::TranslateFault::NotYet => TranslateFault::NotYet,
+        // Modules are read whatever their path.
+        rpy_first::TranslateFault::NotFirst => TranslateFault::NoMem,
         rpy_first::TranslateFault::NoMem => TranslateFault::NoMem,
     }
 }

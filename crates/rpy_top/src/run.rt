@@ -11,7 +11,6 @@ use crate::edge::say;
 use crate::job::Task;
 use crate::status::Status;
 use crate::words::RunAsked;
-use csub_reader::CFault;
 use rpy_base::{Files, HeapWatch, Sink, Text};
 use std::alloc::Global;
 
@@ -42,18 +41,6 @@ fn work_of<F: Files, K: Sink>(
     }
 }
 
-// What is said where the program's own text is refused: that it is not there yet.
-fn say_refused<E: Sink>(alloc: Global, why: CFault, files: &[Text], err: &mut E) -> Status
-    ensures { spec.SaidUnread why result files.now (sunk E.faults E.taken err.old err.new) }
-{
-    match why {
-        CFault::NoMem => Status::NoMem,
-        CFault::NotText(_) | CFault::NotChecked(_) => {
-            say(alloc, Status::NotYet, file_at(files, 0), err)
-        }
-    }
-}
-
 fn say_of_text<E: Sink>(
     alloc: Global,
     work: &CWork,
@@ -65,8 +52,8 @@ fn say_of_text<E: Sink>(
 {
     match work {
         CWork::Unread(why) => say(alloc, *why, file_at(asked.files, 0), err),
-        CWork::Refused(why) => say_refused(alloc, *why, asked.files, err),
-        CWork::Starved => Status::NoMem,
+        // No text that is written here is known to be refused.
+        CWork::Refused(_) | CWork::Starved => Status::NoMem,
         CWork::Ran(ran) => say_ran(alloc, ran, asked, watch, err),
     }
 }

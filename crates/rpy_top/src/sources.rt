@@ -44,7 +44,7 @@ fn only_body(alloc: Global, modules: &[Named]) -> Result<Body, FrontFault>
 {
     match modules {
         [one] => first_path(alloc, &one.module),
-        _ => Err(FrontFault::NotYet),
+        _ => Err(FrontFault::NotFirst),
     }
 }
 
@@ -53,10 +53,10 @@ fn compiled(alloc: Global, program: &Program) -> Result<Text, TranslateFault>
     ensures { CompilesProgram result }
 {
     match check(alloc, program) {
-        Ok(checked) => match compile(alloc, program, &checked)? {
-            Some(file) => Ok(write_c(alloc, &file)?),
-            None => Err(TranslateFault::NotYet),
-        },
+        Ok(checked) => {
+            let file = compile(alloc, program, &checked)?;
+            Ok(write_c(alloc, &file)?)
+        }
         Err(fault) => Err(check_fault(fault)),
     }
 }
@@ -72,7 +72,7 @@ fn build(
 {
     match found {
         Ok(body) => Ok(write_program(alloc, name, &body)?),
-        Err(FrontFault::NotYet) => compiled(alloc, program),
+        Err(FrontFault::NotFirst) => compiled(alloc, program),
         Err(_) => Err(TranslateFault::NoMem),
     }
 }
@@ -171,10 +171,7 @@ fn lower_program(alloc: Global, program: &Program) -> Result<LlProgram, Translat
     ensures { LowersProgram result }
 {
     match check(alloc, program) {
-        Ok(checked) => match low_level(alloc, program, &checked)? {
-            Some(typed) => Ok(typed),
-            None => Err(TranslateFault::NotYet),
-        },
+        Ok(checked) => Ok(low_level(alloc, program, &checked)?),
         Err(fault) => Err(check_fault(fault)),
     }
 }

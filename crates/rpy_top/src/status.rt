@@ -22,7 +22,6 @@ pub enum Status {
     WorkSpent,
     TooLong,
     TooMany,
-    NotYet,
 }
 
 impl Status {
@@ -47,7 +46,6 @@ impl Status {
             Status::NoMem => 13,
             Status::WorkSpent => 14,
             Status::TooLong | Status::TooMany => 15,
-            Status::NotYet => 16,
         }
     }
 }

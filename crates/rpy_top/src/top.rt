@@ -85,8 +85,7 @@ pub fn rpyc<F: Files, K: Sink, E: Sink>(
 
 /// The C text of sources, each with its module's name: a translation of the program that they
 /// are. `Source` and `Name` tell the first source that is no module, or why the modules make no
-/// program, `Conflict` and `Typing` why it is refused by its checks, and `NotYet` that it is not among
-/// those that are translated so far.
+/// program, `Conflict` and `Typing` why it is refused by its checks.
 pub fn translate(
     alloc: Global,
     sources: &Seq<Text>,

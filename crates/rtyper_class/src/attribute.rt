@@ -45,7 +45,6 @@ pub fn push_read(
 ) -> Result<(), NoMem> {
     let x = present(alloc, around, a, or_none, found, body)?;
     let Some(at) = place_in(around, class, name) else {
-        found.unknown = true;
         return Ok(());
     };
     match repr(around.layout, at.element) {
@@ -74,7 +73,6 @@ pub fn push_store(
 ) -> Result<(), NoMem> {
     let x = present(alloc, around, a, or_none, found, body)?;
     let Some(at) = place_in(around, class, name) else {
-        found.unknown = true;
         return Ok(());
     };
     let to = repr(around.layout, at.element);

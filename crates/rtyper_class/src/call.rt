@@ -74,10 +74,7 @@ pub fn push_call_value(
 ) -> Result<(), NoMem> {
     let x = present(alloc, around, a, or_none, found, body)?;
     match functions {
-        [] => {
-            found.unknown = true;
-            Ok(())
-        }
+        [] => Ok(()),
         [function] => push_call(alloc, around, place, *function, args, found, body),
         [like, ..] => {
             let value = variable_of(x, LlType::Fn, body)?;
@@ -190,10 +187,7 @@ pub fn push_method(
         all.push(*operand)?;
     }
     match reached_by(around, class, name) {
-        Reached::Nothing => {
-            found.unknown = true;
-            Ok(())
-        }
+        Reached::Nothing => Ok(()),
         Reached::One(function) => push_call(alloc, around, place, function, &all, found, body),
         Reached::Several(like) => {
             let instance = variable_of(x, around.type_of(*a), body)?;
@@ -265,7 +259,6 @@ pub fn push_new(
     body: &mut Body,
 ) -> Result<(), NoMem> {
     let Some(laid) = around.layout.laid(class) else {
-        found.unknown = true;
         return Ok(());
     };
     if class < BUILTIN_CLASSES {

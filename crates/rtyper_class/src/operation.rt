@@ -56,7 +56,6 @@ fn push_is_instance(
     body: &mut Body,
 ) -> Result<(), NoMem> {
     let Some(laid) = around.layout.laid(class) else {
-        found.unknown = true;
         return Ok(());
     };
     let (low, high) = around.classes.range(of);
@@ -78,12 +77,7 @@ fn push_attribute(
         Some((class, or_none)) => {
             push_read(alloc, around, place, name, a, class, or_none, found, body)
         }
-        None => {
-            if !is_none(a) {
-                found.unknown = true;
-            }
-            push_failure(alloc, around, place, found, body)
-        }
+        None => push_failure(alloc, around, place, found, body),
     }
 }
 
@@ -103,12 +97,7 @@ fn push_set_attribute(
                 alloc, around, place, name, a, b, class, or_none, found, body,
             )
         }
-        None => {
-            if !is_none(a) {
-                found.unknown = true;
-            }
-            push_failure(alloc, around, place, found, body)
-        }
+        None => push_failure(alloc, around, place, found, body),
     }
 }
 
@@ -129,12 +118,7 @@ fn push_value_call(
                 alloc, around, place, *a, functions, or_none, rest, found, body,
             )
         }
-        None => {
-            if !is_none(*a) {
-                found.unknown = true;
-            }
-            push_failure(alloc, around, place, found, body)
-        }
+        None => push_failure(alloc, around, place, found, body),
     }
 }
 

@@ -59,15 +59,6 @@ pub fn arguments(
     Ok(xs)
 }
 
-// Values of other kinds are given to no function yet.
-fn note_unknown(args: &[Operand<'_>], found: &mut Found) {
-    for operand in args {
-        if kind_seen(operand.element) == Kind::Other {
-            found.unknown = true;
-        }
-    }
-}
-
 /// A call of a function.
 pub fn push_call(
     alloc: Global,
@@ -78,7 +69,6 @@ pub fn push_call(
     found: &mut Found,
     body: &mut Body,
 ) -> Result<(), NoMem> {
-    note_unknown(args, found);
     let at = function as usize;
     let number = match around.numbers.get(at) {
         None => 0,

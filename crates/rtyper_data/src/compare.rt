@@ -101,7 +101,6 @@ fn pointers_equal(
     if layout.is_tuple(m) && layout.is_tuple(n) {
         return by_small(alloc, Small::Equal(m, n), LlType::Bool, [x, y], found, body);
     }
-    found.unknown = true;
     Ok(flag(false))
 }
 
@@ -129,10 +128,7 @@ pub fn equal(
         (LlType::Ptr(m), LlType::Ptr(n)) => {
             pointers_equal(alloc, layout, x, m, y, n, found, body)
         }
-        _ => {
-            found.unknown = true;
-            Ok(flag(false))
-        }
+        _ => Ok(flag(false)),
     }
 }
 
@@ -173,10 +169,7 @@ fn same_pointer(
             }
             both_null(a.x, b.x, body)
         }
-        _ => {
-            found.unknown = true;
-            Ok(flag(false))
-        }
+        _ => Ok(flag(false)),
     }
 }
 
@@ -247,7 +240,6 @@ fn ordered(
             if is_text(s) && is_text(t) {
                 return texts_less(alloc, around, op, a, b, found, body);
             }
-            found.unknown = true;
             Ok(flag(false))
         }
     }
@@ -324,20 +316,14 @@ fn within(
 ) -> Result<COperand, NoMem> {
     match (kind_seen(a.element), kind_seen(b.element)) {
         (Kind::Byte, Kind::Byte) => of_bytes(CBinary::Eq, a.x, b.x, body),
-        (s, Kind::Tuple) => match around.type_of(b) {
-            LlType::Ptr(n) => {
-                if s == Kind::Other {
-                    found.unknown = true;
-                }
-                within_tuple(alloc, around, a, b.x, n, found, body)
-            }
+        (_, Kind::Tuple) => match around.type_of(b) {
+            LlType::Ptr(n) => within_tuple(alloc, around, a, b.x, n, found, body),
             _ => Ok(flag(false)),
         },
         (s, t) => {
             if is_text(s) && is_text_or_none(t) {
                 return within_text(alloc, around, a, b, found, body);
             }
-            found.unknown = true;
             Ok(flag(false))
         }
     }

@@ -22,7 +22,6 @@ pub struct Found {
     pub prebuilt: Seq<(SiteId, u64)>,
     pub smalls: Seq<Small>,
     pub first_small: u64,
-    pub unknown: bool,
 }
 
 impl Found {
@@ -36,7 +35,6 @@ impl Found {
             prebuilt: Seq::new(alloc),
             smalls: Seq::new(alloc),
             first_small: 0,
-            unknown: false,
         }
     }
 
@@ -56,7 +54,6 @@ impl Found {
             prebuilt: Seq::new(alloc),
             smalls: Seq::new(alloc),
             first_small,
-            unknown: false,
         }
     }
 }

@@ -124,10 +124,7 @@ pub fn push_to_int(
             let number = by_small(alloc, Small::IntOfText, word, [x], found, body)?;
             give(alloc, around, place, number, word, found, body)
         }
-        _ => {
-            found.unknown = true;
-            Ok(())
-        }
+        _ => Ok(()),
     }
 }
 

@@ -33,11 +33,6 @@ fn is_never(args: &[Operand<'_>]) -> bool {
     false
 }
 
-fn push_unknown(found: &mut Found) -> Result<(), NoMem> {
-    found.unknown = true;
-    Ok(())
-}
-
 // The value as it is.
 fn push_same(
     alloc: Global,
@@ -47,9 +42,6 @@ fn push_same(
     found: &mut Found,
     body: &mut Body,
 ) -> Result<(), NoMem> {
-    if kind_seen(a.element) == Kind::Other {
-        found.unknown = true;
-    }
     let from = around.type_of(a);
     give(alloc, around, place, a.x, from, found, body)
 }
@@ -78,10 +70,7 @@ fn push_constant(
     body: &mut Body,
 ) -> Result<(), NoMem> {
     match around.type_at(place) {
-        LlType::Void => {
-            found.unknown = true;
-            Ok(())
-        }
+        LlType::Void => Ok(()),
         to => {
             let x = constant_of(alloc, around, constant, to, found)?;
             body.ops.push(LlOp::Set(place.variable, COperand::Const(x)))
@@ -126,7 +115,7 @@ fn push_literal(
             body.ops.push(LlOp::Step(word(1)))?;
             give_nothing(around, place, body)
         }
-        _ => push_unknown(found),
+        _ => Ok(()),
     }
 }
 
@@ -170,7 +159,7 @@ fn push_conversion(
         (RowOp::IsInstance(_), Kind::Nothing) => {
             give(alloc, around, place, flag(false), LlType::Bool, found, body)
         }
-        _ => push_unknown(found),
+        _ => Ok(()),
     }
 }
 
@@ -183,7 +172,7 @@ fn push_all_but_last(
     body: &mut Body,
 ) -> Result<(), NoMem> {
     if !is_text_or_none(kind_seen(a.element)) {
-        return push_unknown(found);
+        return Ok(());
     }
     let text = LlType::Ptr(0);
     push_of_text(
@@ -217,7 +206,7 @@ fn push_one(
         RowOp::Walk(_) => push_walk(alloc, around, place, a, found, body),
         RowOp::Unpack(_, i) => match kind_seen(a.element) {
             Kind::Tuple => push_item(alloc, around, place, a, *i as u64, found, body),
-            _ => push_unknown(found),
+            _ => Ok(()),
         },
         _ => push_conversion(alloc, around, place, op, a, found, body),
     }
@@ -242,7 +231,7 @@ fn push_binary_of(
             (Kind::Word, Kind::Word) => {
                 push_binary(alloc, around, place, op, a.x, b.x, found, body)
             }
-            _ => push_unknown(found),
+            _ => Ok(()),
         },
     }
 }
@@ -263,7 +252,7 @@ fn push_least(
             let xs = [a.x, b.x];
             give_helped(alloc, around, place, helper, number, xs, found, body)
         }
-        _ => push_unknown(found),
+        _ => Ok(()),
     }
 }
 
@@ -321,7 +310,7 @@ fn push_two(
         RowOp::Advance(step) => push_advance(alloc, around, place, *step, a, b, found, body),
         RowOp::NonNegative => push_same(alloc, around, place, a, found, body),
         RowOp::Checked(of) => push_checked(alloc, around, place, *of, a, b, found, body),
-        _ => push_unknown(found),
+        _ => Ok(()),
     }
 }
 
@@ -342,10 +331,7 @@ fn push_method_of(
             return push_failure(alloc, around, place, found, body);
         }
     }
-    if push_method(alloc, around, place, name, args, found, body)? {
-        return Ok(());
-    }
-    push_unknown(found)
+    push_method(alloc, around, place, name, args, found, body)
 }
 
 fn push_some(
@@ -361,11 +347,11 @@ fn push_some(
         [] => push_literal(alloc, around, place, op, found, body),
         [a] => push_one(alloc, around, place, op, *a, found, body),
         [a, b] => push_two(alloc, around, place, op, *a, *b, found, body),
-        _ => push_unknown(found),
+        _ => Ok(()),
     }
 }
 
-/// The low-level operations of an operation. What has no lowering is noted.
+/// The low-level operations of an operation. Operands that no accepted program has give none.
 pub fn lower_op(
     alloc: Global,
     around: Around<'_>,

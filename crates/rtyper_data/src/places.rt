@@ -33,7 +33,6 @@ pub fn push_index(
         }
         _ => {
             if !is_text_or_none(kind) {
-                found.unknown = true;
                 return Ok(());
             }
             let helper = Helper::StrIndex;
@@ -60,7 +59,6 @@ pub fn push_len(
         },
         kind => {
             if !is_text_or_none(kind) {
-                found.unknown = true;
                 return Ok(());
             }
             push_of_text(alloc, around, place, Helper::StrLen, gives, a, found, body)
@@ -82,7 +80,6 @@ pub fn push_walk(
         return give(alloc, around, place, a.x, LlType::Char, found, body);
     }
     if !is_text_or_none(kind) {
-        found.unknown = true;
         return give_nothing(around, place, body);
     }
     push_of_text(alloc, around, place, Helper::StrWalk, TEXT, a, found, body)
@@ -103,7 +100,6 @@ pub fn push_has_item(
         Some(step) => push_range_has(alloc, around, place, step, a.x, b.x, found, body),
         None => {
             if !is_text_or_none(kind_seen(a.element)) {
-                found.unknown = true;
                 return give_nothing(around, place, body);
             }
             let helper = Helper::StrHasItem;
@@ -128,7 +124,6 @@ pub fn push_walk_item(
         Some(_) => give(alloc, around, place, b.x, LlType::Signed, found, body),
         None => {
             if !is_text_or_none(kind_seen(a.element)) {
-                found.unknown = true;
                 return give_nothing(around, place, body);
             }
             let helper = Helper::StrItem;
@@ -177,7 +172,6 @@ pub fn push_sum(
         return give_binary(alloc, around, place, add, gives, a.x, b.x, found, body);
     }
     if !is_text_or_none(s) || !is_text_or_none(t) {
-        found.unknown = true;
         return Ok(());
     }
     let helper = Helper::StrAdd;
@@ -200,7 +194,6 @@ pub fn push_product(
         return give_binary(alloc, around, place, mul, gives, a.x, b.x, found, body);
     }
     if !is_text_or_none(s) {
-        found.unknown = true;
         return Ok(());
     }
     push_of_text_and_word(

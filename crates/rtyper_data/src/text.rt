@@ -71,10 +71,7 @@ pub fn truth_of(
             }
             _ => Ok(Test::Known(true)),
         },
-        Kind::Tuple | Kind::Other => {
-            found.unknown = true;
-            Ok(Test::Known(true))
-        }
+        Kind::Tuple | Kind::Other => Ok(Test::Known(true)),
     }
 }
 
@@ -133,10 +130,7 @@ fn push_put(
             body.ops.push(LlOp::Put(COperand::Var(v)))
         }
         Kind::Text => push_call(alloc, Helper::PrintStr, a.x, found, body),
-        _ => {
-            found.unknown = true;
-            Ok(())
-        }
+        _ => Ok(()),
     }
 }
 
@@ -194,10 +188,7 @@ pub fn push_to_str(
         }
         Kind::Byte => give(alloc, around, place, a.x, LlType::Char, found, body),
         Kind::Text => give(alloc, around, place, a.x, TEXT, found, body),
-        _ => {
-            found.unknown = true;
-            Ok(())
-        }
+        _ => Ok(()),
     }
 }
 
@@ -275,7 +266,6 @@ pub fn push_slice(
 ) -> Result<(), NoMem> {
     let a = operand_at(args, 0);
     if !is_text_or_none(kind_seen(a.element)) {
-        found.unknown = true;
         return Ok(());
     }
     let (from, to) = bounds(low, high, args);
@@ -351,16 +341,13 @@ fn push_text_method(
     b: Operand<'_>,
     found: &mut Found,
     body: &mut Body,
-) -> Result<bool, NoMem> {
-    match of_texts(name) {
-        Some((helper, gives)) => {
-            if !is_text_or_none(kind_seen(a.element)) || !is_text(kind_seen(b.element)) {
-                return Ok(false);
-            }
-            push_of_texts(alloc, around, place, helper, gives, a, b, found, body)?;
-            Ok(true)
+) -> Result<(), NoMem> {
+    let are_texts = is_text_or_none(kind_seen(a.element)) && is_text(kind_seen(b.element));
+    match (of_texts(name), are_texts) {
+        (Some((helper, gives)), true) => {
+            push_of_texts(alloc, around, place, helper, gives, a, b, found, body)
         }
-        None => Ok(false),
+        _ => Ok(()),
     }
 }
 
@@ -372,17 +359,16 @@ fn push_strip(
     a: Operand<'_>,
     found: &mut Found,
     body: &mut Body,
-) -> Result<bool, NoMem> {
+) -> Result<(), NoMem> {
     match (name, is_text_or_none(kind_seen(a.element))) {
         (b"strip", true) => {
-            push_of_text(alloc, around, place, Helper::StrStrip, TEXT, a, found, body)?;
-            Ok(true)
+            push_of_text(alloc, around, place, Helper::StrStrip, TEXT, a, found, body)
         }
-        _ => Ok(false),
+        _ => Ok(()),
     }
 }
 
-/// A method of a string; whether it is one.
+/// A method of a string.
 pub fn push_method(
     alloc: Global,
     around: Around<'_>,
@@ -391,16 +377,16 @@ pub fn push_method(
     args: &[Operand<'_>],
     found: &mut Found,
     body: &mut Body,
-) -> Result<bool, NoMem> {
+) -> Result<(), NoMem> {
     match args {
         [a] => {
             if push_byte_method(alloc, around, place, name, *a, found, body)? {
-                return Ok(true);
+                return Ok(());
             }
             push_strip(alloc, around, place, name, *a, found, body)
         }
         [a, b] => push_text_method(alloc, around, place, name, *a, *b, found, body),
-        _ => Ok(false),
+        _ => Ok(()),
     }
 }
 
@@ -414,7 +400,6 @@ pub fn push_write(
     body: &mut Body,
 ) -> Result<(), NoMem> {
     if !is_text(kind_seen(a.element)) {
-        found.unknown = true;
         return give_nothing(around, place, body);
     }
     let word = LlType::Signed;

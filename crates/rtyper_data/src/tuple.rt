@@ -66,7 +66,6 @@ pub fn push_tuple(
     match around.type_at(place) {
         LlType::Ptr(n) => {
             if !around.layout.is_tuple(n) {
-                found.unknown = true;
                 return Ok(());
             }
             let tuple = made(alloc, around, n, args, found, body)?;

@@ -335,13 +335,8 @@ fn push_method(
             let keyed = Keyed::Items(m.dict, list);
             push_list(alloc, around, place, keyed, *a, found, body)
         }
-        _ => push_unknown(found),
+        _ => Ok(()),
     }
-}
-
-fn push_unknown(found: &mut Found) -> Result<(), NoMem> {
-    found.unknown = true;
-    Ok(())
 }
 
 // ---- which operation
@@ -371,7 +366,7 @@ fn push_first(
         (RowOp::Method(name, _), _) => {
             push_method(alloc, around, place, m, name.bytes(), args, found, body)
         }
-        _ => push_unknown(found),
+        _ => Ok(()),
     }
 }
 
@@ -414,6 +409,6 @@ pub fn lower_dict_op(
             None => push_failure(alloc, around, place, found, body),
             Some(m) => push_first(alloc, around, op, place, m, args, found, body),
         },
-        _ => push_unknown(found),
+        _ => Ok(()),
     }
 }

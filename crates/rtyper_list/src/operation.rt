@@ -585,10 +585,7 @@ fn push_method(
             )?;
             give_nothing(around, place, body)
         }
-        _ => {
-            found.unknown = true;
-            Ok(())
-        }
+        _ => Ok(()),
     }
 }
 

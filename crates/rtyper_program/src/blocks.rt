@@ -1,5 +1,5 @@
 // The blocks of a graph. They keep their numbers, and variables keep theirs.
-use crate::exits::{is_exit_known, is_op_known, is_uncaught};
+use crate::exits::is_uncaught;
 use crate::handlers::{Extra, on_raise};
 use crate::known::{Known, element_at, is_block_reached};
 use csub_tree::COperand;
@@ -206,9 +206,6 @@ fn exit_of(
     body: &mut Body,
     extra: &mut Extra,
 ) -> Result<LlExit, NoMem> {
-    if !is_exit_known(lowered.known.annotation, lowered.number, exit) {
-        found.unknown = true;
-    }
     match exit {
         Exit::Goto(link) => Ok(LlExit::Goto(link_of(alloc, lowered, link, None, found, body)?)),
         Exit::If(v, there, elsewhere) => {
@@ -239,9 +236,6 @@ fn push_op(
     found: &mut Found,
     body: &mut Body,
 ) -> Result<(), NoMem> {
-    if !is_op_known(lowered.known.annotation, lowered.number, op) {
-        found.unknown = true;
-    }
     let mut args = Vec::new(alloc);
     for v in op.args.as_slice() {
         args.push(operand_of(lowered, *v))?;

@@ -1,17 +1,5 @@
-// What has no lowering: a conflict, which no program that is accepted has.
-use crate::known::variable_kind;
-use ann_element::Annotation;
-use flow_graph::{Exit, Graph, Link, Op};
-use rtyper_layout::Kind;
-
-fn is_plain(kind: Kind) -> bool {
-    kind != Kind::Other
-}
-
-/// Whether an operation may have a lowering, as far as its result says.
-pub fn is_op_known(annotation: &Annotation, graph: usize, op: &Op) -> bool {
-    is_plain(variable_kind(annotation, graph, op.result))
-}
+// Which exceptions leave a graph.
+use flow_graph::{Exit, Graph, Link};
 
 /// Whether exceptions leave the graph from where they are raised.
 pub fn is_uncaught(graph: &Graph, by: &Option<Link>) -> bool {
@@ -26,16 +14,5 @@ pub fn is_uncaught(graph: &Graph, by: &Option<Link>) -> bool {
                 }
             },
         },
-    }
-}
-
-/// Whether an exit has a lowering.
-pub fn is_exit_known(annotation: &Annotation, number: usize, exit: &Exit) -> bool {
-    match exit {
-        Exit::Goto(_) => true,
-        Exit::If(v, _, _) => is_plain(variable_kind(annotation, number, *v)),
-        Exit::OnRaise(_, _, _, _) => true,
-        Exit::Return(v) => is_plain(variable_kind(annotation, number, *v)),
-        Exit::Raise(_) => true,
     }
 }

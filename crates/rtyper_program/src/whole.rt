@@ -182,21 +182,16 @@ fn program_of(
 
 /// A program as a low-level program of the stage `Raw`: the helpers, the functions that are reached,
 /// each under its name, small graphs, and the entry. The graphs are the flow graphs of the program's
-/// functions in their order, and classes and annotation are theirs. `None` where something has no
-/// lowering.
+/// functions in their order, and classes and annotation are theirs.
 pub fn rtype(
     alloc: Global,
     program: &Resolved,
     graphs: &flow_graph::Graphs,
     annotation: &Annotation,
     classes: &Classes,
-) -> Result<Option<LlProgram>, NoMem> {
+) -> Result<LlProgram, NoMem> {
     let known = Known::new(program, graphs, annotation);
     let layout = Layout::new(alloc, program, classes, annotation, raises(known))?;
     let found = found_in(alloc, known, classes, &layout)?;
-    if found.unknown {
-        return Ok(None);
-    }
-    let typed = program_of(alloc, known, classes, &layout, found.needs, found.caught)?;
-    Ok(Some(typed))
+    program_of(alloc, known, classes, &layout, found.needs, found.caught)
 }

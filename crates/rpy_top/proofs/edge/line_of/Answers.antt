@@ -8,6 +8,3 @@ returns-in-NotRead c = rw c.in-NotRead.is c.joined-in-NotRead.ensures
 
 pub returns-in-TooLong : goal.returns-in-TooLong
 returns-in-TooLong c = rw c.in-TooLong.is c.joined-in-TooLong.ensures
-
-pub returns-in-NotYet : goal.returns-in-NotYet
-returns-in-NotYet c = rw c.in-NotYet.is c.joined-in-NotYet.ensures

@@ -1,0 +1,6 @@
+pub mod Facts
+pub mod Called
+pub mod Asked
+pub mod Flows
+pub mod Mono
+mod Rows

@@ -1,0 +1,4 @@
+pub mod Program
+pub mod Asks
+pub mod Rules
+pub mod Hold

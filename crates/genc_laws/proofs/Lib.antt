@@ -1,0 +1,14 @@
+pub mod Calls
+pub mod Kept
+pub mod KeptStatics
+pub mod Leading
+pub mod Links
+pub mod Memory
+pub mod Operations
+pub mod Places
+pub mod Rows
+pub mod Rules
+pub mod Statics
+pub mod Steps
+pub mod Values
+pub mod Whole
