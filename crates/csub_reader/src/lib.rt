@@ -12,6 +12,3 @@ mod statements;
 
 pub use fault::CFault;
 pub use read::{read_c, read_text};
-
-#[cfg(test)]
-mod tests;

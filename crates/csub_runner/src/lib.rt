@@ -22,8 +22,3 @@ mod val;
 
 pub use csub_tree::StuckReason;
 pub use run::{CRan, RunFault, run_c};
-
-#[cfg(test)]
-mod tests;
-#[cfg(test)]
-mod watch_tests;

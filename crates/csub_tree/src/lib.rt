@@ -11,6 +11,3 @@ pub use tree::{
     CBinary, CCell, CConst, CFile, CFunction, COperand, CPrototype, CStatic, CStmt, CStruct, CType,
     CUnary,
 };
-
-#[cfg(test)]
-mod tests;

@@ -23,6 +23,4 @@ pub use sink::{MemSink, PutError, Sink};
 pub use text::Text;
 pub use watch::{HeapWatch, Leaks, Tally, pair_of, tell_gone, tell_made};
 
-#[cfg(test)]
-mod tests;
 pub mod word;

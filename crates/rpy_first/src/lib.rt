@@ -12,8 +12,3 @@ pub use body::{Arith, Body, Line, Sum};
 pub use fault::{NameKind, SourceKind, TranslateFault};
 pub use reader::first_path;
 pub use source::{line_at, read_module, refusal};
-
-#[cfg(test)]
-mod show;
-#[cfg(test)]
-mod tests;

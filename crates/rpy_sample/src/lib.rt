@@ -4,6 +4,3 @@
 mod sample;
 
 pub use sample::sample_text;
-
-#[cfg(test)]
-mod tests;

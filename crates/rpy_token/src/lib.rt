@@ -51,6 +51,3 @@ pub use fault::{LimitKind, TokenFault};
 pub use lines::line_of;
 pub use scan::{one_reading, tokens};
 pub use token::{Keyword, Sign, Token, TokenKind, Tokens};
-
-#[cfg(test)]
-mod tests;

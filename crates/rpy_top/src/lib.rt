@@ -24,16 +24,3 @@ pub use rpy_first::{NameKind, SourceKind};
 pub use rpy_front::{LIMIT, are_short};
 pub use top::{rpyc, translate};
 pub use words::{Command, RunWords, WordsFault, are_module_names, read_words};
-
-#[cfg(test)]
-mod hostile_tests;
-#[cfg(test)]
-mod program_tests;
-#[cfg(test)]
-mod run_tests;
-#[cfg(test)]
-mod tests;
-#[cfg(test)]
-mod text_tests;
-#[cfg(test)]
-mod worked_tests;

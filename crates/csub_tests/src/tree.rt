@@ -1,5 +1,5 @@
 // Files that break one rule each, with the number of the declaration.
-use crate::*;
+use csub_tree::*;
 use rpy_base::{NoMem, Seq, Text};
 use std::alloc::Global;
 use std::test::Fail;

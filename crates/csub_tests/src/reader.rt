@@ -1,5 +1,5 @@
 // What is read, and where a text is refused: the contracts say only that what is read is spelled so.
-use crate::{CFault, read_c, read_text};
+use csub_reader::{CFault, read_c, read_text};
 use genc_writer::write_c;
 use rpy_base::{NoMem, Text};
 use std::alloc::Global;

@@ -1,5 +1,5 @@
 // The sizes of two samples, and one sample whole.
-use super::*;
+use rpy_sample::sample_text;
 use std::test::Fail;
 
 #[test]

@@ -1,4 +1,4 @@
-use super::*;
+use csub_runner::*;
 use csub_tree::{CBinary, CConst, CFile, CFunction, COperand, CPrototype, CStmt, CStruct, CType};
 use rpy_base::{MemSink, NoMem, Seq, Sink, Text};
 use std::alloc::Global;

@@ -1,9 +1,9 @@
 // Whole calls that run C files in memory.
 ghost use Rattle.std.specs.Prelude.{◌≡◌, ◌≤◌};
 
-use crate::rpyc;
-use crate::tests::{files_of, words_of};
+use crate::whole::{files_of, words_of};
 use rpy_base::{HeapWatch, Leaks, MemSink, NoMem, Tally, Text, pair_of};
+use rpy_top::rpyc;
 use std::alloc::Global;
 use std::test::Fail;
 

@@ -1,6 +1,6 @@
 // Sources, with their tokens and faults worked out by hand.
-use crate::{LimitKind, TokenFault, TokenKind, Tokens, line_of, tokens};
 use rpy_base::Text;
+use rpy_token::{LimitKind, TokenFault, TokenKind, Tokens, line_of, tokens};
 use std::alloc::{AllocError, Global};
 use std::fmt::Write;
 use std::test::Fail;

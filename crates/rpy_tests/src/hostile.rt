@@ -1,9 +1,9 @@
 // Whole calls on broken sources and C texts, failing files and sinks, and watchers.
-use crate::rpyc;
-use crate::run_tests::Refuses;
-use crate::tests::{files_of, words_of};
-use crate::worked_tests::{CHAIN, PROGRAM, STACK, TURNS, told};
+use crate::run::Refuses;
+use crate::whole::{files_of, words_of};
+use crate::worked::{CHAIN, PROGRAM, STACK, TURNS, told};
 use rpy_base::{HeapWatch, Leaks, MemSink, NoMem, Tally, Text, pair_of};
+use rpy_top::rpyc;
 use std::alloc::Global;
 use std::test::Fail;
 

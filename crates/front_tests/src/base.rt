@@ -1,6 +1,6 @@
 // Values from outside: worked sums, texts of numbers, and files, sinks and watchers in memory.
-use crate::word::*;
-use crate::*;
+use rpy_base::word::*;
+use rpy_base::*;
 use std::test::Fail;
 
 #[test]

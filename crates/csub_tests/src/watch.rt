@@ -2,8 +2,8 @@
 ghost use Rattle.std.specs.Prelude.{◌≡◌, ◌≤◌, IfOk, All, map};
 ghost use Rattle.rpy_base.specs.Watching.{IsFresh};
 
-use crate::tests::{file_of, no_args, three_blocks, word};
-use crate::{RunFault, run_c};
+use crate::runner::{file_of, no_args, three_blocks, word};
+use csub_runner::{RunFault, run_c};
 use csub_tree::{CBinary, CConst, CFile, COperand, CStmt, CType};
 use rpy_base::{HeapWatch, Leaks, MemSink, NoMem, Outcome, Seq, Sink, Tally, Text, pair_of};
 use std::alloc::Global;

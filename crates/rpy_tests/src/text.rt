@@ -1,5 +1,5 @@
 // Whole calls on every operation on strings, characters and tuples, a line of the table for each.
-use crate::program_tests::run_of;
+use crate::program::run_of;
 use std::test::Fail;
 
 // A program up to what it prints, and behind that.

@@ -1,8 +1,8 @@
 // Whole calls on worked programs: lists, dicts, arguments, and how many steps they take.
-use crate::program_tests::run_of;
-use crate::rpyc;
-use crate::tests::{files_of, words_of};
+use crate::program::run_of;
+use crate::whole::{files_of, words_of};
 use rpy_base::{HeapWatch, Leaks, MemSink, NoMem, Tally, Text, pair_of};
+use rpy_top::rpyc;
 use std::alloc::Global;
 use std::test::Fail;
 

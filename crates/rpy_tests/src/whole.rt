@@ -1,6 +1,6 @@
 // Whole calls over files and sinks in memory.
-use crate::{are_module_names, are_short, rpyc, translate};
 use rpy_base::{HeapWatch, Leaks, MemFiles, MemSink, NoMem, Seq, Tally, Text, pair_of};
+use rpy_top::{are_module_names, are_short, rpyc, translate};
 use std::alloc::Global;
 use std::test::Fail;
 
