@@ -1,9 +1,11 @@
 // Kinds of elements, as the lines of the table name them.
-ghost use Rattle.std.specs.Prelude.{◌≡◌, Some, None};
+ghost use Rattle.std.specs.Prelude.{◌≡◌, [], ◌∷◌, map, Some, None, IfOk};
 ghost use Rattle.ann_lattice.specs.Shape.{Truth, shape};
 ghost use Rattle.ann_lattice.specs.Kind as spec;
 
 use ann_element::Element;
+use rpy_base::{NoMem, Seq};
+use std::alloc::Global;
 
 /// What no line of the table fits.
 pub fn conflict() -> Element
@@ -124,4 +126,23 @@ pub fn bool_if(fits: bool) -> Element
     ensures { shape result ≡ spec.given fits (Truth None) }
 {
     if fits { Element::Bool } else { conflict() }
+}
+
+// ---- what an operation asks its result to be above
+
+pub fn single(alloc: Global, e: Element) -> Result<Seq<Element>, NoMem>
+    ensures { IfOk result (λ pieces. map shape pieces ≡ shape e ∷ []) }
+{
+    let mut pieces = Seq::new(alloc);
+    pieces.push(e)?;
+    Ok(pieces)
+}
+
+pub fn pair(alloc: Global, a: Element, b: Element) -> Result<Seq<Element>, NoMem>
+    ensures { IfOk result (λ pieces. map shape pieces ≡ shape a ∷ shape b ∷ []) }
+{
+    let mut pieces = Seq::new(alloc);
+    pieces.push(a)?;
+    pieces.push(b)?;
+    Ok(pieces)
 }

@@ -22,5 +22,5 @@ pub use laws::{
 };
 pub use method::{Method, fits_none, method_of};
 pub use order::{below, is_key};
-pub use table::{row, row_of};
+pub use table::{pieces_of, row, row_of};
 pub use upper::join;

@@ -1,5 +1,5 @@
 // Methods by their names, and those of lists, dicts and instances.
-ghost use Rattle.std.specs.Prelude.{◌≡◌, ◌||◌, [], ◌∷◌, map, IfOk, OnOk};
+ghost use Rattle.std.specs.Prelude.{◌≡◌, ◌||◌, map, IfOk};
 ghost use Rattle.std.specs.Str.{bytes_eq};
 ghost use Rattle.ann_lattice.specs.Shape.{Nothing, shape};
 ghost use Rattle.ann_lattice.specs.Kind as kind;
@@ -9,12 +9,11 @@ use crate::arguments::{
     no_args, none_or_int, one_arg, one_char, one_list_or_none, one_or_two, one_str, place_and_value,
 };
 use crate::container::{copy_if, nothing_if};
-use crate::kind::conflict;
+use crate::kind::{conflict, pair, single};
 use crate::text::{own_list, text_method_row};
-use crate::upper::join;
-use ann_element::{Element, Sites};
+use ann_element::{Element, copy_element};
 use class_desc::Classes;
-use rpy_base::{NoMem, Text};
+use rpy_base::{NoMem, Seq, Text};
 use rpy_tree::{ClassId, SiteId};
 use std::alloc::Global;
 
@@ -206,93 +205,66 @@ fn list_method_row(
 
 // ---- dicts
 
-// A conflict that a row gives keeps no class of sites.
-fn blunt(e: Element) -> Element
-    ensures { shape result ≡ kind.blunt (shape e) }
-{
-    match e {
-        Element::Conflict(_, _) => conflict(),
-        other => other,
-    }
-}
-
-fn joined_row(
-    alloc: Global,
-    classes: &Classes,
-    same: &mut Sites,
-    a: &Element,
-    b: &Element,
-) -> Result<Element, NoMem>
-    ensures row { IfOk result (λ e. shape e ≡ kind.gathered classes.now.classes (shape a.now ∷ shape b.now ∷ [])) }
-    ensures classes { OnOk result (same.new ≡ kind.classes_gathered classes.now.classes same.old (shape a.now ∷ shape b.now ∷ [])) }
-{
-    let joined = join(alloc, classes, same, a, b)?;
-    Ok(blunt(joined))
-}
-
 // The value with what stands in for a missing one.
-fn get_row(
-    alloc: Global,
-    classes: &Classes,
-    same: &mut Sites,
-    args: &[Element],
-    value: &Element,
-) -> Result<Element, NoMem>
-    ensures row { IfOk result (λ e. shape e ≡ kind.gathered classes.now.classes (spec.got (map shape args.now) (shape value.now))) }
-    ensures classes { OnOk result (same.new ≡ kind.classes_gathered classes.now.classes same.old (spec.got (map shape args.now) (shape value.now))) }
+fn get_pieces(alloc: Global, args: &[Element], value: &Element) -> Result<Seq<Element>, NoMem>
+    ensures { IfOk result (λ pieces. map shape pieces ≡ spec.got (map shape args.now) (shape value.now)) }
 {
     match args {
-        [_key] => joined_row(alloc, classes, same, value, &Element::NoneOnly),
-        [_key, other] => joined_row(alloc, classes, same, value, other),
-        _ => Ok(conflict()),
+        [_key] => pair(alloc, copy_element(alloc, value)?, Element::NoneOnly),
+        [_key, other] => pair(
+            alloc,
+            copy_element(alloc, value)?,
+            copy_element(alloc, other)?,
+        ),
+        _ => single(alloc, conflict()),
     }
 }
 
-fn dict_method_row(
+fn dict_method_pieces(
     alloc: Global,
-    classes: &Classes,
-    same: &mut Sites,
     method: Method,
     site: Option<SiteId>,
     args: &[Element],
     part: &Element,
-) -> Result<Element, NoMem>
-    ensures row { IfOk result (λ e. shape e ≡ kind.gathered classes.now.classes (spec.dict_method method site (map shape args.now) (shape part.now))) }
-    ensures classes { OnOk result (same.new ≡ kind.classes_gathered classes.now.classes same.old (spec.dict_method method site (map shape args.now) (shape part.now))) }
+) -> Result<Seq<Element>, NoMem>
+    ensures { IfOk result (λ pieces. map shape pieces ≡ spec.dict_method method site (map shape args.now) (shape part.now)) }
 {
     match method {
-        Method::Get => get_row(alloc, classes, same, args, part),
-        Method::Keys => Ok(own_list(site, no_args(args))),
-        Method::Values => Ok(own_list(site, no_args(args))),
-        Method::Items => Ok(own_list(site, no_args(args))),
-        _ => Ok(conflict()),
+        Method::Get => get_pieces(alloc, args, part),
+        Method::Keys => single(alloc, own_list(site, no_args(args))),
+        Method::Values => single(alloc, own_list(site, no_args(args))),
+        Method::Items => single(alloc, own_list(site, no_args(args))),
+        _ => single(alloc, conflict()),
     }
 }
 
-/// A method call on a receiver with arguments. The further part of an instance's is the join of the
-/// results of the methods that the call reaches.
-pub fn method_row(
+/// What a method call asks its result to be above. The further part of an instance's is the result of a
+/// method that the call reaches.
+pub fn method_pieces(
     alloc: Global,
     classes: &Classes,
-    same: &mut Sites,
     name: &Text,
     site: Option<SiteId>,
     receiver: &Element,
     args: &[Element],
     part: &Element,
-) -> Result<Element, NoMem>
-    ensures row { IfOk result (λ e. shape e ≡ kind.gathered classes.now.classes (spec.method classes.now.classes name.now site (shape receiver.now) (map shape args.now) (shape part.now))) }
-    ensures classes { OnOk result (same.new ≡ kind.classes_gathered classes.now.classes same.old (spec.method classes.now.classes name.now site (shape receiver.now) (map shape args.now) (shape part.now))) }
+) -> Result<Seq<Element>, NoMem>
+    ensures { IfOk result (λ pieces. map shape pieces ≡ spec.method classes.now.classes name.now site (shape receiver.now) (map shape args.now) (shape part.now)) }
 {
     let method = method_of(name);
     match receiver {
-        Element::NoneOnly => Ok(none_row(classes, name, method, args)),
-        Element::Char => Ok(text_method_row(method, site, receiver, args, part)),
-        Element::Str => Ok(text_method_row(method, site, receiver, args, part)),
-        Element::StrOrNone => Ok(text_method_row(method, site, receiver, args, part)),
-        Element::List(_, _) => list_method_row(alloc, method, args, part),
-        Element::Dict(_, _) => dict_method_row(alloc, classes, same, method, site, args, part),
-        Element::Instance(class, _) => copy_if(alloc, has_method(classes, *class, name), part),
-        _ => Ok(conflict()),
+        Element::NoneOnly => single(alloc, none_row(classes, name, method, args)),
+        Element::Char => single(alloc, text_method_row(method, site, receiver, args, part)),
+        Element::Str => single(alloc, text_method_row(method, site, receiver, args, part)),
+        Element::StrOrNone => single(alloc, text_method_row(method, site, receiver, args, part)),
+        Element::List(_, _) => single(alloc, list_method_row(alloc, method, args, part)?),
+        Element::Dict(_, _) => dict_method_pieces(alloc, method, site, args, part),
+        Element::Instance(class, _) => {
+            single(
+                alloc,
+                copy_if(alloc, has_method(classes, *class, name), part)?,
+            )
+        }
+        _ => single(alloc, conflict()),
     }
 }

@@ -14,17 +14,17 @@ use crate::instance::{
     attribute_row, call_of_row, call_value_row, constant_row, drop_none_row, false_none_row,
     is_instance_row, lower_row, new_row, non_negative_row, raise_row, store_attribute_row,
 };
-use crate::kind::{conflict, is_int, is_list, is_unreached, known};
-use crate::method::{Method, method_of, method_row};
+use crate::kind::{conflict, is_int, is_list, is_unreached, known, single};
+use crate::method::{Method, method_of, method_pieces};
 use crate::number::{
     checked_row, chr_row, intmask_row, max_row, min_row, ord_row, text_row, to_int_row, to_str_row,
     unary_row, word_row,
 };
-use crate::upper::is_clash;
+use crate::upper::{is_clash, join};
 use crate::walk::{advance_row, has_item_row, item_row, walk_row};
 use ann_element::{Element, Sites, copy_element};
 use class_desc::Classes;
-use rpy_base::{NoMem, Text};
+use rpy_base::{NoMem, Seq, Text};
 use rpy_meaning::RowOp;
 use rpy_tree::CmpOp;
 use std::alloc::Global;
@@ -211,33 +211,80 @@ fn counted_row(
     }
 }
 
-fn fitting_row(
+fn fitting_pieces(
     alloc: Global,
     classes: &Classes,
-    same: &mut Sites,
     op: &RowOp,
     xs: &[Element],
     part: &Element,
-) -> Result<Element, NoMem>
-    ensures row { IfOk result (λ e. shape e ≡ kind.gathered classes.now.classes (spec.fitting classes.now op.now (map shape xs.now) (shape part.now))) }
-    ensures classes { OnOk result (same.new ≡ kind.classes_gathered classes.now.classes same.old (spec.fitting classes.now op.now (map shape xs.now) (shape part.now))) }
+) -> Result<Seq<Element>, NoMem>
+    ensures { IfOk result (λ pieces. map shape pieces ≡ spec.fitting classes.now op.now (map shape xs.now) (shape part.now)) }
 {
     match op {
-        RowOp::Tuple => tuple_row(alloc, xs),
-        RowOp::List(site) => Ok(Element::List(*site, false)),
-        RowOp::Print => Ok(print_row(xs)),
-        RowOp::Slice(site, _, _) => Ok(bounded_slice_row(*site, xs)),
-        RowOp::Call(_) => copy_element(alloc, part),
-        RowOp::CallOf(class, _) => call_of_row(alloc, classes, *class, xs, part),
-        RowOp::CallValue => call_value_row(alloc, xs, part),
-        RowOp::New(class) => Ok(new_row(classes, *class, xs)),
+        RowOp::Tuple => single(alloc, tuple_row(alloc, xs)?),
+        RowOp::List(site) => single(alloc, Element::List(*site, false)),
+        RowOp::Print => single(alloc, print_row(xs)),
+        RowOp::Slice(site, _, _) => single(alloc, bounded_slice_row(*site, xs)),
+        RowOp::Call(_) => single(alloc, copy_element(alloc, part)?),
+        RowOp::CallOf(class, _) => { single(alloc, call_of_row(alloc, classes, *class, xs, part)?) }
+        RowOp::CallValue => single(alloc, call_value_row(alloc, xs, part)?),
+        RowOp::New(class) => single(alloc, new_row(classes, *class, xs)),
         RowOp::Method(name, site) => match xs {
             [receiver, args @ ..] => {
-                method_row(alloc, classes, same, name, *site, receiver, args, part)
+                method_pieces(alloc, classes, name, *site, receiver, args, part)
             }
-            [] => Ok(conflict()),
+            [] => single(alloc, conflict()),
         },
-        _ => counted_row(alloc, classes, op, xs, part),
+        _ => single(alloc, counted_row(alloc, classes, op, xs, part)?),
+    }
+}
+
+/// What an operation asks its result to be above, for its operands: nothing with one that is unreached,
+/// else a conflict with a conflict among them. Where the operation gives the item of a list, the value of
+/// a dict, an attribute or the result of a function, that is the further part, and so is the item of a
+/// list that `in` or `join` looks at. What no line of the table fits is a conflict.
+pub fn pieces_of(
+    alloc: Global,
+    classes: &Classes,
+    op: &RowOp,
+    xs: &[Element],
+    part: &Element,
+) -> Result<Seq<Element>, NoMem>
+    ensures { IfOk result (λ pieces. map shape pieces ≡ spec.pieces classes.now op.now (map shape xs.now) (shape part.now)) }
+{
+    if some_unreached(xs) {
+        return Ok(Seq::new(alloc));
+    }
+    if some_conflict(xs) {
+        return single(alloc, conflict());
+    }
+    fitting_pieces(alloc, classes, op, xs, part)
+}
+
+// A conflict that a row gives keeps no class of sites.
+fn blunt(e: Element) -> Element
+    ensures { shape result ≡ kind.blunt (shape e) }
+{
+    match e {
+        Element::Conflict(_, _) => conflict(),
+        other => other,
+    }
+}
+
+// The result itself.
+fn gathered(
+    alloc: Global,
+    classes: &Classes,
+    same: &mut Sites,
+    pieces: &[Element],
+) -> Result<Element, NoMem>
+    ensures row { IfOk result (λ e. shape e ≡ kind.gathered classes.now.classes (map shape pieces.now)) }
+    ensures classes { OnOk result (same.new ≡ kind.classes_gathered classes.now.classes same.old (map shape pieces.now)) }
+{
+    match pieces {
+        [] => Ok(Element::Unreached),
+        [only] => copy_element(alloc, only),
+        [a, b, ..] => Ok(blunt(join(alloc, classes, same, a, b)?)),
     }
 }
 
@@ -252,11 +299,9 @@ fn the_part<'a>(parts: &'a [Element], none: &'a Element) -> &'a Element
     }
 }
 
-/// What an operation gives for its operands: with one that is unreached `Unreached`, else with a conflict
-/// among them a conflict. Where the operation gives the item of a list, the value of a dict, an attribute
-/// or the result of a function, that is the one further part, and so is the item of a list that `in` or
-/// `join` looks at. What no line of the table fits is a conflict. Where the result is a join, the classes
-/// of sites that meet in it become one.
+/// What an operation gives for its operands: the join of what it asks its result to be above
+/// (`pieces_of`), `Unreached` where that is nothing. The further part is the one that is given, if one is.
+/// Where the result is a join, the classes of sites that meet in it become one.
 pub fn row_of(
     alloc: Global,
     classes: &Classes,
@@ -268,14 +313,9 @@ pub fn row_of(
     ensures row { IfOk result (λ e. shape e ≡ kind.gathered classes.now.classes (spec.pieces classes.now op.now (map shape xs.now) (spec.the_part (map shape parts.now)))) }
     ensures classes { OnOk result (same.new ≡ kind.classes_gathered classes.now.classes same.old (spec.pieces classes.now op.now (map shape xs.now) (spec.the_part (map shape parts.now)))) }
 {
-    if some_unreached(xs) {
-        return Ok(Element::Unreached);
-    }
-    if some_conflict(xs) {
-        return Ok(conflict());
-    }
     let none = conflict();
-    fitting_row(alloc, classes, same, op, xs, the_part(parts, &none))
+    let pieces = pieces_of(alloc, classes, op, xs, the_part(parts, &none))?;
+    gathered(alloc, classes, same, pieces.as_slice())
 }
 
 // ---- operands and further parts in one list
