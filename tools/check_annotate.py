@@ -19,7 +19,7 @@ import time
 
 from references import PROGRAM, SHARED, ended, number, unready, use
 
-SECONDS = 240
+SECONDS = 40
 CONFLICT = re.compile(rb'[^\n:]*:\d+: conflict: [^\n]+\n')
 
 # Programs whose answer is known without a reference.

@@ -15,7 +15,7 @@ from references import SHARED, TOP, ended, number, unready, use
 
 PROGRAM = os.path.join(TOP, 'crates', 'meaning_check', 'out', 'meaning_check')
 MOST = 20000
-SECONDS = 240
+SECONDS = 40
 BATCH = 200
 
 

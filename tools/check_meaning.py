@@ -21,7 +21,7 @@ PROGRAM = check_flow.PROGRAM
 piece = check_flow.piece
 SMALLER = 10
 COUNT = 400
-SECONDS = 240
+SECONDS = 40
 STACK = 4 << 30
 
 # A program that comes to each of the places at which the two read what is held in different ways.

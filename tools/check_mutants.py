@@ -17,7 +17,7 @@ import time
 
 from references import SHARED, TOP, Verdicts, asked, ended, unready, use
 
-SECONDS = 60
+SECONDS = 30
 BOUND = 3000
 LONGEST = 10
 MACHINE = os.path.join(SHARED, 'csub', 'crun.py')

@@ -20,7 +20,7 @@ import time
 
 from references import PROGRAM, SHARED, ended, number, unready, use
 
-SECONDS = 240
+SECONDS = 40
 NAME = re.compile(rb'[A-Za-z_][A-Za-z_0-9]*')
 NUMBERS = [b'0', b'63', b'64', b'9223372036854775807', b'1 << 62', b'(-1)', b"'q'", b'1 / 0', b'7 % 0']
 WORDS = [b'None', b'True', b'os', b'sys', b'object', b'Exception', b'range', b'entry_point', b'write', b'maxint']

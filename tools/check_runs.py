@@ -21,7 +21,7 @@ from references import SHARED, TOP, Verdicts, asked, ended, unready, use
 CBUILD = os.path.join(SHARED, 'csub', 'cbuild.sh')
 COUNTING = os.path.join(SHARED, 'csub', 'crun.py')
 MOST = 300000
-SECONDS = 240
+SECONDS = 40
 COMPILED = 5
 COUNTED = 10
 LEVELS = [1, 2, 3, 4, 5]

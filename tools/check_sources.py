@@ -16,7 +16,7 @@ import time
 
 from references import PROGRAM, SHARED, ended, number, unready, use
 
-SECONDS = 240
+SECONDS = 40
 LIMIT = 1048576
 
 

@@ -10,6 +10,3 @@ mod order;
 mod types;
 
 pub use file::lower;
-
-#[cfg(test)]
-mod tests;

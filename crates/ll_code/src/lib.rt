@@ -9,6 +9,3 @@ pub use check::well_typed;
 pub use program::{
     LlBlock, LlExit, LlGraph, LlLink, LlOp, LlProgram, LlStage, LlStatic, LlStruct, LlType, VarId,
 };
-
-#[cfg(test)]
-mod tests;

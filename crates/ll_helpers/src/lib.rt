@@ -13,6 +13,3 @@ mod words;
 
 pub use needs::{Helper, Need, uses_texts};
 pub use whole::helpers;
-
-#[cfg(test)]
-mod tests;

@@ -14,6 +14,3 @@ mod step;
 mod val;
 
 pub use run::{LlFault, run_ll};
-
-#[cfg(test)]
-mod tests;

@@ -12,6 +12,3 @@ mod raising;
 mod whole;
 
 pub use whole::rtype;
-
-#[cfg(test)]
-mod tests;

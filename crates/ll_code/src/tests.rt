@@ -1,1 +1,0 @@
-// Programs that break one rule each.
