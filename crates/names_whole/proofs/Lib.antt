@@ -8,6 +8,7 @@ pub mod Fault
 pub mod Functions
 pub mod Held
 pub mod Made
+pub mod Numbers
 pub mod Pairs
 pub mod Prebuilt
 pub mod Places

@@ -1,5 +1,5 @@
 // Laws of the whole, over all modules.
-ghost use Rattle.std.specs.Prelude.{◌≡◌, ◌<◌, ◌++◌, ◌∷◌, ℕ, List, Result, length};
+ghost use Rattle.std.specs.Prelude.{◌≡◌, ◌<◌, ◌≤◌, ◌+◌, ◌-◌, ◌*◌, ◌^◌, ◌++◌, ◌∷◌, ℕ, List, Result, length};
 ghost use Rattle.std.specs.List.{AllByRecursion};
 ghost use Rattle.rpy_nodes.specs.Listing.{listing};
 ghost use Rattle.rpy_nodes.specs.declared.listing.Named.{Named};
@@ -8,13 +8,17 @@ ghost use Rattle.rpy_tree.specs.declared.program.Program.{Program};
 ghost use Rattle.names_rules.specs.Entry.{entry};
 ghost use Rattle.names_rules.specs.Laws.{IsCounted, number_in};
 ghost use Rattle.names_rules.specs.Least.{least};
-ghost use Rattle.names_rules.specs.Members.{members, module_nodes};
+ghost use Rattle.names_rules.specs.Members.{members, module_nodes, modules_nodes};
 ghost use Rattle.names_rules.specs.Program.{bound_faults};
+ghost use Rattle.names_value.specs.Machine.{narrow};
 ghost use Rattle.rpy_names.specs.Build.{entry_of, bind};
 ghost use Rattle.rpy_names.specs.Place.{place};
 ghost use Rattle.rpy_names.specs.Resolve as code;
 ghost use Rattle.rpy_names.specs.declared.fault.NameRefusal.{NameRefusal};
+ghost use Rattle.names_whole.specs.Classes.{classes};
+ghost use Rattle.names_whole.specs.Functions.{functions};
 ghost use Rattle.names_whole.specs.Program.{prog, namefault, IsAnswer};
+ghost use Rattle.names_whole.specs.Sites.{sites};
 ghost use Rattle.names_whole.specs.Whole.{as_entry, scopes, IsWithout};
 
 /// The entry point is the first function of this name of the main module that has one plain parameter.
@@ -52,4 +56,14 @@ pub fn program_follows_the_rules()
 #[tactic(auto, using(crate::proofs::Places::place_is))]
 pub fn fault_place_follows_the_numbering()
     ensures { (before rest : List Named) (m : Named) → AllByRecursion IsCounted (before ++ m ∷ rest) → (i : ℕ) → i < module_nodes m.module.members → place (before ++ m ∷ rest) (number_in before i) ≡ (length before, line_in m.module i) }
+{}
+
+/// A number below 2 ^ 32 - 1 is kept. A program has no more functions than nodes, no more classes than
+/// nodes and the builtin ones, and no more sites than two for each node and that of the arguments: so
+/// where modules have few nodes the numbers of all these are kept.
+pub fn numbers_are_kept()
+    ensures kept { (n : ℕ) → n < 2 ^ 32 - 1 → narrow n ≡ n }
+    ensures functions { (ms : List Named) → length (functions ms) ≤ modules_nodes ms }
+    ensures classes { (ms : List Named) → length (classes ms) ≤ 13 + modules_nodes ms }
+    ensures sites { (ms : List Named) → length (sites ms) ≤ 1 + 2 * modules_nodes ms }
 {}
