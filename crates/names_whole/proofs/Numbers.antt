@@ -101,7 +101,7 @@ classes_few : (bases : List (Option ℕ)) (values : List (Option Const)) (ps : L
 classes_few bases values [] c = omega arith
 classes_few bases values (p ∷ ps) c = omega (arith, one_class bases values c p ps p.what, classes_few bases values ps (count p.what c), length-append (stated bases values c p ps p.what) (classes_from bases values (count p.what c) ps))
 
-builtins_many : (bases : List (Option ℕ)) (n : ℕ) → length (builtins_to bases n) ≡ n
+pub builtins_many : (bases : List (Option ℕ)) (n : ℕ) → length (builtins_to bases n) ≡ n
 builtins_many bases zero = refl
 builtins_many bases (suc n) = length-append (builtins_to bases n) _ ∙ ap (λ k. k + 1) (builtins_many bases n) ∙ one_more n where
   one_more : (n : ℕ) → n + 1 ≡ suc n
