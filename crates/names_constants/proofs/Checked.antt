@@ -72,7 +72,7 @@ module _ (bs cs : List Binding) (bases : List (Option ℕ)) where
 
   -- ---- constants
 
-  abbrev settled_made : Option Const → Piece × Kept → List Prebuilt
+  abbrev pub settled_made : Option Const → Piece × Kept → List Prebuilt
   settled_made None r = r.1.made
   settled_made (Some c) r = []
 

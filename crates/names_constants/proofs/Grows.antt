@@ -52,7 +52,7 @@ AllAlike (p ∷ ps) (q ∷ qs) = Alike p q × AllAlike ps qs
 abbrev pub Keeps : Kept → Kept → Type 0
 Keeps k l = (k.node ≡ l.node) × (k.sites ≡ l.sites)
 
-values_grow : (ps qs : List Piece) → AllAlike ps qs → Below (values ps) (values qs)
+pub values_grow : (ps qs : List Piece) → AllAlike ps qs → Below (values ps) (values qs)
 values_grow [] [] h = refl
 values_grow [] (q ∷ qs) h = absurd h
 values_grow (p ∷ ps) [] h = absurd h
@@ -64,7 +64,7 @@ pair_grows k k' v v' pairs h g = pairwise (λ a b. pair_with a b pairs) (λ y. r
   none_right None = refl
   none_right (Some c) = refl
 
-stored_grow : (ps qs : List Piece) (so_far more : Option Pairs) → AllAlike ps qs → Below so_far more → Below (stored so_far ps) (stored more qs)
+pub stored_grow : (ps qs : List Piece) (so_far more : Option Pairs) → AllAlike ps qs → Below so_far more → Below (stored so_far ps) (stored more qs)
 stored_grow ps qs None more h k = tt
 stored_grow [] [] (Some pairs) more h k = subst (λ (o : Option Pairs). Below (Some pairs) (stored o [])) (sym k) refl
 stored_grow [] (q ∷ qs) (Some pairs) more h k = absurd h
@@ -159,7 +159,7 @@ module _ (np bp : List ℕ → Part) (dotted : Part → List ℕ → Part) (V W 
   abbrev Related : Visit → Visit → Type 0
   Related v w = (k l : Kept) → Keeps k l → Alike (v k).0 (w l).0 × Keeps (v k).1 (w l).1
 
-  node_related : (i : Item) (ps qs : List Piece) (k l : Kept) → AllAlike ps qs → Keeps k l → Alike (at_V i ps k).0 (at_W i qs l).0 × Keeps (at_V i ps k).1 (at_W i qs l).1
+  pub node_related : (i : Item) (ps qs : List Piece) (k l : Kept) → AllAlike ps qs → Keeps k l → Alike (at_V i ps k).0 (at_W i qs l).0 × Keeps (at_V i ps k).1 (at_W i qs l).1
   node_related i ps qs k l h e = (
     (part_same i ps qs h, e.0, value_grows i (length k.sites) (length l.sites) ps qs (ap length e.1) h),
     (ap (next i) e.0, λ j. e.1 j ++ sites_same i k.node l.node ps qs e.0 h j),

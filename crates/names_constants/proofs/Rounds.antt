@@ -47,7 +47,7 @@ all_append [] (y ∷ ys) xs' ys' h k = absurd h
 all_append (x ∷ xs) [] xs' ys' h k = absurd h
 all_append (x ∷ xs) (y ∷ ys) xs' ys' h k = (h.0, all_append xs ys xs' ys' h.1 k)
 
-abbrev nones : ℕ → Values
+abbrev pub nones : ℕ → Values
 nones zero = []
 nones (suc n) = None ∷ nones n
 
@@ -55,11 +55,11 @@ none_end : (n : ℕ) → nones n ++ None ∷ [] ≡ None ∷ nones n
 none_end zero = refl
 none_end (suc n) = ap (λ xs. None ∷ xs) (none_end n)
 
-none_yet_is : (n : ℕ) → code.none_yet n ≡ nones n
+pub none_yet_is : (n : ℕ) → code.none_yet n ≡ nones n
 none_yet_is zero = refl
 none_yet_is (suc n) = ap (λ xs. xs ++ None ∷ []) (none_yet_is n) ∙ none_end n
 
-nones_below : (ys : Values) → AllBelow (nones (length ys)) ys
+pub nones_below : (ys : Values) → AllBelow (nones (length ys)) ys
 nones_below [] = tt
 nones_below (y ∷ ys) = (tt, nones_below ys)
 
@@ -70,7 +70,7 @@ module _ (bs cs : List Binding) (bases : List (Option ℕ)) where
   abbrev pub all_values : List Constant → Values → Values
   all_values all V = rule.all_values bs cs bases all V
 
-  value_grows : (c : Constant) (V W : Values) → AllBelow V W → Below (value V c) (value W c)
+  pub value_grows : (c : Constant) (V W : Values) → AllBelow V W → Below (value V c) (value W c)
   value_grows c V W h = (expr_grows (name_part bs cs bases c.file c.place []) (bound_part bs cs bases c.file c.place []) (attr_part bs cs bases c.file c.place []) V W h c.value.of (from_node c.value.first c.sites)).0.2
 
   values_grow : (all : List Constant) (V W : Values) → AllBelow V W → AllBelow (all_values all V) (all_values all W)
@@ -307,7 +307,7 @@ module _ (bs cs : List Binding) (bases : List (Option ℕ)) where
           ap (λ b. (cond b (code.rounds names found ats n (code.pass names found ats v)) v).constants) e
           ∙ by_outcome n v sound h (rounds_are n) p p.outcome
 
-      none_sound : AllBelow (code.none_yet (length ats)) last
+      pub none_sound : AllBelow (code.none_yet (length ats)) last
       none_sound = subst (λ (xs : Values). AllBelow xs last) (sym (none_yet_is (length ats) ∙ ap nones (many ats all are ∙ sym last_length))) (nones_below last)
 
       pub values_are : (code.constant_values names found ats).constants ≡ last

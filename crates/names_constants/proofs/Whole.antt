@@ -233,7 +233,7 @@ module _ (ms : List Named) (s : Scopes) (h : s.bindings ≡ (old.declared (listi
   pub values_follow : (listed_values (listing.listing ms)).constants ≡ final
   values_follow = ap (λ l. (listed_values l).constants) (listing_is ms) ∙ values_by
 
-  checked_follow : listed_checked (listing.listing ms) ≡ added (rule.roots bs cs s.bases (entry ∷ []) (members ms)) (unsettled_made bs cs s.bases final all_constants ++ rule.function_made bs cs s.bases final (entry ∷ []) (members ms)) (rule.bad_constants bs cs s.bases (entry ∷ []) (members ms)) (record { roots = []; prebuilt = []; fault = None })
+  pub checked_follow : listed_checked (listing.listing ms) ≡ added (rule.roots bs cs s.bases (entry ∷ []) (members ms)) (unsettled_made bs cs s.bases final all_constants ++ rule.function_made bs cs s.bases final (entry ∷ []) (members ms)) (rule.bad_constants bs cs s.bases (entry ∷ []) (members ms)) (record { roots = []; prebuilt = []; fault = None })
   checked_follow = ap listed_checked (listing_is ms) ∙ ap (λ V. code.bad_constants (names_of ms) V found constants_at) values_by ∙ checked_by
 
   pub faults_follow : (listed_checked (listing.listing ms)).fault ≡ least (rule.bad_constants bs cs s.bases (entry ∷ []) (members ms))

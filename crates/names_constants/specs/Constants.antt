@@ -167,11 +167,7 @@ module _ (bs cs : List Binding) (bases : List (Option ℕ)) where
   abbrev pub roots : List SiteAt → List Placed → List Root
   roots sites ps = constant_roots (values (constants sites ps)) (constants sites ps) ++ function_roots (values (constants sites ps)) sites ps
 
-  -- ---- the lists and dicts of constants and defaults
-
-  abbrev pub constant_made : List (Option Const) → List Constant → List Prebuilt
-  constant_made values [] = []
-  constant_made values (c ∷ all) = (of_constant values c).1.made ++ constant_made values all
+  -- ---- the lists and dicts of defaults
 
   abbrev pub default_made : List (Option Const) → ℕ → ℕ → Option member.Value → List SiteAt → List Prebuilt
   default_made values file place None sites = []
@@ -188,6 +184,3 @@ module _ (bs cs : List Binding) (bases : List (Option ℕ)) where
   abbrev pub function_made : List (Option Const) → List SiteAt → List Placed → List Prebuilt
   function_made values sites [] = []
   function_made values sites (p ∷ ps) = what_made values p.file p.place p.what sites ++ function_made values (after p sites) ps
-
-  abbrev pub made : List SiteAt → List Placed → List Prebuilt
-  made sites ps = constant_made (values (constants sites ps)) (constants sites ps) ++ function_made (values (constants sites ps)) sites ps

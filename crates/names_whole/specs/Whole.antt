@@ -1,9 +1,7 @@
 -- The tables of the code as the rules have them.
-use Rattle.std.specs.Prelude.{List, map, Option, Some, None}
+use Rattle.std.specs.Prelude.{List, Option, Some, None}
 use Rattle.rpy_nodes.specs.declared.listing.Named.{Named}
 use Rattle.rpy_tree.specs.declared.program.Program.{Program}
-use Rattle.rpy_tree.specs.declared.program.Site.{Site}
-use Rattle.names_found.specs.declared.step.SiteAt.{SiteAt}
 use Rattle.names_bound.specs.declared.fault.Fault.{Fault}
 use Rattle.names_bound.specs.declared.scopes.Scopes.{Scopes}
 use Rattle.names_rules.specs.Bound.{entries}
@@ -35,10 +33,3 @@ IsWithout None None = ⊥
 IsWithout (Some p) None = Unit {0}
 IsWithout None (Some f) = Unit {0}
 IsWithout (Some p) (Some f) = ⊥
-
--- the node of a site, and whether it makes dicts
-abbrev pub site_place : Site → SiteAt
-site_place s = record { node = s.node; dict = s.dict }
-
-abbrev pub site_places : List Site → List SiteAt
-site_places ss = map site_place ss

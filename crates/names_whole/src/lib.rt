@@ -5,5 +5,5 @@ mod laws;
 
 pub use laws::{
     bound_faults_follow_the_rules, entry_follows_the_rules, fault_follows_the_rules,
-    tables_follow_the_rules,
+    fault_place_follows_the_numbering, numbers_are_kept, program_follows_the_rules,
 };
