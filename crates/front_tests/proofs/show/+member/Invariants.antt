@@ -1,4 +1,4 @@
-use Rattle.rpy_first.proofs.show.+member.Given as goal
+use Rattle.front_tests.proofs.show.+member.Given as goal
 
 abbrev pub decreases-push_member : goal.decreases-push_member
 decreases-push_member l = l.depth

@@ -1,4 +1,4 @@
-use Rattle.rpy_first.proofs.show.+expr.Given as goal
+use Rattle.front_tests.proofs.show.+expr.Given as goal
 
 abbrev pub decreases-push_exprs : goal.decreases-push_exprs
 decreases-push_exprs l = l.depth

@@ -1,4 +1,4 @@
-use Rattle.rpy_first.proofs.show.+stmt.Given as goal
+use Rattle.front_tests.proofs.show.+stmt.Given as goal
 
 abbrev pub decreases-push_block : goal.decreases-push_block
 decreases-push_block l = l.depth
