@@ -18,23 +18,23 @@ is_statement other = false
 
 -- what stands inside follows what is inside or a class
 abbrev pub Follows : Bool → List Placed → Type 0
-Follows held [] = Unit {0}
-Follows held (p ∷ ps) = (p.inside ≡ true → held ≡ true) × Follows (p.inside || is_statement p.what) ps
+Follows entered [] = Unit {0}
+Follows entered (p ∷ ps) = (p.inside ≡ true → entered ≡ true) × Follows (p.inside || is_statement p.what) ps
 
-inside_follows : (file place : ℕ) (ms : List Member) (n : ℕ) (rest : List Placed) → ((held : Bool) → Follows held rest) → Follows true (inside_of file place n ms ++ rest)
+inside_follows : (file place : ℕ) (ms : List Member) (n : ℕ) (rest : List Placed) → ((entered : Bool) → Follows entered rest) → Follows true (inside_of file place n ms ++ rest)
 inside_follows file place [] n rest h = h true
 inside_follows file place (m ∷ ms) n rest h = (λ e. refl, inside_follows file place ms (n + member_nodes (out-Member m)) rest h)
 
-body_follows : (m : Member-F Member ClassDef) (file place n k : ℕ) (rest : List Placed) → ((held : Bool) → Follows held rest) → Follows (is_statement (what k m)) (inside_of file place n (body_in m) ++ rest)
+body_follows : (m : Member-F Member ClassDef) (file place n k : ℕ) (rest : List Placed) → ((entered : Bool) → Follows entered rest) → Follows (is_statement (what k m)) (inside_of file place n (body_in m) ++ rest)
 body_follows (Member-F.Class c) file place n k rest h = inside_follows file place (out-ClassDef c).members n rest h
 body_follows (Member-F.Import i of) file place n k rest h = h false
 body_follows (Member-F.From i path of) file place n k rest h = h false
 body_follows (Member-F.Const i name e) file place n k rest h = h false
 body_follows (Member-F.Def f) file place n k rest h = h false
 
-outside_follows : (file : ℕ) (ms : List Member) (place n : ℕ) (rest : List Placed) → ((held : Bool) → Follows held rest) → (held : Bool) → Follows held (members_of file place n ms ++ rest)
-outside_follows file [] place n rest h held = h held
-outside_follows file (m ∷ ms) place n rest h held =
+outside_follows : (file : ℕ) (ms : List Member) (place n : ℕ) (rest : List Placed) → ((entered : Bool) → Follows entered rest) → (entered : Bool) → Follows entered (members_of file place n ms ++ rest)
+outside_follows file [] place n rest h entered = h entered
+outside_follows file (m ∷ ms) place n rest h entered =
     let more : List Placed = members_of file (place + 1) (n + (member_nodes (out-Member m) + inside_nodes (body_in (out-Member m)))) ms in
     let body : List Placed = inside_of file place (n + member_nodes (out-Member m)) (body_in (out-Member m)) in (
       λ e. absurd cc,
@@ -42,9 +42,9 @@ outside_follows file (m ∷ ms) place n rest h held =
           (body_follows (out-Member m) file place (n + member_nodes (out-Member m)) n (more ++ rest) (outside_follows file ms (place + 1) (n + (member_nodes (out-Member m) + inside_nodes (body_in (out-Member m)))) rest h)),
     )
 
-modules_follow : (ms : List Named) (file n : ℕ) (held : Bool) → Follows held (modules_from file n ms)
-modules_follow [] file n held = tt
-modules_follow (m ∷ ms) file n held = outside_follows file m.module.members 0 n (modules_from (file + 1) (n + module_nodes m.module.members) ms) (modules_follow ms (file + 1) (n + module_nodes m.module.members)) held
+modules_follow : (ms : List Named) (file n : ℕ) (entered : Bool) → Follows entered (modules_from file n ms)
+modules_follow [] file n entered = tt
+modules_follow (m ∷ ms) file n entered = outside_follows file m.module.members 0 n (modules_from (file + 1) (n + module_nodes m.module.members) ms) (modules_follow ms (file + 1) (n + module_nodes m.module.members)) entered
 
 pub members_follow : (ms : List Named) → Follows false (members ms)
 members_follow ms = modules_follow ms 0 0 false

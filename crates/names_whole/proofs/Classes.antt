@@ -225,10 +225,10 @@ module _ (names : Names) (units : List Listed) where
           methods = (ap (λ xs. old.methods_onto [] names units class c.functions xs) functions ∙ methods_found class ps (before ++ listed names p ∷ []) (unit + 1) c.functions (count p.what c) [] next.stands has run (ap (λ w. (count w c).functions) e)) j;
         }
 
-    infos_onto : (ps : List Placed) (unit : ℕ) (c : Counts) (before : List Listed) (done : List ClassInfo) (held : Bool) → Before unit c before ps → AllByRecursion (IsKnown names) ps → Follows held ps
+    infos_onto : (ps : List Placed) (unit : ℕ) (c : Counts) (before : List Listed) (done : List ClassInfo) (entered : Bool) → Before unit c before ps → AllByRecursion (IsKnown names) ps → Follows entered ps
         → infos done c.classes (classes_at unit c ps) ≡ done ++ classes_from bases values c ps
-    infos_onto [] unit c before done held b has f = sym (append-nil done)
-    infos_onto (p ∷ ps) unit c before done held b has f = by_what (λ done'. infos_onto ps (unit + 1) (count p.what c) (before ++ listed names p ∷ []) done' (p.inside || is_statement p.what) (before_next unit c before p ps b) has.1 f.1) p.what refl where
+    infos_onto [] unit c before done entered b has f = sym (append-nil done)
+    infos_onto (p ∷ ps) unit c before done entered b has f = by_what (λ done'. infos_onto ps (unit + 1) (count p.what c) (before ++ listed names p ∷ []) done' (p.inside || is_statement p.what) (before_next unit c before p ps b) has.1 f.1) p.what refl where
       still : ((done' : List ClassInfo) → infos done' (count p.what c).classes (classes_at (unit + 1) (count p.what c) ps) ≡ done' ++ classes_from bases values (count p.what c) ps)
           → class_at unit p c p.what ≡ [] → stated bases values c p ps p.what ≡ [] → (count p.what c).classes ≡ c.classes → infos done c.classes (classes_at unit c (p ∷ ps)) ≡ done ++ classes_from bases values c (p ∷ ps)
       still go e s n = (λ j. infos done (sym n j) (e j ++ classes_at (unit + 1) (count p.what c) ps)) ∙ go done ∙ ap (λ xs. done ++ (xs ++ classes_from bases values (count p.what c) ps)) (sym s)
@@ -250,6 +250,6 @@ module _ (names : Names) (units : List Listed) where
             or_true true = refl
             or_true false = refl
 
-    pub infos_are : (ps : List Placed) (c : Counts) (held : Bool) → c.classes ≡ 0 → Before 0 c [] ps → AllByRecursion (IsKnown names) ps → Follows held ps
+    pub infos_are : (ps : List Placed) (c : Counts) (entered : Bool) → c.classes ≡ 0 → Before 0 c [] ps → AllByRecursion (IsKnown names) ps → Follows entered ps
         → old.class_infos names units values ks fs bases (classes_at 0 c ps) ≡ builtins_to bases 13 ++ classes_from bases values c ps
-    infos_are ps c held z b has f = ap (λ n. infos (old.builtins_to bases 13) n (classes_at 0 c ps)) (sym z) ∙ infos_onto ps 0 c [] (old.builtins_to bases 13) held b has f ∙ ap (λ xs. xs ++ classes_from bases values c ps) (builtins_are bases 13)
+    infos_are ps c entered z b has f = ap (λ n. infos (old.builtins_to bases 13) n (classes_at 0 c ps)) (sym z) ∙ infos_onto ps 0 c [] (old.builtins_to bases 13) entered b has f ∙ ap (λ xs. xs ++ classes_from bases values c ps) (builtins_are bases 13)

@@ -14,7 +14,7 @@ use Rattle.names_found.specs.declared.step.SiteAt.{SiteAt}
 use Rattle.names_rules.specs.Order.{Item, Int, Str, Name, Attr, Unary, Binary, Tuple, List_of, Dict, Bind}
 use Rattle.names_rules.specs.Parts.{expr_parts, target_parts, expr_item, target_item}
 use Rattle.names_value.specs.Machine.{Pairs, store, stand_value, name_value, unary_value, binary_value, tuple_of, narrow}
-use Rattle.names_constants.specs.Value.{Piece, Kept, from_node, values, value_with, listed, stored, pair_with, made_as, made_at, value, made, sites, at_node}
+use Rattle.names_constants.specs.Value.{Piece, Kept, from_node, values, value_with, listed, stored, pair_with, made_as, made_at, made, sites, at_node}
 use Rattle.names_constants.specs.Visit as visit
 use Rattle.names_constants.proofs.Grows.{Alike, AllAlike, Keeps, node_related, values_grow, stored_grow}
 use Rattle.names_constants.proofs.Order.{Below, AllBelow, Values, below_path}
