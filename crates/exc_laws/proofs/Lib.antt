@@ -1,0 +1,9 @@
+pub mod Families
+pub mod Kept
+pub mod Pieces
+pub mod Places
+pub mod Statics
+pub mod Tests
+pub mod Typed
+pub mod WellTyped
+pub mod Without
