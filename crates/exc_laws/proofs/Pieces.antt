@@ -33,7 +33,8 @@ use Rattle.exc_laws.proofs.Tests.{and_both, or_first, or_second, equals, is_belo
 use Rattle.exc_laws.proofs.Kept.{New, kept, constants, takes_kept, given_kept, all_given_kept, points_kept, operation_kept}
 use Rattle.exc_laws.proofs.Families.{FamilyFits, leads}
 use Rattle.exc_laws.proofs.Typed.{all_there, own_type, handler_there, live_there}
-use Rattle.exc_laws.proofs.Places.{From, from_left, from_right, firsts_count, block_placed, others_from}
+use Rattle.exc_laws.specs.Stands.{From}
+use Rattle.exc_laws.proofs.Places.{from_left, from_right, firsts_count, block_placed, others_from}
 
 pub tested_raises : (marks : List Bool) (any : Bool) (o : LlOp) → is_tested marks any o ≡ true → may_raise marks any o ≡ true
 tested_raises marks any (op.Raise a) e = refl
@@ -260,9 +261,10 @@ module _ (p : LlProgram) (raw : p.stage ≡ stage.Raw) (family : Family) (marks 
           (raised_ops_ok (need_here o rest e t (subst (λ o. may_raise marks (any_marked marks) o ≡ true) (sym is) refl)) v (and_right _ _ own) rest e k, way_exit_ok rest e k)
       by go Tested f at =
           let c = tested_calm marks (any_marked marks) o f in
-          let tests : HasTests = need_here o rest e t (tested_raises marks (any_marked marks) o c.1) in
-          (and_both _ (operations_ok Next All (testing family (length g.types) (length g.types + 1))) (operation_kept p family marks g.types More raw o c.0 (and_left _ _ h)) (testing_ok tests),
-            test_exit_ok rest e way (behind Here (way + 2) rest e) tests (and_right _ _ h) k at)
+          let tests : HasTests = need_here o rest e t (tested_raises marks (any_marked marks) o c.1) in (
+            and_both _ (operations_ok Next All (testing family (length g.types) (length g.types + 1))) (operation_kept p family marks g.types More raw o c.0 (and_left _ _ h)) (testing_ok tests),
+            test_exit_ok rest e way (behind Here (way + 2) rest e) tests (and_right _ _ h) k at,
+          )
       by go Leaves f at =
           let more : PieceOk rest e way = go at in
           (and_both _ (operations_ok Next All (piece_ops Here rest e)) (operation_kept p family marks g.types More raw o (leaves_calm marks (any_marked marks) o f) (and_left _ _ h)) more.0, more.1)
@@ -306,8 +308,7 @@ module _ (p : LlProgram) (raw : p.stage ≡ stage.Raw) (family : Family) (marks 
       let own : PieceOk b.ops b.exit next = piece_ok b.ops b.exit next ops ends need here in
       let more : (blocks_ok Next Made (firsts Here (next + length (behind_block Here next b)) blocks) ≡ true) × (blocks_ok Next Made (others Here (next + length (behind_block Here next b)) blocks) ≡ true) =
       firsts_ok blocks (next + length (behind_block Here next b)) (and_right (block_ok p g b) _ h) (λ f. t (or_second (exit_leaves b.exit || some_raises marks (any_marked marks) b.ops) _ f))
-      (from_right Blocks next (behind_block Here next b) (others Here (next + length (behind_block Here next b)) blocks) at) in
-      (
+      (from_right Blocks next (behind_block Here next b) (others Here (next + length (behind_block Here next b)) blocks) at) in (
         and_both _ (blocks_ok Next Made (firsts Here (next + length (behind_block Here next b)) blocks)) (and_both _ (exit_ok Next Made (piece_exit Here b.ops b.exit next)) own.0 own.1) more.0,
         blocks_both (behind_block Here next b) (others Here (next + length (behind_block Here next b)) blocks) (behind_ok b.ops b.exit next ops ends need here) more.1,
       )

@@ -3,12 +3,8 @@ use Rattle.std.proofs.Common.{◌≡◌, ℕ, zero, suc, ◌+◌, List, [], ◌�
 use Rattle.std.specs.Prelude.{slice_get}
 use Rattle.ll_code.specs.declared.program.LlBlock.{LlBlock}
 use Rattle.exc_transform.specs.Pieces.{Around, piece, behind, behind_block, firsts, others, blocks_of}
+use Rattle.exc_laws.specs.Stands.{From}
 use Rattle.exc_laws.proofs.Tests.{get_left, get_right, length_both}
-
--- these blocks stand from this number on
-abbrev pub From : List LlBlock → ℕ → List LlBlock → Type 0
-From all n [] = Unit {0}
-From all n (b ∷ blocks) = (slice_get all n ≡ Some b) × From all (n + 1) blocks
 
 pub from_left : (all : List LlBlock) (n : ℕ) (xs ys : List LlBlock) → From all n (xs ++ ys) → From all n xs
 from_left all n [] ys h = tt
@@ -20,11 +16,10 @@ from_right all n (x ∷ xs) ys h = let e : n + 1 + length xs ≡ n + suc (length
 
 from_within : (xs ys zs : List LlBlock) (n : ℕ) → n ≡ length xs + length ys → From (xs ++ (ys ++ zs)) n zs
 from_within xs ys [] n e = tt
-from_within xs ys (z ∷ zs) n e =
-    (
-      ap (slice_get (xs ++ (ys ++ z ∷ zs))) e ∙ get_right xs (ys ++ z ∷ zs) (length ys) ∙ first ys,
-      subst (λ l. From l (n + 1) zs) (more xs ys) (from_within xs (ys ++ z ∷ []) zs (n + 1) (let f : length (ys ++ z ∷ []) ≡ length ys + 1 = length_both ys (z ∷ []) in omega (arith, e, f))),
-    )
+from_within xs ys (z ∷ zs) n e = (
+  ap (slice_get (xs ++ (ys ++ z ∷ zs))) e ∙ get_right xs (ys ++ z ∷ zs) (length ys) ∙ first ys,
+  subst (λ l. From l (n + 1) zs) (more xs ys) (from_within xs (ys ++ z ∷ []) zs (n + 1) (let f : length (ys ++ z ∷ []) ≡ length ys + 1 = length_both ys (z ∷ []) in omega (arith, e, f))),
+)
   where
     first : (ys : List LlBlock) → slice_get (ys ++ z ∷ zs) (length ys) ≡ Some z
     first [] = refl

@@ -197,7 +197,7 @@ module _ (p : LlProgram) (g : LlGraph) where
   handler_there [] (exit.Raised a) h = refl
   handler_there (o ∷ rest) e h = refl
 
-  exit_reads_there : (raises : Bool) (e : LlExit) → exit_ok p g e ≡ true → all_there g.types (exit_reads raises e) ≡ true
+  pub exit_reads_there : (raises : Bool) (e : LlExit) → exit_ok p g e ≡ true → all_there g.types (exit_reads raises e) ≡ true
   exit_reads_there true e h = both_there g.types (handler_reads [] e) (exit_variables e) (handler_there [] e h) (exit_there e h)
   exit_reads_there false e h = exit_there e h
 

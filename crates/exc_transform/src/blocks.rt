@@ -67,7 +67,14 @@ fn push_first(
     ensures { OnOk result (made.new ≡ made.old ++ p.piece (p.around_of around.entry.raising.graphs.now around.entry.raising.any around.entry.slots.family around.entry.slots.types.now around.entry.slots.kind around.entry.slots.test around.entry.result) block.now.inputs block.now.ops block.now.exit next ∷ []) }
 {
     let inputs = copy_variables(alloc, block.inputs.as_slice())?;
-    made.push(piece(alloc, around, inputs, block.ops.as_slice(), &block.exit, next)?)
+    made.push(piece(
+        alloc,
+        around,
+        inputs,
+        block.ops.as_slice(),
+        &block.exit,
+        next,
+    )?)
 }
 
 fn push_block(
@@ -83,7 +90,14 @@ fn push_block(
 {
     let next = add(first, extra.len() as u64)?;
     push_first(alloc, around, next, block, made)?;
-    push_pieces(alloc, around, first, block.ops.as_slice(), &block.exit, extra)
+    push_pieces(
+        alloc,
+        around,
+        first,
+        block.ops.as_slice(),
+        &block.exit,
+        extra,
+    )
 }
 
 // Blocks in the other order.

@@ -174,12 +174,7 @@ fn exit_reads(alloc: Global, raises: bool, exit: &LlExit) -> Result<Seq<VarId>, 
 }
 
 // What an operation reads that is not set, behind what is read so far.
-fn push_live(
-    alloc: Global,
-    op: &LlOp,
-    set: &[VarId],
-    into: &mut Seq<VarId>,
-) -> Result<(), NoMem>
+fn push_live(alloc: Global, op: &LlOp, set: &[VarId], into: &mut Seq<VarId>) -> Result<(), NoMem>
     ensures { OnOk result (into.new ≡ spec.new_ones (spec.reads op.now) set.now into.old) }
 {
     let mut reads = Seq::new(alloc);
