@@ -1,10 +1,10 @@
 -- The machine of the explicit program follows the exits of blocks.
-use Rattle.std.proofs.Common.{◌≡◌, ◌<◌, ◌≤◌, ℕ, zero, suc, ◌+◌, Bool, true, false, ◌&&◌, ◌||◌, ◌==◌, List, [], ◌∷◌, ◌++◌, length, map, Option, Some, None, Result, Ok, Err, refl, sym, ap, ◌∙◌, subst, arith, ◌⊎◌, inl, inr}
+use Rattle.std.proofs.Common.{◌≡◌, ◌<◌, ◌≤◌, ℕ, ◌+◌, Bool, true, false, ◌==◌, List, [], length, Option, Some, None, Result, Ok, Err, refl, sym, ap, ◌∙◌, subst, arith}
 use Rattle.std.specs.Prelude.{slice_get, cond, option_map}
 use Rattle.std.proofs.lemmas.Option.{slice_get_within}
 use Rattle.rpy_base.specs.declared.outcome.FailName.{FailName}
 use Rattle.csub_tree.specs.State.{Value, Unset, Block, Core, After, Over, Stuck}
-use Rattle.csub_tree.specs.Layout.{Shape, constant}
+use Rattle.csub_tree.specs.Layout.{Shape}
 use Rattle.csub_tree.specs.Operation.{is_unset, flag_of}
 use Rattle.csub_tree.specs.Statement.{read, operand, reached, on_block, fail, fail_name_of, raised, raised_as, bytes_of}
 use Rattle.csub_tree.specs.declared.stuck.StuckReason.{StuckReason}
@@ -14,11 +14,10 @@ use Rattle.csub_tree.specs.declared.tree.CType.TheVariants as c
 use Rattle.csub_tree.specs.declared.tree.COperand.{COperand}
 use Rattle.ll_code.specs.State.{Frame, State, At, Returning, Throwing, Next, Goes, Puts, Tells, Ends, Sticks}
 use Rattle.ll_code.specs.Machine.{step, jump, branch, leaves, gives_back, goes_on, given, type_in, c_type, shapes_of}
-use Rattle.ll_code.specs.Typed.{has_type, points, link_ok, exit_ok, names_chars}
+use Rattle.ll_code.specs.Typed.{points, link_ok, exit_ok, names_chars}
 use Rattle.ll_code.specs.declared.program.LlType.{LlType}
 use Rattle.ll_code.specs.declared.program.LlType.TheVariants as type
 use Rattle.ll_code.specs.declared.program.LlLink.{LlLink}
-use Rattle.ll_code.specs.declared.program.LlOp.{LlOp}
 use Rattle.ll_code.specs.declared.program.LlExit.{LlExit}
 use Rattle.ll_code.specs.declared.program.LlExit.TheVariants as exit
 use Rattle.ll_code.specs.declared.program.LlGraph.{LlGraph}
@@ -26,16 +25,16 @@ use Rattle.ll_code.specs.declared.program.LlProgram.{LlProgram}
 use Rattle.ll_laws.proofs.Values.{and_left, and_right}
 use Rattle.exc_transform.specs.Explicit.{graphs_calm, is_marked, default_of, raising, left_ops, left_exit}
 use Rattle.exc_transform.specs.Raising.{exit_leaves}
-use Rattle.exc_transform.specs.Live.{among, variables_of, variables_in, exit_variables}
+use Rattle.exc_transform.specs.Live.{variables_in, exit_variables}
 use Rattle.exc_transform.specs.Pieces.{explicit}
-use Rattle.exc_laws.specs.Ready.{marks_of, exceptions_of, IsClosed, IsWholeOf, IsWhole, ReadyAt, is_live}
-use Rattle.exc_laws.specs.Stands.{explicit_graph, needs, Beside, IsClear, Leaving, Testing, Wait, Stands}
+use Rattle.exc_laws.specs.Ready.{marks_of, exceptions_of, IsClosed, IsWhole, ReadyAt}
+use Rattle.exc_laws.specs.Stands.{explicit_graph, Beside, IsClear, Leaving, Wait, Stands}
 use Rattle.exc_laws.specs.Follows.{Leads, Comes, Does, Follows}
-use Rattle.exc_laws.proofs.Tests.{or_first, or_second, equals, get_left, length_both}
+use Rattle.exc_laws.proofs.Tests.{or_first, or_second, equals, get_left}
 use Rattle.exc_laws.proofs.Lives.{among_left, among_right, among_own, needed_live}
 use Rattle.exc_laws.proofs.Operations.{SameOn, operand_same, reached_same}
-use Rattle.exc_laws.proofs.Slots.{nothing, one, then, Kept, Raised, raising_end}
-use Rattle.exc_laws.proofs.Jumps.{graph_made, more_types, jump_follows}
+use Rattle.exc_laws.proofs.Slots.{nothing, one, then, Raised, raising_end}
+use Rattle.exc_laws.proofs.Jumps.{graph_made, jump_follows}
 
 module _ (p : LlProgram) (raises : graphs_calm p.graphs ≡ false) (closed : IsClosed p) (args : List (List ℕ)) where
   -- ---- some steps before

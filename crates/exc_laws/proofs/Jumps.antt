@@ -1,14 +1,14 @@
 -- A link of the explicit program goes where one of the program does.
-use Rattle.std.proofs.Common.{◌≡◌, ◌<◌, ◌≤◌, ℕ, zero, suc, ◌+◌, Bool, true, false, ◌&&◌, ◌||◌, ◌==◌, List, [], ◌∷◌, ◌++◌, length, map, Option, Some, None, refl, sym, ap, ◌∙◌, subst, arith, ◌⊎◌, inl, inr}
+use Rattle.std.proofs.Common.{◌≡◌, ◌<◌, ◌≤◌, ℕ, zero, suc, ◌+◌, Bool, true, false, ◌||◌, ◌==◌, List, [], ◌∷◌, ◌++◌, length, map, Option, Some, None, refl, sym, ap, ◌∙◌, subst, arith, ◌⊎◌, inl, inr}
 use Rattle.std.specs.Prelude.{slice_get, slice_set, cond, option_map}
 use Rattle.std.proofs.lemmas.Option.{slice_get_within}
 use Rattle.csub_tree.specs.State.{Value, Unset, Core}
 use Rattle.csub_tree.specs.Statement.{read, operand, operands, any_unset}
 use Rattle.csub_tree.specs.declared.stuck.StuckReason.TheVariants.{Unset as IsUnset}
 use Rattle.csub_tree.specs.declared.tree.COperand.{COperand}
-use Rattle.ll_code.specs.State.{Frame, State, At, Goes, Sticks}
+use Rattle.ll_code.specs.State.{Frame, State, At, Sticks}
 use Rattle.ll_code.specs.Machine.{step, jump, begins, block_in, set_all, param_types, type_or_word}
-use Rattle.ll_code.specs.Typed.{IsWellTyped, given_takes, all_given, enters, link_ok, is_type_given, params_ok, graph_ok, graphs_ok}
+use Rattle.ll_code.specs.Typed.{given_takes, all_given, enters, link_ok, is_type_given, params_ok, graph_ok, graphs_ok}
 use Rattle.ll_code.specs.declared.program.LlType.{LlType}
 use Rattle.ll_code.specs.declared.program.LlLink.{LlLink}
 use Rattle.ll_code.specs.declared.program.LlBlock.{LlBlock}
@@ -19,16 +19,16 @@ use Rattle.ll_laws.proofs.Operations.{length_set}
 use Rattle.exc_transform.specs.Explicit.{graphs_calm}
 use Rattle.exc_transform.specs.Raising.{raises_within}
 use Rattle.exc_transform.specs.Live.{among, variables_in}
-use Rattle.exc_transform.specs.Pieces.{test_types, explicit, graph_of, graphs_of, piece, piece_ops, piece_exit, behind, blocks_of}
+use Rattle.exc_transform.specs.Pieces.{test_types, explicit, graph_of, graphs_of, piece, piece_ops, piece_exit, behind}
 use Rattle.exc_laws.specs.Ready.{marks_of, any_of, exceptions_of, IsClosed}
-use Rattle.exc_laws.specs.Stands.{explicit_graph, around_in, From, needs, Beside, IsClear, PieceAt, Wait, StandsAt, Stands}
-use Rattle.exc_laws.specs.Follows.{Leads, Comes, Does, Follows}
+use Rattle.exc_laws.specs.Stands.{explicit_graph, around_in, From, Beside, IsClear, Wait}
+use Rattle.exc_laws.specs.Follows.{Leads, Follows}
 use Rattle.exc_laws.proofs.Tests.{length_map, length_both, get_map, get_left}
 use Rattle.exc_laws.proofs.Places.{block_placed}
 use Rattle.exc_laws.proofs.Lives.{needed_live}
 use Rattle.exc_laws.proofs.Marks.{block_leaving, block_testing}
 use Rattle.exc_laws.proofs.Operations.{SameOn, operands_same}
-use Rattle.exc_laws.proofs.Slots.{set_here, set_elsewhere, nothing, one, then}
+use Rattle.exc_laws.proofs.Slots.{set_here, set_elsewhere, one, then}
 
 -- ---- inputs that take their values
 

@@ -1,13 +1,13 @@
 -- Operations that raise nothing keep their rules in the explicit program.
-use Rattle.std.proofs.Common.{◌≡◌, ◌<◌, ℕ, zero, suc, ◌+◌, Bool, true, false, ◌&&◌, ◌||◌, ◌==◌, List, [], ◌∷◌, ◌++◌, length, map, Option, Some, None, refl, sym, ap, ◌∙◌, arith}
-use Rattle.std.specs.Prelude.{slice_get, nat_lt, option_map, if◌then◌else◌}
+use Rattle.std.proofs.Common.{◌≡◌, ℕ, Bool, true, false, List, [], ◌∷◌, ◌++◌, length, map, Option, Some, None, refl, sym, ap, ◌∙◌}
+use Rattle.std.specs.Prelude.{slice_get, option_map, if◌then◌else◌}
 use Rattle.csub_tree.specs.declared.tree.CConst.{CConst}
 use Rattle.csub_tree.specs.declared.tree.CConst.TheVariants as constant
 use Rattle.csub_tree.specs.declared.tree.COperand.{COperand}
 use Rattle.csub_tree.specs.declared.tree.COperand.TheVariants.{Var, Const}
 use Rattle.csub_tree.specs.declared.tree.CBinary.{CBinary}
 use Rattle.csub_tree.specs.declared.tree.CBinary.TheVariants as two
-use Rattle.ll_code.specs.Typed.{has_type, takes, given_takes, has_given, all_taken, all_given, points, pointer_type, pointed, same_pointers, both_taken, unary_takes, unary_gives, binary_gives, result_ok, call_ok, operation_ok, is_counted, is_raw, is_of_any, field_of, items_of}
+use Rattle.ll_code.specs.Typed.{has_type, takes, given_takes, has_given, all_taken, all_given, points, pointer_type, pointed, same_pointers, both_taken, unary_takes, unary_gives, binary_gives, result_ok, call_ok, operation_ok, is_counted, is_of_any, field_of, items_of}
 use Rattle.ll_code.specs.declared.program.LlStage.TheVariants as stage
 use Rattle.ll_code.specs.declared.program.LlType.{LlType}
 use Rattle.ll_code.specs.declared.program.LlType.TheVariants as type
@@ -15,7 +15,7 @@ use Rattle.ll_code.specs.declared.program.LlOp.{LlOp}
 use Rattle.ll_code.specs.declared.program.LlOp.TheVariants as op
 use Rattle.ll_code.specs.declared.program.LlGraph.{LlGraph}
 use Rattle.ll_code.specs.declared.program.LlProgram.{LlProgram}
-use Rattle.ll_laws.proofs.Values.{and_left, and_right, has_type_is}
+use Rattle.ll_laws.proofs.Values.{and_left, and_right}
 use Rattle.exc_transform.specs.declared.family.Family.{Family}
 use Rattle.exc_transform.specs.Explicit.{is_calm}
 use Rattle.exc_transform.specs.Raising.{any_marked, raises_within}

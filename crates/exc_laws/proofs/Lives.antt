@@ -1,10 +1,10 @@
 -- What is needed is live.
-use Rattle.std.proofs.Common.{◌≡◌, ℕ, zero, suc, Bool, true, false, ◌&&◌, ◌||◌, ◌==◌, List, [], ◌∷◌, ◌++◌, map, Option, Some, None, refl, sym, ap, ◌∙◌, arith, ◌⊎◌, inl, inr}
+use Rattle.std.proofs.Common.{◌≡◌, ℕ, Bool, true, false, ◌&&◌, ◌||◌, ◌==◌, List, [], ◌∷◌, ◌++◌, Option, Some, None, refl, sym, ap, ◌∙◌, ◌⊎◌, inl, inr}
 use Rattle.std.specs.Prelude.{cond, not}
 use Rattle.ll_code.specs.declared.program.LlOp.{LlOp}
 use Rattle.ll_code.specs.declared.program.LlExit.{LlExit}
 use Rattle.ll_code.specs.declared.program.LlProgram.{LlProgram}
-use Rattle.ll_laws.proofs.Values.{and_left, and_right, is_same}
+use Rattle.ll_laws.proofs.Values.{is_same}
 use Rattle.exc_transform.specs.Raising.{may_raise}
 use Rattle.exc_transform.specs.Live.{among, reads, set_by, exit_variables, new_ones, handler_reads, exit_reads, and_this, live_from, live}
 use Rattle.exc_laws.specs.Ready.{marks_of, any_of, is_live, sets}

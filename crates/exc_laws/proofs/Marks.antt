@@ -1,14 +1,12 @@
 -- A graph out of which an exception comes is marked.
-use Rattle.std.proofs.Common.{◌≡◌, ℕ, zero, suc, Bool, true, false, ◌&&◌, ◌||◌, List, [], ◌∷◌, map, Option, Some, None, refl, sym, ap, ◌∙◌, subst}
-use Rattle.std.specs.Prelude.{slice_get, cond, option_map, not}
-use Rattle.ll_code.specs.declared.program.LlOp.{LlOp}
-use Rattle.ll_code.specs.declared.program.LlExit.{LlExit}
+use Rattle.std.proofs.Common.{◌≡◌, ℕ, zero, suc, Bool, true, false, ◌||◌, List, [], ◌∷◌, map, Some, refl, sym, ap, ◌∙◌, subst}
+use Rattle.std.specs.Prelude.{slice_get, cond, option_map}
 use Rattle.ll_code.specs.declared.program.LlBlock.{LlBlock}
 use Rattle.ll_code.specs.declared.program.LlGraph.{LlGraph}
 use Rattle.ll_code.specs.declared.program.LlProgram.{LlProgram}
 use Rattle.ll_laws.proofs.Values.{and_left, and_right}
 use Rattle.exc_transform.specs.Explicit.{is_marked, marked}
-use Rattle.exc_transform.specs.Raising.{ops_leave, exit_leaves, some_raises, raises_within, blocks_leave, any_marked, marked_by, same_mark, same_marks, settled, raising_graphs}
+use Rattle.exc_transform.specs.Raising.{ops_leave, exit_leaves, some_raises, raises_within, blocks_leave, any_marked, marked_by, same_mark, same_marks, settled}
 use Rattle.exc_laws.specs.Ready.{marks_of, any_of}
 use Rattle.exc_laws.specs.Stands.{Leaving}
 use Rattle.exc_laws.proofs.Tests.{or_first, or_second, get_map}

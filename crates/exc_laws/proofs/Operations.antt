@@ -1,5 +1,5 @@
 -- An operation that stays in its block, and leaves the exception slots alone, does the same beside another core.
-use Rattle.std.proofs.Common.{◌≡◌, ◌<◌, ℕ, zero, suc, ◌+◌, ◌-◌, Bool, true, false, ◌&&◌, ◌||◌, ◌==◌, List, [], ◌∷◌, ◌++◌, length, map, replicate, Option, Some, None, Result, Ok, Err, refl, sym, ap, ◌∙◌, subst, ℤ, pos, negsuc}
+use Rattle.std.proofs.Common.{◌≡◌, ℕ, ◌+◌, ◌-◌, Bool, true, false, ◌==◌, List, [], ◌∷◌, ◌++◌, length, replicate, Option, Some, None, Result, Ok, Err, refl, sym, ap, ◌∙◌, subst, ℤ, pos, negsuc}
 use Rattle.std.specs.Prelude.{slice_get, slice_set, slice_index_or, cond, nat_lt, nat_le}
 use Rattle.rpy_base.specs.declared.outcome.Outcome.TheVariants.{Running}
 use Rattle.csub_tree.specs.State.{Value, Unset, Ptr, Static, Block, Core, Made, After, Onward, Puts as PutsByte, Told, Over, Stuck}

@@ -1,12 +1,9 @@
 -- The pieces of blocks keep the rules.
-use Rattle.std.proofs.Common.{◌≡◌, ◌<◌, ◌≤◌, ℕ, zero, suc, ◌+◌, Bool, true, false, ◌&&◌, ◌||◌, ◌==◌, List, [], ◌∷◌, ◌++◌, length, map, Option, Some, None, refl, sym, ap, ◌∙◌, subst, arith, pos}
+use Rattle.std.proofs.Common.{◌≡◌, ◌<◌, ℕ, ◌+◌, Bool, true, false, ◌||◌, ◌==◌, List, [], ◌∷◌, ◌++◌, length, Option, Some, None, refl, sym, ap, ◌∙◌, subst, arith, pos}
 use Rattle.std.specs.Prelude.{slice_get, nat_lt, cond, is_some}
-use Rattle.csub_tree.specs.declared.tree.CConst.{CConst}
 use Rattle.csub_tree.specs.declared.tree.CConst.TheVariants as constant
-use Rattle.csub_tree.specs.declared.tree.COperand.{COperand}
-use Rattle.csub_tree.specs.declared.tree.COperand.TheVariants.{Var, Const}
-use Rattle.csub_tree.specs.declared.tree.CBinary.TheVariants as two
-use Rattle.ll_code.specs.Typed.{has_type, same_type, has_given, takes, given_takes, all_given, points, pointer_type, same_pointers, is_void, is_of_any, field_of, operation_ok, operations_ok, enters, link_ok, return_ok, names_chars, exit_ok, block_ok, blocks_ok, graph_ok, are_kinds, is_kind, is_type_given, params_ok}
+use Rattle.csub_tree.specs.declared.tree.COperand.TheVariants.{Var}
+use Rattle.ll_code.specs.Typed.{has_type, same_type, has_given, given_takes, all_given, points, pointer_type, same_pointers, is_void, is_of_any, operation_ok, operations_ok, enters, link_ok, return_ok, names_chars, exit_ok, block_ok, blocks_ok, graph_ok, are_kinds, is_kind, is_type_given, params_ok}
 use Rattle.csub_tree.specs.Checked.{is_name}
 use Rattle.ll_code.specs.declared.program.LlStage.TheVariants as stage
 use Rattle.ll_code.specs.declared.program.LlType.{LlType}
@@ -27,10 +24,10 @@ use Rattle.exc_transform.specs.Explicit.{is_calm, is_tested, led_to, or_else, ki
 use Rattle.exc_transform.specs.Explicit as spec
 use Rattle.exc_transform.specs.Raising.{any_marked, may_raise, exit_leaves, some_raises, raises_within}
 use Rattle.exc_transform.specs.Live.{live, handler_reads, as_operands}
-use Rattle.exc_transform.specs.Pieces.{Around, around_graph, graph_of, test_types, way_block, onward, on_by, on, link_to, test_exit, called, ending_of, ending_in, ops_by, exit_by, piece_ops, piece_exit, piece, rest_block, rest_blocks, behind_by, behind, behind_block, firsts, others, blocks_of}
+use Rattle.exc_transform.specs.Pieces.{Around, around_graph, graph_of, test_types, way_block, onward, on_by, on, link_to, test_exit, ending_in, ops_by, exit_by, piece_ops, piece_exit, rest_blocks, behind_by, behind, behind_block, firsts, others, blocks_of}
 use Rattle.exc_transform.proofs.Without.{raises_is, tested_calm, leaves_calm}
 use Rattle.exc_laws.proofs.Tests.{and_both, or_first, or_second, equals, is_below, get_left, get_right, length_both}
-use Rattle.exc_laws.proofs.Kept.{New, kept, constants, takes_kept, given_kept, all_given_kept, points_kept, operation_kept}
+use Rattle.exc_laws.proofs.Kept.{New, kept, takes_kept, given_kept, all_given_kept, points_kept, operation_kept}
 use Rattle.exc_laws.proofs.Families.{FamilyFits, leads}
 use Rattle.exc_laws.proofs.Typed.{all_there, own_type, handler_there, live_there}
 use Rattle.exc_laws.specs.Stands.{From}

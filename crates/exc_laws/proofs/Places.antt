@@ -1,5 +1,5 @@
 -- Where the pieces of blocks stand.
-use Rattle.std.proofs.Common.{◌≡◌, ℕ, zero, suc, ◌+◌, List, [], ◌∷◌, ◌++◌, length, Option, Some, None, refl, sym, ap, ◌∙◌, subst, arith}
+use Rattle.std.proofs.Common.{◌≡◌, ℕ, zero, suc, ◌+◌, List, [], ◌∷◌, ◌++◌, length, Some, refl, ap, ◌∙◌, subst, arith}
 use Rattle.std.specs.Prelude.{slice_get}
 use Rattle.ll_code.specs.declared.program.LlBlock.{LlBlock}
 use Rattle.exc_transform.specs.Pieces.{Around, piece, behind, behind_block, firsts, others, blocks_of}

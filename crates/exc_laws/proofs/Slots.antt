@@ -1,16 +1,15 @@
 -- What sets, tests and clears the exception slots, in a run of an explicit program.
-use Rattle.std.proofs.Common.{◌≡◌, ◌<◌, ◌≤◌, ℕ, zero, suc, ◌+◌, Bool, true, false, ◌||◌, List, [], ◌∷◌, ◌++◌, length, Option, Some, None, Result, Ok, Err, refl, sym, ap, ◌∙◌, subst, arith, ◌⊎◌, inl, inr}
-use Rattle.std.specs.Prelude.{slice_get, slice_set, slice_index_or, cond}
+use Rattle.std.proofs.Common.{◌≡◌, ◌<◌, ◌≤◌, ℕ, zero, suc, ◌+◌, Bool, true, false, ◌||◌, List, [], ◌∷◌, ◌++◌, length, Option, Some, None, Ok, refl, sym, ap, ◌∙◌, subst, arith}
+use Rattle.std.specs.Prelude.{slice_set, slice_index_or, cond}
 use Rattle.csub_tree.specs.State.{Value, Unset, Flag, Null, Ptr, Static, Block, Core, Event, Onward, Stuck}
 use Rattle.csub_tree.specs.Layout.{shape_at, place}
 use Rattle.csub_tree.specs.Operation.{is_unset, flag_of, compared}
 use Rattle.csub_tree.specs.Statement as st
 use Rattle.csub_tree.specs.Statement.{read, operand, reached, on_block}
-use Rattle.csub_tree.specs.declared.stuck.StuckReason.{StuckReason}
 use Rattle.csub_tree.specs.declared.stuck.StuckReason.TheVariants.{Unset as IsUnset}
 use Rattle.csub_tree.specs.declared.tree.COperand.TheVariants.{Var}
-use Rattle.ll_code.specs.State.{Frame, State, At, Next, Goes}
-use Rattle.ll_code.specs.Machine.{step, does, goes_on, shapes_of}
+use Rattle.ll_code.specs.State.{Frame, State, At, Goes}
+use Rattle.ll_code.specs.Machine.{step, goes_on, shapes_of}
 use Rattle.ll_code.specs.Meaning.{run, follow}
 use Rattle.ll_code.specs.declared.program.LlType.{LlType}
 use Rattle.ll_code.specs.declared.program.LlOp.{LlOp}
@@ -19,7 +18,7 @@ use Rattle.ll_code.specs.declared.program.LlExit.{LlExit}
 use Rattle.ll_code.specs.declared.program.LlProgram.{LlProgram}
 use Rattle.ll_laws.proofs.Operations.{length_set}
 use Rattle.exc_transform.specs.declared.family.Family.{Family}
-use Rattle.exc_transform.specs.Explicit.{kind_of, raising_by, raising, testing, taking}
+use Rattle.exc_transform.specs.Explicit.{raising_by, raising, testing, taking}
 use Rattle.exc_transform.specs.Pieces.{explicit}
 use Rattle.exc_laws.specs.Ready.{exceptions_of, is_pointer, IsWholeOf, IsWhole}
 use Rattle.exc_laws.specs.Stands.{Beside}

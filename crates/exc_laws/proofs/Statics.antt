@@ -1,11 +1,11 @@
 -- Statics keep their rules in a program with other graphs, as many as before.
-use Rattle.std.proofs.Common.{◌≡◌, ℕ, zero, suc, ◌+◌, Bool, true, ◌&&◌, List, [], ◌∷◌, length, Option, Some, None, refl, ap, ◌∙◌}
+use Rattle.std.proofs.Common.{◌≡◌, ℕ, zero, suc, ◌+◌, Bool, ◌&&◌, List, [], ◌∷◌, length, Option, Some, None, refl, ap, ◌∙◌}
 use Rattle.std.specs.Prelude.{slice_get, nat_lt}
 use Rattle.csub_tree.specs.Checked.{Cell, Cells, Plain, Braced, end, then_cell, plain_cells}
 use Rattle.csub_tree.specs.declared.tree.CConst.{CConst}
 use Rattle.csub_tree.specs.declared.tree.CConst.TheVariants as constant
 use Rattle.csub_tree.specs.declared.tree.CStatic.{CStatic}
-use Rattle.ll_code.specs.Typed.{is_of, is_of_any, is_plain, all_plain, items_ok, fields_ok, based_ok, shaped_ok, cells_within, statics_ok}
+use Rattle.ll_code.specs.Typed.{is_of, is_plain, all_plain, items_ok, fields_ok, based_ok, shaped_ok, cells_within, statics_ok}
 use Rattle.ll_code.specs.declared.program.LlStage.{LlStage}
 use Rattle.ll_code.specs.declared.program.LlType.{LlType}
 use Rattle.ll_code.specs.declared.program.LlType.TheVariants as type

@@ -1,17 +1,17 @@
 -- The machine of the explicit program follows each step of the program.
 use Rattle.std.proofs.Common.{◌≡◌, ◌<◌, ◌≤◌, ℕ, zero, suc, ◌+◌, ◌-◌, Bool, true, false, ◌&&◌, ◌||◌, ◌==◌, List, [], ◌∷◌, ◌++◌, length, map, replicate, Option, Some, None, Ok, refl, sym, ap, ◌∙◌, subst, arith, ◌⊎◌, inl, inr, ℤ}
-use Rattle.std.specs.Prelude.{slice_get, slice_set, cond, option_map, is_some, not}
+use Rattle.std.specs.Prelude.{slice_get, slice_set, cond, is_some, not}
 use Rattle.std.proofs.lemmas.Option.{slice_get_within}
 use Rattle.rpy_base.specs.declared.outcome.Outcome.TheVariants.{Returned}
 use Rattle.csub_tree.specs.State.{Value, Unset, Flag, Null, Ptr, Static, Core, After, Onward, Puts as PutsByte, Told, Over, Stuck}
-use Rattle.csub_tree.specs.Operation.{is_unset, flag_of, compared, word_of}
+use Rattle.csub_tree.specs.Operation.{is_unset, compared, word_of}
 use Rattle.csub_tree.specs.Statement as st
 use Rattle.csub_tree.specs.Statement.{read, operands, any_unset, taken_by, ended, fun_of, same_result, same_types}
 use Rattle.csub_tree.specs.declared.stuck.StuckReason.TheVariants.{Unset as IsUnset, Signature}
 use Rattle.csub_tree.specs.declared.tree.COperand.{COperand}
 use Rattle.csub_tree.specs.declared.tree.COperand.TheVariants.{Var}
 use Rattle.ll_code.specs.State.{Frame, State, Calling, At, Returning, Throwing, Next, Goes, Puts, Tells, Ends, Sticks}
-use Rattle.ll_code.specs.Machine.{step, does, goes_on, jump, branch, begins, block_in, set_all, c_type, c_result, param_types, type_or_word, caught, caught_by, waiting, resumed, called, called_value, called_as, entered, enters, returned, thrown, given}
+use Rattle.ll_code.specs.Machine.{step, does, goes_on, jump, branch, begins, block_in, set_all, c_type, c_result, param_types, caught, waiting, resumed, called, called_value, called_as, entered, enters, returned, thrown, given}
 use Rattle.ll_code.specs.Typed.{IsWellTyped, is_counted, link_ok, points, operation_ok, operations_ok, exit_ok, graph_ok, graphs_ok, result_ok, params_ok, is_type_given}
 use Rattle.ll_code.specs.declared.program.LlStage.TheVariants as stage
 use Rattle.ll_code.specs.declared.program.LlType.{LlType}
@@ -35,14 +35,14 @@ use Rattle.exc_transform.specs.Live.{among, variables_in, reads, set_by, read_be
 use Rattle.exc_transform.specs.Pieces.{explicit, called as called_ending, test_types, onward, on_by, on, link_to, test_exit, ending_in, ops_by, exit_by, piece_ops, piece_exit, piece, rest_block, rest_blocks, way_block, behind_by, behind}
 use Rattle.exc_transform.proofs.Without.{raises_is, tested_calm}
 use Rattle.exc_laws.specs.Ready.{marks_of, any_of, exceptions_of, IsClosed, IsWhole, ReadyAt, IsReady, sets, is_pointer}
-use Rattle.exc_laws.specs.Stands.{explicit_graph, around_in, From, needs, Beside, IsClear, PieceAt, TestAt, Leaving, Testing, Handled, Tests, Waits, Wait, StandsCalling, StandsAt, StandsReturning, StandsThrowing, Stands}
-use Rattle.exc_laws.specs.Follows.{Leads, Comes, Does, Follows}
+use Rattle.exc_laws.specs.Stands.{explicit_graph, around_in, From, needs, Beside, IsClear, PieceAt, TestAt, Leaving, Testing, Tests, Waits, Wait, StandsCalling, StandsAt, StandsReturning, StandsThrowing, Stands}
+use Rattle.exc_laws.specs.Follows.{Leads, Follows}
 use Rattle.exc_laws.proofs.Tests.{or_first, or_second, equals, length_both}
 use Rattle.exc_laws.proofs.Lives.{among_own, reads_needed, rest_needed, more_needed, handled_needed, needed_live, live_needed, behind_reads}
 use Rattle.exc_laws.proofs.Typed.{is_there, all_there, reads_there, handler_there, exit_reads_there}
 use Rattle.exc_laws.proofs.Marks.{unmarked, block_leaving, block_testing}
-use Rattle.exc_laws.proofs.Operations.{SameOn, operands_same, Done, SameAfter, stays, does_same}
-use Rattle.exc_laws.proofs.Slots.{set_here, set_elsewhere, nothing, one, then, Tested as TestedRun, tests_run, Raised, raising_run, taking_run}
+use Rattle.exc_laws.proofs.Operations.{SameOn, operands_same, Done, SameAfter, does_same}
+use Rattle.exc_laws.proofs.Slots.{set_here, set_elsewhere, one, then, Tested as TestedRun, tests_run, Raised, raising_run, taking_run}
 use Rattle.exc_laws.proofs.Waiting.{sets_within, result_within, taken_size, taken_same, taken_apart, own_values, none_unset}
 use Rattle.exc_laws.proofs.Jumps.{not_same, graph_at, graph_made, none_made, parameters_same, more_types, set_all_size, jump_follows}
 use Rattle.exc_laws.proofs.Places.{block_placed}

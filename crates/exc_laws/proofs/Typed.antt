@@ -1,11 +1,11 @@
 -- What operations and exits that keep their rules read has a type, and may be passed by a link.
-use Rattle.std.proofs.Common.{◌≡◌, ◌<◌, ℕ, zero, suc, Bool, true, false, ◌&&◌, ◌||◌, List, [], ◌∷◌, ◌++◌, map, Option, Some, None, refl, sym, ap, ◌∙◌}
+use Rattle.std.proofs.Common.{◌≡◌, ℕ, Bool, true, false, ◌&&◌, ◌||◌, List, [], ◌∷◌, ◌++◌, Option, Some, None, refl}
 use Rattle.std.specs.Prelude.{slice_get, cond}
 use Rattle.csub_tree.specs.declared.tree.CBinary.{CBinary}
 use Rattle.csub_tree.specs.declared.tree.CBinary.TheVariants as two
 use Rattle.csub_tree.specs.declared.tree.COperand.{COperand}
 use Rattle.csub_tree.specs.declared.tree.COperand.TheVariants.{Var, Const}
-use Rattle.ll_code.specs.Typed.{has_type, same_type, takes, given_takes, all_taken, all_given, points, pointer_type, pointed, same_pointers, both_taken, call_ok, operation_ok, operations_ok, exit_ok, link_ok, enters, return_ok, names_chars, result_ok, unary_takes, field_of, items_of}
+use Rattle.ll_code.specs.Typed.{has_type, same_type, takes, given_takes, all_taken, all_given, points, pointer_type, pointed, same_pointers, both_taken, call_ok, operation_ok, operations_ok, exit_ok, link_ok, enters, names_chars, result_ok, unary_takes, field_of, items_of}
 use Rattle.ll_code.specs.declared.program.LlType.{LlType}
 use Rattle.ll_code.specs.declared.program.LlType.TheVariants as type
 use Rattle.ll_code.specs.declared.program.LlLink.{LlLink}
@@ -18,7 +18,7 @@ use Rattle.ll_code.specs.declared.program.LlGraph.{LlGraph}
 use Rattle.ll_code.specs.declared.program.LlProgram.{LlProgram}
 use Rattle.ll_laws.proofs.Values.{and_left, and_right}
 use Rattle.exc_transform.specs.Raising.{may_raise}
-use Rattle.exc_transform.specs.Live.{among, variables_of, variables_in, reads, set_by, exit_variables, new_ones, read_behind, handler_reads, exit_reads, and_this, live_from}
+use Rattle.exc_transform.specs.Live.{among, variables_of, variables_in, reads, set_by, exit_variables, new_ones, handler_reads, exit_reads, and_this, live_from}
 use Rattle.exc_laws.proofs.Tests.{and_both, equals}
 
 -- ---- variables that have a type

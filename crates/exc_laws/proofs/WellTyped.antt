@@ -1,5 +1,5 @@
 -- The explicit program of a well-typed one is well typed.
-use Rattle.std.proofs.Common.{◌≡◌, ◌<◌, ℕ, Bool, true, false, ◌&&◌, List, [], ◌∷◌, length, map, Option, Some, None, refl, sym, ap, ◌∙◌, subst}
+use Rattle.std.proofs.Common.{◌≡◌, ℕ, Bool, true, false, ◌&&◌, List, [], ◌∷◌, map, Option, Some, None, refl, sym, ap, ◌∙◌}
 use Rattle.std.specs.Prelude.{slice_get, cond, option_map}
 use Rattle.ll_code.specs.Typed.{IsWellTyped, is_counted, operation_ok, operations_ok, exit_ok, block_ok, blocks_ok, structs_ok, statics_ok, graph_ok, graphs_ok, begins_run}
 use Rattle.ll_code.specs.declared.program.LlStage.TheVariants as stage
@@ -16,7 +16,7 @@ use Rattle.exc_transform.specs.declared.family.Family.{Family}
 use Rattle.exc_transform.specs.Explicit.{is_calm, are_calm, leaves_calmly, block_calm, blocks_calm, graphs_calm}
 use Rattle.exc_transform.specs.Raising.{raising_graphs}
 use Rattle.exc_transform.specs.Families.{in_graphs, family_of}
-use Rattle.exc_transform.specs.Pieces.{graph_of, graphs_of, explicit_graphs, explicit}
+use Rattle.exc_transform.specs.Pieces.{graph_of, graphs_of, explicit}
 use Rattle.exc_laws.proofs.Tests.{and_both, length_map, get_map}
 use Rattle.exc_laws.proofs.Statics.{with_graphs, statics_same}
 use Rattle.exc_laws.proofs.Kept.{New}

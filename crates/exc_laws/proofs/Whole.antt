@@ -1,10 +1,9 @@
 -- Whole runs of a program and of its explicit program.
-use Rattle.std.proofs.Common.{◌≡◌, ◌≤◌, ℕ, zero, suc, ◌+◌, ◌-◌, Bool, true, false, List, [], ◌∷◌, ◌++◌, Option, Some, None, refl, sym, ap, ◌∙◌, subst, arith}
-use Rattle.rpy_base.specs.declared.outcome.Outcome.{Outcome}
+use Rattle.std.proofs.Common.{◌≡◌, ◌≤◌, ℕ, zero, suc, ◌+◌, ◌-◌, Bool, true, false, List, [], ◌∷◌, ◌++◌, Option, Some, None, refl, sym, ap, ◌∙◌, arith}
 use Rattle.csub_tree.specs.State.{Event}
 use Rattle.ll_code.specs.State.{State, Next, Goes, Puts, Tells, Ends, Sticks}
 use Rattle.ll_code.specs.Machine.{step, start}
-use Rattle.ll_code.specs.Meaning.{Ending, Came, StuckFor, Ran, Ended, Unfinished, follow, run, Meant, meant_by, within, LMeans, RunsOn, NeverStuck}
+use Rattle.ll_code.specs.Meaning.{Ending, Came, Ran, Ended, Unfinished, follow, run, Meant, meant_by, within, LMeans, RunsOn, NeverStuck}
 use Rattle.ll_code.specs.Typed.{IsWellTyped}
 use Rattle.ll_code.specs.declared.program.LlStage.TheVariants as stage
 use Rattle.ll_code.specs.declared.program.LlProgram.{LlProgram}

@@ -1,10 +1,9 @@
 -- Runs of a program in which nothing raises an exception: the stage alone is another, at which no step looks.
-use Rattle.std.proofs.Common.{◌≡◌, ℕ, zero, suc, List, [], ◌∷◌, ◌++◌, refl, sym, ap, ◌∙◌}
+use Rattle.std.proofs.Common.{◌≡◌, ℕ, zero, suc, List, [], ◌∷◌, ◌++◌, refl, ap, ◌∙◌}
 use Rattle.csub_tree.specs.State.{Event}
 use Rattle.ll_code.specs.State.{State, Calling, At, Returning, Throwing, Next, Goes, Puts, Tells, Ends, Sticks}
 use Rattle.ll_code.specs.Machine.{step, start}
 use Rattle.ll_code.specs.Meaning.{run, follow, within, meant_by}
-use Rattle.ll_code.specs.declared.program.LlOp.{LlOp}
 use Rattle.ll_code.specs.declared.program.LlProgram.{LlProgram}
 use Rattle.exc_transform.specs.Explicit.{IsWithoutExceptions, restaged}
 use Rattle.exc_transform.specs.Pieces.{explicit}

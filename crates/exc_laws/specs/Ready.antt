@@ -1,10 +1,10 @@
 -- What a run has to keep so that the explicit program goes the same way.
-use Rattle.std.specs.Prelude.{◌≡◌, ℕ, ◌==◌, ◌&&◌, ◌||◌, not, Bool, true, false, List, [], ◌∷◌, slice_get, Option, Some, None, Ok}
+use Rattle.std.specs.Prelude.{◌≡◌, ℕ, ◌==◌, ◌&&◌, not, Bool, true, false, List, [], ◌∷◌, slice_get, Option, Some, None, Ok}
 use Rattle.csub_tree.specs.State.{Value, Ptr, Static, Block, Core, Event}
 use Rattle.csub_tree.specs.Layout.{shape_at, place}
 use Rattle.csub_tree.specs.Operation.{is_unset}
 use Rattle.csub_tree.specs.Statement.{read, reached}
-use Rattle.ll_code.specs.State.{State, Calling, At, Returning, Throwing}
+use Rattle.ll_code.specs.State.{State, At, Throwing}
 use Rattle.ll_code.specs.Machine.{shapes_of, start}
 use Rattle.ll_code.specs.Meaning.{run, Unfinished}
 use Rattle.ll_code.specs.declared.program.LlOp.{LlOp}

@@ -1,5 +1,5 @@
 -- When a state of the explicit program stands where one of the program does.
-use Rattle.std.specs.Prelude.{◌≡◌, ◌⊎◌, ℕ, ◌+◌, ◌&&◌, ◌||◌, not, Bool, true, false, List, [], ◌∷◌, length, slice_get, Option, Some, None, is_some}
+use Rattle.std.specs.Prelude.{◌≡◌, ◌⊎◌, ℕ, ◌+◌, ◌&&◌, ◌||◌, not, Bool, true, false, List, [], ◌∷◌, length, slice_get, Some, is_some}
 use Rattle.csub_tree.specs.State.{Value, Null, Core}
 use Rattle.csub_tree.specs.Operation.{is_unset}
 use Rattle.csub_tree.specs.Statement.{read}

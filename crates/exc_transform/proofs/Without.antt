@@ -1,11 +1,10 @@
 -- Nothing raises in what is made, and nothing catches.
-use Rattle.std.proofs.Common.{arith, ◌≡◌, ℕ, ◌+◌, Bool, true, false, ◌&&◌, List, [], ◌∷◌, ◌++◌, length, map, Option, Some, None, refl, sym, ap, ◌∙◌, subst}
+use Rattle.std.proofs.Common.{arith, ◌≡◌, ℕ, ◌+◌, Bool, true, false, ◌&&◌, List, [], ◌∷◌, ◌++◌, length, map, Option, Some, None, refl, ap, ◌∙◌}
 use Rattle.std.specs.Prelude.{cond, is_some}
 use Rattle.csub_tree.specs.declared.tree.COperand.TheVariants.{Var}
 use Rattle.ll_code.specs.declared.program.LlStage.TheVariants.{Explicit}
 use Rattle.ll_code.specs.declared.program.LlType.{LlType}
 use Rattle.ll_code.specs.declared.program.LlStruct.{LlStruct}
-use Rattle.ll_code.specs.declared.program.LlLink.{LlLink}
 use Rattle.ll_code.specs.declared.program.LlOp.{LlOp}
 use Rattle.ll_code.specs.declared.program.LlOp.TheVariants as op
 use Rattle.ll_code.specs.declared.program.LlExit.{LlExit}
@@ -20,7 +19,7 @@ use Rattle.exc_transform.specs.Explicit.{is_calm, are_calm, leaves_calmly, block
 use Rattle.exc_transform.specs.Raising.{raising_graphs}
 use Rattle.exc_transform.specs.Live.{live}
 use Rattle.exc_transform.specs.Families.{family_of}
-use Rattle.exc_transform.specs.Pieces.{Around, way_block, onward, test_exit, called, ending_of, ending_in, ops_by, exit_by, piece_ops, piece_exit, piece, rest_blocks, behind_by, behind, behind_block, firsts, others, blocks_of, graph_of, graphs_of, explicit_graphs, explicit}
+use Rattle.exc_transform.specs.Pieces.{Around, way_block, onward, called, ending_of, ending_in, ops_by, exit_by, piece_ops, piece_exit, piece, rest_blocks, behind_by, behind, behind_block, firsts, others, blocks_of, graph_of, graphs_of, explicit_graphs, explicit}
 
 and_both : (a b : Bool) → a ≡ true → b ≡ true → (a && b) ≡ true
 and_both true b e f = f

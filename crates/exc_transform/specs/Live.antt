@@ -1,5 +1,5 @@
 -- What the rest of a block reads before it sets it, each variable once.
-use Rattle.std.specs.Prelude.{ℕ, ◌==◌, ◌||◌, Bool, true, false, cond, List, [], ◌∷◌, ◌++◌, map, Option, Some, None}
+use Rattle.std.specs.Prelude.{ℕ, ◌==◌, ◌||◌, Bool, false, cond, List, [], ◌∷◌, ◌++◌, map, Option, Some, None}
 use Rattle.csub_tree.specs.declared.tree.COperand.{COperand}
 use Rattle.csub_tree.specs.declared.tree.COperand.TheVariants.{Var, Const}
 use Rattle.ll_code.specs.declared.program.LlLink.{LlLink}

@@ -1,5 +1,5 @@
 use Rattle.std.proofs.Common.{◌≡◌, ◌++◌, drop}
-use Rattle.exc_transform.specs.Raising.{marked_by, blocks_leave, any_marked}
+use Rattle.exc_transform.specs.Raising.{blocks_leave, any_marked}
 use Rattle.std.proofs.Common.{map}
 use Rattle.exc_transform.proofs.raising.marked_by.Given as goal
 
