@@ -47,8 +47,9 @@ IsWithoutExceptions program = graphs_calm program.graphs ≡ true
 
 -- ---- what is kept
 
-abbrev pub explicit : LlProgram → LlProgram
-explicit program = record program { stage = Explicit }
+-- the same program at the next stage
+abbrev pub restaged : LlProgram → LlProgram
+restaged program = record program { stage = Explicit }
 
 -- what a caller sees of a graph
 abbrev pub head_of : LlGraph → List ℕ × List ℕ × LlType
@@ -68,16 +69,7 @@ pub record Keeps (program made : LlProgram) : Type 0 where
 abbrev pub plain : LlOp → LlOp
 plain (op.Call into f xs) = op.ExcClear
 plain (op.CallFn into result params b xs) = op.ExcClear
-plain (op.Raise a) = op.ExcClear
 plain other = other
-
-abbrev pub calm_of : LlOp → List LlOp
-calm_of (op.Raise a) = []
-calm_of other = other ∷ []
-
-abbrev pub calm_ops : List LlOp → List LlOp
-calm_ops [] = []
-calm_ops (o ∷ ops) = calm_of o ++ calm_ops ops
 
 -- ---- which operations are tested
 
@@ -171,8 +163,3 @@ way_exit result rest other = exit.Return (default_of result)
 abbrev pub raised_ops : Family → List LlType → ℕ → ℕ → List LlOp → LlExit → List LlOp
 raised_ops family types kind v [] (exit.OnRaise a (Some by) without) = giving family types kind a v
 raised_ops family types kind v rest other = raising family kind v
-
--- where the operation is a call: by the test, either on or to the block for exceptions
-abbrev pub IsTest : ℕ → ℕ → LlExit → Type 0
-IsTest test way (exit.If a on by) = (a ≡ test) × (by.to ≡ way)
-IsTest test way other = ⊥

@@ -1,1 +1,5 @@
 pub mod Explicit
+pub mod Families
+pub mod Live
+pub mod Pieces
+pub mod Raising

@@ -1,19 +1,34 @@
 // Graphs. The blocks keep their numbers, and the new ones stand behind them.
-ghost use Rattle.std.specs.Prelude.{◌≡◌, true, IfOk, OnOk};
-ghost use Rattle.exc_transform.specs.Explicit as spec;
+ghost use Rattle.std.specs.Prelude.{◌≡◌, ◌+◌, ◌∷◌, [], ◌++◌, length, reverse, IfOk, OnOk};
+ghost use Rattle.exc_transform.specs.Pieces as p;
 
 use crate::copies::{copy_types, copy_variables};
 use crate::family::{Family, kind_of};
 use crate::live::live;
-use crate::pieces::{Around, add, ends_tested, head_of, onward, piece, rest_of, way_of};
+use crate::pieces::{Around, Ending, add, ending_of, goes_on, piece, way_of};
 use crate::raising::{Raising, raises_within};
 use crate::slots::Slots;
 use ll_code::{LlBlock, LlExit, LlGraph, LlOp, LlType};
 use rpy_base::{NoMem, Seq};
 use std::alloc::Global;
 
+// The block of the rest, unless the piece before it goes on by the exit's link.
+fn push_rest(
+    alloc: Global,
+    around: Around<'_>,
+    first: u64,
+    rest: &[LlOp],
+    exit: &LlExit,
+    extra: &mut Seq<LlBlock>,
+) -> Result<(), NoMem>
+    ensures { OnOk result (extra.new ≡ extra.old ++ p.rest_block (p.around_of around.entry.raising.graphs.now around.entry.raising.any around.entry.slots.family around.entry.slots.types.now around.entry.slots.kind around.entry.slots.test around.entry.result) rest.now exit.now (first + length extra.old + 1) ∷ []) }
+{
+    let inputs = live(alloc, around.raising, rest, exit)?;
+    let own = add(first, extra.len() as u64)?;
+    extra.push(piece(alloc, around, inputs, rest, exit, add(own, 1)?)?)
+}
+
 // The pieces behind the first, each behind the block for the exceptions of the one before it.
-#[tactic(auto, using(crate::proofs::Lists::blocks_calm_append))]
 fn push_pieces(
     alloc: Global,
     around: Around<'_>,
@@ -22,26 +37,46 @@ fn push_pieces(
     exit: &LlExit,
     extra: &mut Seq<LlBlock>,
 ) -> Result<(), NoMem>
-    ensures { OnOk result (spec.blocks_calm extra.old ≡ true → spec.blocks_calm extra.new ≡ true) }
+    ensures { OnOk result (extra.new ≡ extra.old ++ p.behind (p.around_of around.entry.raising.graphs.now around.entry.raising.any around.entry.slots.family around.entry.slots.types.now around.entry.slots.kind around.entry.slots.test around.entry.result) (first + length extra.old) ops.now exit.now) }
 {
     let mut given = ops;
-    for _ in 0..ops.len() {
-        if !ends_tested(around.raising, head_of(around.raising, given)) {
-            return Ok(());
+    while let [op, rest @ ..] = given {
+        match ending_of(around.raising, op) {
+            Ending::Raises(_) => return Ok(()),
+            Ending::Tested => {
+                extra.push(way_of(alloc, around, rest, exit)?)?;
+                if goes_on(rest, exit) {
+                    return Ok(());
+                }
+                push_rest(alloc, around, first, rest, exit, extra)?;
+            }
+            Ending::Leaves => {}
         }
-        given = rest_of(around.raising, given);
-        extra.push(way_of(alloc, around, given, exit)?)?;
-        if onward(given, exit).is_some() {
-            return Ok(());
-        }
-        let inputs = live(alloc, around.raising, given, exit)?;
-        let own = add(first, extra.len() as u64)?;
-        extra.push(piece(alloc, around, inputs, given, exit, add(own, 1)?)?)?;
+        given = rest;
     }
     Ok(())
 }
 
-#[tactic(auto, using(crate::proofs::Lists::blocks_calm_append))]
+fn push_first(
+    alloc: Global,
+    around: Around<'_>,
+    next: u64,
+    block: &LlBlock,
+    made: &mut Seq<LlBlock>,
+) -> Result<(), NoMem>
+    ensures { OnOk result (made.new ≡ made.old ++ p.piece (p.around_of around.entry.raising.graphs.now around.entry.raising.any around.entry.slots.family around.entry.slots.types.now around.entry.slots.kind around.entry.slots.test around.entry.result) block.now.inputs block.now.ops block.now.exit next ∷ []) }
+{
+    let inputs = copy_variables(alloc, block.inputs.as_slice())?;
+    made.push(piece(
+        alloc,
+        around,
+        inputs,
+        block.ops.as_slice(),
+        &block.exit,
+        next,
+    )?)
+}
+
 fn push_block(
     alloc: Global,
     around: Around<'_>,
@@ -50,20 +85,25 @@ fn push_block(
     made: &mut Seq<LlBlock>,
     extra: &mut Seq<LlBlock>,
 ) -> Result<(), NoMem>
-    ensures made { OnOk result (spec.blocks_calm made.old ≡ true → spec.blocks_calm made.new ≡ true) }
-    ensures extra { OnOk result (spec.blocks_calm extra.old ≡ true → spec.blocks_calm extra.new ≡ true) }
+    ensures made { OnOk result (made.new ≡ made.old ++ p.piece (p.around_of around.entry.raising.graphs.now around.entry.raising.any around.entry.slots.family around.entry.slots.types.now around.entry.slots.kind around.entry.slots.test around.entry.result) block.now.inputs block.now.ops block.now.exit (first + length extra.old) ∷ []) }
+    ensures extra { OnOk result (extra.new ≡ extra.old ++ p.behind_block (p.around_of around.entry.raising.graphs.now around.entry.raising.any around.entry.slots.family around.entry.slots.types.now around.entry.slots.kind around.entry.slots.test around.entry.result) (first + length extra.old) block.now) }
 {
-    let ops = block.ops.as_slice();
-    let inputs = copy_variables(alloc, block.inputs.as_slice())?;
-    let way = add(first, extra.len() as u64)?;
-    made.push(piece(alloc, around, inputs, ops, &block.exit, way)?)?;
-    push_pieces(alloc, around, first, ops, &block.exit, extra)
+    let next = add(first, extra.len() as u64)?;
+    push_first(alloc, around, next, block, made)?;
+    push_pieces(
+        alloc,
+        around,
+        first,
+        block.ops.as_slice(),
+        &block.exit,
+        extra,
+    )
 }
 
 // Blocks in the other order.
-#[tactic(auto, using(crate::proofs::Lists::blocks_calm_append))]
+#[tactic(auto, using(crate::proofs::Behind::last_first))]
 fn turned(alloc: Global, blocks: Seq<LlBlock>) -> Result<Seq<LlBlock>, NoMem>
-    ensures { IfOk result (λ made. spec.blocks_calm made ≡ spec.blocks_calm blocks) }
+    ensures { IfOk result (λ made. made ≡ reverse blocks) }
 {
     let mut left = blocks;
     let mut made = Seq::new(alloc);
@@ -74,9 +114,9 @@ fn turned(alloc: Global, blocks: Seq<LlBlock>) -> Result<Seq<LlBlock>, NoMem>
 }
 
 // The blocks behind the others, in their order.
-#[tactic(auto, using(crate::proofs::Lists::blocks_calm_append))]
+#[tactic(auto, using(crate::proofs::Behind::last_first))]
 fn append(alloc: Global, into: &mut Seq<LlBlock>, extra: Seq<LlBlock>) -> Result<(), NoMem>
-    ensures { OnOk result (spec.blocks_calm into.old ≡ true → spec.blocks_calm extra ≡ true → spec.blocks_calm into.new ≡ true) }
+    ensures { OnOk result (into.new ≡ into.old ++ extra) }
 {
     let mut left = turned(alloc, extra)?;
     while let Some(block) = left.pop() {
@@ -86,7 +126,7 @@ fn append(alloc: Global, into: &mut Seq<LlBlock>, extra: Seq<LlBlock>) -> Result
 }
 
 fn blocks_of(alloc: Global, around: Around<'_>, blocks: &[LlBlock]) -> Result<Seq<LlBlock>, NoMem>
-    ensures { IfOk result (λ made. spec.blocks_calm made ≡ true) }
+    ensures { IfOk result (λ made. made ≡ p.blocks_of (p.around_of around.entry.raising.graphs.now around.entry.raising.any around.entry.slots.family around.entry.slots.types.now around.entry.slots.kind around.entry.slots.test around.entry.result) blocks.now) }
 {
     let first = blocks.len() as u64;
     let mut made = Seq::new(alloc);
@@ -104,7 +144,9 @@ fn types_of(
     family: Family,
     tested: bool,
     types: &[LlType],
-) -> Result<Seq<LlType>, NoMem> {
+) -> Result<Seq<LlType>, NoMem>
+    ensures { IfOk result (λ made. made ≡ p.types_of family tested types.now) }
+{
     let mut made = copy_types(alloc, types)?;
     if tested {
         made.push(LlType::Ptr(kind_of(family)))?;
@@ -120,8 +162,7 @@ pub fn graph_of(
     raising: Raising<'_>,
     graph: &LlGraph,
 ) -> Result<LlGraph, NoMem>
-    ensures calm { IfOk result (λ made. spec.blocks_calm made.blocks ≡ true) }
-    ensures head { IfOk result (λ made. spec.head_of made ≡ spec.head_of graph.now) }
+    ensures { IfOk result (λ made. made ≡ p.graph_with family raising.entry.graphs.now raising.entry.any graph.now) }
 {
     let types = graph.types.as_slice();
     let blocks = graph.blocks.as_slice();

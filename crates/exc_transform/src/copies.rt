@@ -1,5 +1,5 @@
 // Copies of what holds lists.
-ghost use Rattle.std.specs.Prelude.{◌≡◌, ◌++◌, IfOk, OnOk};
+ghost use Rattle.std.specs.Prelude.{◌≡◌, IfOk};
 ghost use Rattle.exc_transform.specs.Explicit as spec;
 
 use csub_tree::COperand;
@@ -60,37 +60,24 @@ fn copy_plain(op: &LlOp) -> LlOp
         LlOp::ArgLen(a, x) => LlOp::ArgLen(*a, *x),
         LlOp::Arg(a, x, y) => LlOp::Arg(*a, *x, *y),
         LlOp::Put(x) => LlOp::Put(*x),
-        LlOp::ExcClear | LlOp::Call(_, _, _) | LlOp::CallFn(_, _, _, _, _) | LlOp::Raise(_) => {
-            LlOp::ExcClear
-        }
+        LlOp::Raise(a) => LlOp::Raise(*a),
+        LlOp::ExcClear | LlOp::Call(_, _, _) | LlOp::CallFn(_, _, _, _, _) => LlOp::ExcClear,
     }
 }
 
-// An operation, unless it raises an exception.
-fn push_one(alloc: Global, op: &LlOp, into: &mut Seq<LlOp>) -> Result<(), NoMem>
-    ensures { OnOk result (into.new ≡ into.old ++ spec.calm_of op.now) }
+pub fn copy_op(alloc: Global, op: &LlOp) -> Result<LlOp, NoMem>
+    ensures { IfOk result (λ made. made ≡ op.now) }
 {
     match op {
-        LlOp::Raise(_) => Ok(()),
         LlOp::Call(to, graph, xs) => {
             let xs = copy_operands(alloc, xs.as_slice())?;
-            into.push(LlOp::Call(*to, *graph, xs))
+            Ok(LlOp::Call(*to, *graph, xs))
         }
         LlOp::CallFn(to, gives, params, b, xs) => {
             let params = copy_types(alloc, params.as_slice())?;
             let xs = copy_operands(alloc, xs.as_slice())?;
-            into.push(LlOp::CallFn(*to, *gives, params, *b, xs))
+            Ok(LlOp::CallFn(*to, *gives, params, *b, xs))
         }
-        _ => into.push(copy_plain(op)),
+        _ => Ok(copy_plain(op)),
     }
-}
-
-/// These operations, but those that raise an exception.
-pub fn push_calm(alloc: Global, ops: &[LlOp], into: &mut Seq<LlOp>) -> Result<(), NoMem>
-    ensures { OnOk result (into.new ≡ into.old ++ spec.calm_ops ops.now) }
-{
-    for op in ops {
-        push_one(alloc, op, into)?;
-    }
-    Ok(())
 }

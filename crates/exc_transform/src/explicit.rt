@@ -1,6 +1,7 @@
 // The transform.
-ghost use Rattle.std.specs.Prelude.{◌≡◌, true, map, IfOk};
+ghost use Rattle.std.specs.Prelude.{◌≡◌, IfOk};
 ghost use Rattle.exc_transform.specs.Explicit as spec;
+ghost use Rattle.exc_transform.specs.Pieces as p;
 
 use crate::blocks::graph_of;
 use crate::calm::graphs_calm;
@@ -10,10 +11,8 @@ use ll_code::{LlGraph, LlProgram, LlStage, LlStruct};
 use rpy_base::{NoMem, Seq};
 use std::alloc::Global;
 
-#[tactic(auto, using(crate::proofs::Lists::graphs_calm_append))]
 fn graphs_of(alloc: Global, structs: &[LlStruct], graphs: &[LlGraph]) -> Result<Seq<LlGraph>, NoMem>
-    ensures calm { IfOk result (λ made. spec.graphs_calm made ≡ true) }
-    ensures heads { IfOk result (λ made. map spec.head_of made ≡ map spec.head_of graphs.now) }
+    ensures { IfOk result (λ made. made ≡ p.graphs_of structs.now graphs.now) }
 {
     let family = family_of(structs, graphs);
     let marks = raising_graphs(alloc, graphs)?;
@@ -34,9 +33,7 @@ fn explicit_graphs(
     structs: &[LlStruct],
     graphs: Seq<LlGraph>,
 ) -> Result<Seq<LlGraph>, NoMem>
-    ensures calm { IfOk result (λ made. spec.graphs_calm made ≡ true) }
-    ensures same { IfOk result (λ made. spec.graphs_calm graphs ≡ true → made ≡ graphs) }
-    ensures heads { IfOk result (λ made. map spec.head_of made ≡ map spec.head_of graphs) }
+    ensures { IfOk result (λ made. made ≡ p.explicit_graphs structs.now graphs) }
 {
     if graphs_calm(graphs.as_slice()) {
         return Ok(graphs);
@@ -45,9 +42,11 @@ fn explicit_graphs(
 }
 
 /// A program of the stage `Explicit` that means what a program of the stage `Raw` does.
+#[tactic(auto, using(crate::proofs::Without::explicit_same))]
 pub fn make_explicit(alloc: Global, program: LlProgram) -> Result<LlProgram, NoMem>
+    ensures exact { IfOk result (λ made. made ≡ p.explicit program) }
     ensures calm { IfOk result spec.IsWithoutExceptions }
-    ensures same { IfOk result (λ made. spec.IsWithoutExceptions program → made ≡ spec.explicit program) }
+    ensures same { IfOk result (λ made. spec.IsWithoutExceptions program → made ≡ spec.restaged program) }
     ensures kept { IfOk result (spec.Keeps program) }
 {
     let LlProgram {

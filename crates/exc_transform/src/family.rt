@@ -1,7 +1,9 @@
 // The exceptions of a program. They have one root struct, whose first field leads to what tells their
 // classes apart.
-ghost use Rattle.std.specs.Prelude.{◌≡◌};
+ghost use Rattle.std.specs.Prelude.{◌≡◌, Some, slice_get};
 ghost use Rattle.exc_transform.specs.Explicit as spec;
+ghost use Rattle.exc_transform.specs.Families as families;
+ghost use Rattle.ll_code.specs.Typed as typed;
 
 use ll_code::{LlBlock, LlExit, LlGraph, LlOp, LlStruct, LlType, VarId};
 
@@ -35,7 +37,9 @@ pub fn led_to(types: &[LlType], v: VarId) -> Option<u64>
     }
 }
 
-fn in_ops(types: &[LlType], ops: &[LlOp]) -> Option<u64> {
+fn in_ops(types: &[LlType], ops: &[LlOp]) -> Option<u64>
+    ensures { result ≡ families.in_ops types.now ops.now }
+{
     for op in ops {
         if let LlOp::Raise(v) = op {
             return led_to(types, *v);
@@ -44,7 +48,9 @@ fn in_ops(types: &[LlType], ops: &[LlOp]) -> Option<u64> {
     None
 }
 
-fn in_exit(types: &[LlType], exit: &LlExit) -> Option<u64> {
+fn in_exit(types: &[LlType], exit: &LlExit) -> Option<u64>
+    ensures { result ≡ families.in_exit types.now exit.now }
+{
     match exit {
         LlExit::OnRaise(v, _, _) | LlExit::Raise(v) => led_to(types, *v),
         LlExit::Goto(_)
@@ -55,7 +61,9 @@ fn in_exit(types: &[LlType], exit: &LlExit) -> Option<u64> {
     }
 }
 
-fn in_blocks(types: &[LlType], blocks: &[LlBlock]) -> Option<u64> {
+fn in_blocks(types: &[LlType], blocks: &[LlBlock]) -> Option<u64>
+    ensures { result ≡ families.in_blocks types.now blocks.now }
+{
     for block in blocks {
         let found = in_ops(types, block.ops.as_slice());
         if found.is_some() {
@@ -69,7 +77,9 @@ fn in_blocks(types: &[LlType], blocks: &[LlBlock]) -> Option<u64> {
     None
 }
 
-fn in_graphs(graphs: &[LlGraph]) -> Option<u64> {
+fn in_graphs(graphs: &[LlGraph]) -> Option<u64>
+    ensures { result ≡ families.in_graphs graphs.now }
+{
     for graph in graphs {
         let found = in_blocks(graph.types.as_slice(), graph.blocks.as_slice());
         if found.is_some() {
@@ -81,16 +91,20 @@ fn in_graphs(graphs: &[LlGraph]) -> Option<u64> {
 
 // ---- roots
 
-fn base_of(structs: &[LlStruct], n: u64) -> Option<u64> {
+fn base_of(structs: &[LlStruct], n: u64) -> Option<u64>
+    ensures { result ≡ typed.base_of (slice_get structs.now n) }
+{
     match structs.get(n as usize) {
         None => None,
         Some(s) => s.base,
     }
 }
 
-fn root_of(structs: &[LlStruct], n: u64) -> u64 {
+fn root_of(structs: &[LlStruct], n: u64) -> u64
+    ensures { result ≡ families.root_from structs.now (Some n) }
+{
     let mut at = n;
-    for _ in 0..structs.len() {
+    for _ in structs {
         match base_of(structs, at) {
             None => return at,
             Some(base) => at = base,
@@ -99,7 +113,9 @@ fn root_of(structs: &[LlStruct], n: u64) -> u64 {
     at
 }
 
-fn first_field(structs: &[LlStruct], n: u64) -> Option<u64> {
+fn first_field(structs: &[LlStruct], n: u64) -> Option<u64>
+    ensures { result ≡ families.first_field structs.now n }
+{
     match structs.get(n as usize) {
         None => None,
         Some(s) => led_to(s.fields.as_slice(), 0),
@@ -107,7 +123,9 @@ fn first_field(structs: &[LlStruct], n: u64) -> Option<u64> {
 }
 
 /// The exceptions of a program. All are of one family, so that the first one tells it.
-pub fn family_of(structs: &[LlStruct], graphs: &[LlGraph]) -> Family {
+pub fn family_of(structs: &[LlStruct], graphs: &[LlGraph]) -> Family
+    ensures { result ≡ families.family_of structs.now graphs.now }
+{
     let root = match in_graphs(graphs) {
         None => 0,
         Some(n) => root_of(structs, n),

@@ -1,11 +1,16 @@
 // What the rest of a block reads before it sets it, each variable once.
+ghost use Rattle.std.specs.Prelude.{◌≡◌, [], ◌∷◌, ◌++◌, IfOk, OnOk};
+ghost use Rattle.exc_transform.specs.Live as spec;
+
 use crate::raising::{Raising, may_raise};
 use csub_tree::COperand;
 use ll_code::{LlExit, LlLink, LlOp, VarId};
 use rpy_base::{NoMem, Seq};
 use std::alloc::Global;
 
-fn among(v: VarId, variables: &[VarId]) -> bool {
+fn among(v: VarId, variables: &[VarId]) -> bool
+    ensures { result ≡ spec.among v variables.now }
+{
     for w in variables {
         if *w == v {
             return true;
@@ -16,26 +21,34 @@ fn among(v: VarId, variables: &[VarId]) -> bool {
 
 // ---- what is read
 
-fn push_operand(x: COperand, into: &mut Seq<VarId>) -> Result<(), NoMem> {
+fn push_operand(x: COperand, into: &mut Seq<VarId>) -> Result<(), NoMem>
+    ensures { OnOk result (into.new ≡ into.old ++ spec.variables_of x) }
+{
     match x {
         COperand::Var(v) => into.push(v),
         COperand::Const(_) => Ok(()),
     }
 }
 
-fn push_operands(xs: &[COperand], into: &mut Seq<VarId>) -> Result<(), NoMem> {
+fn push_operands(xs: &[COperand], into: &mut Seq<VarId>) -> Result<(), NoMem>
+    ensures { OnOk result (into.new ≡ into.old ++ spec.variables_in xs.now) }
+{
     for x in xs {
         push_operand(*x, into)?;
     }
     Ok(())
 }
 
-fn push_two(x: COperand, y: COperand, into: &mut Seq<VarId>) -> Result<(), NoMem> {
+fn push_two(x: COperand, y: COperand, into: &mut Seq<VarId>) -> Result<(), NoMem>
+    ensures { OnOk result (into.new ≡ into.old ++ spec.variables_of x ++ spec.variables_of y) }
+{
     push_operand(x, into)?;
     push_operand(y, into)
 }
 
-fn push_reads(op: &LlOp, into: &mut Seq<VarId>) -> Result<(), NoMem> {
+fn push_reads(op: &LlOp, into: &mut Seq<VarId>) -> Result<(), NoMem>
+    ensures { OnOk result (into.new ≡ into.old ++ spec.reads op.now) }
+{
     match op {
         LlOp::Set(_, x)
         | LlOp::Unary(_, _, x)
@@ -66,7 +79,9 @@ fn push_reads(op: &LlOp, into: &mut Seq<VarId>) -> Result<(), NoMem> {
     }
 }
 
-fn set_by(op: &LlOp) -> Option<VarId> {
+fn set_by(op: &LlOp) -> Option<VarId>
+    ensures { result ≡ spec.set_by op.now }
+{
     match op {
         LlOp::Set(a, _)
         | LlOp::Unary(a, _, _)
@@ -92,7 +107,9 @@ fn set_by(op: &LlOp) -> Option<VarId> {
     }
 }
 
-fn push_exit_reads(exit: &LlExit, into: &mut Seq<VarId>) -> Result<(), NoMem> {
+fn push_exit_reads(exit: &LlExit, into: &mut Seq<VarId>) -> Result<(), NoMem>
+    ensures { OnOk result (into.new ≡ into.old ++ spec.exit_variables exit.now) }
+{
     match exit {
         LlExit::Goto(link) | LlExit::OnRaise(_, _, link) => {
             push_operands(link.args.as_slice(), into)
@@ -111,7 +128,9 @@ fn push_exit_reads(exit: &LlExit, into: &mut Seq<VarId>) -> Result<(), NoMem> {
 // ---- what is live
 
 // The variables that are in neither list.
-fn push_new(variables: &[VarId], set: &[VarId], into: &mut Seq<VarId>) -> Result<(), NoMem> {
+fn push_new(variables: &[VarId], set: &[VarId], into: &mut Seq<VarId>) -> Result<(), NoMem>
+    ensures { OnOk result (into.new ≡ spec.new_ones variables.now set.now into.old) }
+{
     for v in variables {
         if !among(*v, set) && !among(*v, into.as_slice()) {
             into.push(*v)?;
@@ -121,7 +140,9 @@ fn push_new(variables: &[VarId], set: &[VarId], into: &mut Seq<VarId>) -> Result
 }
 
 // What a link reads but the variable.
-fn read_behind(alloc: Global, a: VarId, link: &LlLink) -> Result<Seq<VarId>, NoMem> {
+fn read_behind(alloc: Global, a: VarId, link: &LlLink) -> Result<Seq<VarId>, NoMem>
+    ensures { IfOk result (λ made. made ≡ spec.read_behind a link.now) }
+{
     let mut reads = Seq::new(alloc);
     push_operands(link.args.as_slice(), &mut reads)?;
     let mut live = Seq::new(alloc);
@@ -130,28 +151,20 @@ fn read_behind(alloc: Global, a: VarId, link: &LlLink) -> Result<Seq<VarId>, NoM
 }
 
 /// What an exit reads where the operation before the others raised an exception, which it takes.
-pub fn handler_reads(alloc: Global, rest: &[LlOp], exit: &LlExit) -> Result<Seq<VarId>, NoMem> {
+pub fn handler_reads(alloc: Global, rest: &[LlOp], exit: &LlExit) -> Result<Seq<VarId>, NoMem>
+    ensures { IfOk result (λ made. made ≡ spec.handler_reads rest.now exit.now) }
+{
     match exit {
         LlExit::OnRaise(a, Some(link), _) if rest.is_empty() => read_behind(alloc, *a, link),
         _ => Ok(Seq::new(alloc)),
     }
 }
 
-fn ends_raising(raising: Raising<'_>, ops: &[LlOp]) -> bool {
-    match ops.last() {
-        None => false,
-        Some(op) => may_raise(raising, op),
-    }
-}
-
 // What the exit reads; by an exception only where the last operation may raise one.
-fn exit_reads(
-    alloc: Global,
-    raising: Raising<'_>,
-    ops: &[LlOp],
-    exit: &LlExit,
-) -> Result<Seq<VarId>, NoMem> {
-    let mut reads = if ends_raising(raising, ops) {
+fn exit_reads(alloc: Global, raises: bool, exit: &LlExit) -> Result<Seq<VarId>, NoMem>
+    ensures { IfOk result (λ made. made ≡ spec.exit_reads raises exit.now) }
+{
+    let mut reads = if raises {
         handler_reads(alloc, &[], exit)?
     } else {
         Seq::new(alloc)
@@ -160,30 +173,51 @@ fn exit_reads(
     Ok(reads)
 }
 
+// What an operation reads that is not set, behind what is read so far.
+fn push_live(alloc: Global, op: &LlOp, set: &[VarId], into: &mut Seq<VarId>) -> Result<(), NoMem>
+    ensures { OnOk result (into.new ≡ spec.new_ones (spec.reads op.now) set.now into.old) }
+{
+    let mut reads = Seq::new(alloc);
+    push_reads(op, &mut reads)?;
+    push_new(reads.as_slice(), set, into)
+}
+
+// The variable that an operation sets, behind those that are set.
+fn push_set(op: &LlOp, set: &mut Seq<VarId>) -> Result<(), NoMem>
+    ensures { OnOk result (set.new ≡ spec.and_this set.old (spec.set_by op.now)) }
+{
+    match set_by(op) {
+        None => Ok(()),
+        Some(a) => set.push(a),
+    }
+}
+
 /// What operations and the exit behind them read before they set it.
 pub fn live(
     alloc: Global,
     raising: Raising<'_>,
     ops: &[LlOp],
     exit: &LlExit,
-) -> Result<Seq<VarId>, NoMem> {
+) -> Result<Seq<VarId>, NoMem>
+    ensures { IfOk result (λ made. made ≡ spec.live raising.entry.graphs.now raising.entry.any ops.now exit.now) }
+{
     let mut set = Seq::new(alloc);
     let mut live = Seq::new(alloc);
+    let mut raises = false;
     for op in ops {
-        let mut reads = Seq::new(alloc);
-        push_reads(op, &mut reads)?;
-        push_new(reads.as_slice(), set.as_slice(), &mut live)?;
-        if let Some(a) = set_by(op) {
-            set.push(a)?;
-        }
+        push_live(alloc, op, set.as_slice(), &mut live)?;
+        push_set(op, &mut set)?;
+        raises = may_raise(raising, op);
     }
-    let reads = exit_reads(alloc, raising, ops, exit)?;
+    let reads = exit_reads(alloc, raises, exit)?;
     push_new(reads.as_slice(), set.as_slice(), &mut live)?;
     Ok(live)
 }
 
 /// The variables as operands.
-pub fn as_operands(alloc: Global, variables: &[VarId]) -> Result<Seq<COperand>, NoMem> {
+pub fn as_operands(alloc: Global, variables: &[VarId]) -> Result<Seq<COperand>, NoMem>
+    ensures { IfOk result (λ made. made ≡ spec.as_operands variables.now) }
+{
     let mut xs = Seq::new(alloc);
     for v in variables {
         xs.push(COperand::Var(*v))?;

@@ -1,10 +1,11 @@
 // The pieces of a block. Each call that may raise ends one.
-ghost use Rattle.std.specs.Prelude.{◌≡◌, ◌+◌, ◌++◌, true, IfOk, OnOk};
+ghost use Rattle.std.specs.Prelude.{◌≡◌, ◌+◌, ◌++◌, is_some, None, IfOk, OnOk};
 ghost use Rattle.exc_transform.specs.Explicit as spec;
+ghost use Rattle.exc_transform.specs.Pieces as p;
 
-use crate::copies::{copy_link, push_calm};
+use crate::copies::{copy_link, copy_op};
 use crate::live::{as_operands, handler_reads, live};
-use crate::raising::{Raising, is_tested, may_raise};
+use crate::raising::{Raising, is_tested};
 use crate::slots::{Slots, default_of, push_given, push_raise, push_taken, push_test};
 use ll_code::{LlBlock, LlExit, LlLink, LlOp, LlType, VarId};
 use rpy_base::{NoMem, Seq};
@@ -30,35 +31,21 @@ pub fn add(n: u64, more: u64) -> Result<u64, NoMem>
 
 // ---- where a piece ends
 
-/// The operations up to the first that may raise, that among them.
-pub fn head_of<'a>(raising: Raising<'_>, ops: &'a [LlOp]) -> &'a [LlOp] {
-    for i in 0..ops.len() {
-        if may_raise(raising, &ops[i]) {
-            return &ops[..i + 1];
-        }
-    }
-    ops
-}
-
-/// The operations behind those.
-pub fn rest_of<'a>(raising: Raising<'_>, ops: &'a [LlOp]) -> &'a [LlOp] {
-    let cut = head_of(raising, ops).len();
-    if cut < ops.len() { &ops[cut..] } else { &[] }
-}
-
-/// How a piece ends.
+/// What an operation does to the piece that it stands in: it goes on, raises, or is a call that may.
 #[derive(Clone, Copy)]
-enum Ending {
+pub enum Ending {
     Leaves,
     Raises(VarId),
     Tested,
 }
 
-fn ending_of(raising: Raising<'_>, ops: &[LlOp]) -> Ending {
-    match ops.last() {
-        None => Ending::Leaves,
-        Some(LlOp::Raise(v)) => Ending::Raises(*v),
-        Some(op) => {
+/// Where the piece of the operation ends, if it does.
+pub fn ending_of(raising: Raising<'_>, op: &LlOp) -> Ending
+    ensures { result ≡ p.ending_of raising.entry.graphs.now raising.entry.any op.now }
+{
+    match op {
+        LlOp::Raise(v) => Ending::Raises(*v),
+        _ => {
             if is_tested(raising, op) {
                 Ending::Tested
             } else {
@@ -68,22 +55,14 @@ fn ending_of(raising: Raising<'_>, ops: &[LlOp]) -> Ending {
     }
 }
 
-/// Whether a piece ends with a call that may raise.
-pub fn ends_tested(raising: Raising<'_>, ops: &[LlOp]) -> bool {
-    match ending_of(raising, ops) {
-        Ending::Tested => true,
-        Ending::Leaves | Ending::Raises(_) => false,
-    }
-}
-
-/// The link by which a piece goes on, where nothing stands between it and that.
-pub fn onward<'a>(rest: &[LlOp], exit: &'a LlExit) -> Option<&'a LlLink> {
-    if !rest.is_empty() {
-        return None;
-    }
+/// Whether a piece goes on by the exit's link, since nothing stands between it and that.
+pub fn goes_on(rest: &[LlOp], exit: &LlExit) -> bool
+    ensures { result ≡ is_some (p.onward rest.now exit.now) }
+{
     match exit {
-        LlExit::Goto(link) | LlExit::OnRaise(_, _, link) => Some(link),
-        _ => None,
+        LlExit::Goto(_) => rest.is_empty(),
+        LlExit::OnRaise(_, _, _) => rest.is_empty(),
+        _ => false,
     }
 }
 
@@ -143,23 +122,37 @@ fn raised(
     }
 }
 
-// Where a piece goes on: the block of the rest is the one behind the block for exceptions.
+// Where the rest stands: in the block behind the one for exceptions.
+fn on_rest(
+    alloc: Global,
+    around: Around<'_>,
+    rest: &[LlOp],
+    exit: &LlExit,
+    way: u64,
+) -> Result<LlLink, NoMem>
+    ensures { IfOk result (λ made. made ≡ p.on_by (p.around_of around.entry.raising.graphs.now around.entry.raising.any around.entry.slots.family around.entry.slots.types.now around.entry.slots.kind around.entry.slots.test around.entry.result) rest.now exit.now way None) }
+{
+    let inputs = live(alloc, around.raising, rest, exit)?;
+    Ok(LlLink {
+        to: add(way, 1)?,
+        args: as_operands(alloc, inputs.as_slice())?,
+    })
+}
+
+// Where a piece goes on.
 fn on(
     alloc: Global,
     around: Around<'_>,
     rest: &[LlOp],
     exit: &LlExit,
     way: u64,
-) -> Result<LlLink, NoMem> {
-    match onward(rest, exit) {
-        Some(link) => copy_link(alloc, link),
-        None => {
-            let inputs = live(alloc, around.raising, rest, exit)?;
-            Ok(LlLink {
-                to: add(way, 1)?,
-                args: as_operands(alloc, inputs.as_slice())?,
-            })
-        }
+) -> Result<LlLink, NoMem>
+    ensures { IfOk result (λ made. made ≡ p.on (p.around_of around.entry.raising.graphs.now around.entry.raising.any around.entry.slots.family around.entry.slots.types.now around.entry.slots.kind around.entry.slots.test around.entry.result) rest.now exit.now way) }
+{
+    match exit {
+        LlExit::Goto(link) if rest.is_empty() => copy_link(alloc, link),
+        LlExit::OnRaise(_, _, link) if rest.is_empty() => copy_link(alloc, link),
+        _ => on_rest(alloc, around, rest, exit, way),
     }
 }
 
@@ -173,7 +166,7 @@ fn tested(
     ops: &mut Seq<LlOp>,
 ) -> Result<LlExit, NoMem>
     ensures ops { OnOk result (ops.new ≡ ops.old ++ spec.testing around.entry.slots.family around.entry.slots.kind around.entry.slots.test) }
-    ensures exit { IfOk result (λ made. spec.IsTest around.entry.slots.test way made) }
+    ensures exit { IfOk result (λ made. made ≡ p.test_exit (p.around_of around.entry.raising.graphs.now around.entry.raising.any around.entry.slots.family around.entry.slots.types.now around.entry.slots.kind around.entry.slots.test around.entry.result) rest.now exit.now way) }
 {
     push_test(around.slots, ops)?;
     let on = on(alloc, around, rest, exit, way)?;
@@ -187,8 +180,7 @@ fn tested(
 
 // ---- blocks
 
-// How the first piece of these operations ends.
-#[tactic(auto, using(crate::proofs::Lists::are_calm_append, crate::proofs::Lists::left_ops_calm, crate::proofs::Lists::raised_ops_calm))]
+// The operations of the first piece, and how it ends.
 fn exit_of(
     alloc: Global,
     around: Around<'_>,
@@ -197,20 +189,26 @@ fn exit_of(
     way: u64,
     ops: &mut Seq<LlOp>,
 ) -> Result<LlExit, NoMem>
-    ensures ops { OnOk result (spec.are_calm ops.old ≡ true → spec.are_calm ops.new ≡ true) }
-    ensures exit { IfOk result (λ made. spec.leaves_calmly made ≡ true) }
+    ensures ops { OnOk result (ops.new ≡ ops.old ++ p.piece_ops (p.around_of around.entry.raising.graphs.now around.entry.raising.any around.entry.slots.family around.entry.slots.types.now around.entry.slots.kind around.entry.slots.test around.entry.result) given.now exit.now) }
+    ensures exit { IfOk result (λ made. made ≡ p.piece_exit (p.around_of around.entry.raising.graphs.now around.entry.raising.any around.entry.slots.family around.entry.slots.types.now around.entry.slots.kind around.entry.slots.test around.entry.result) given.now exit.now way) }
 {
-    let rest = rest_of(around.raising, given);
-    match ending_of(around.raising, head_of(around.raising, given)) {
-        Ending::Leaves => left(alloc, around, exit, ops),
-        Ending::Raises(v) => raised(alloc, around, v, rest, exit, ops),
-        Ending::Tested => tested(alloc, around, rest, exit, way, ops),
+    let mut rest = given;
+    while let [op, others @ ..] = rest {
+        match ending_of(around.raising, op) {
+            Ending::Raises(v) => return raised(alloc, around, v, others, exit, ops),
+            Ending::Tested => {
+                ops.push(copy_op(alloc, op)?)?;
+                return tested(alloc, around, others, exit, way, ops);
+            }
+            Ending::Leaves => ops.push(copy_op(alloc, op)?)?,
+        }
+        rest = others;
     }
+    left(alloc, around, exit, ops)
 }
 
 /// The first piece of these operations and the exit. The block for its exceptions, if it has one, has
 /// the number `way`.
-#[tactic(auto, using(crate::proofs::Lists::calm_ops_calm))]
 pub fn piece(
     alloc: Global,
     around: Around<'_>,
@@ -219,10 +217,9 @@ pub fn piece(
     exit: &LlExit,
     way: u64,
 ) -> Result<LlBlock, NoMem>
-    ensures { IfOk result (λ made. spec.block_calm made ≡ true) }
+    ensures { IfOk result (λ made. made ≡ p.piece (p.around_of around.entry.raising.graphs.now around.entry.raising.any around.entry.slots.family around.entry.slots.types.now around.entry.slots.kind around.entry.slots.test around.entry.result) inputs given.now exit.now way) }
 {
     let mut ops = Seq::new(alloc);
-    push_calm(alloc, head_of(around.raising, given), &mut ops)?;
     let exit = exit_of(alloc, around, given, exit, way, &mut ops)?;
     Ok(LlBlock { inputs, ops, exit })
 }
@@ -271,9 +268,7 @@ pub fn way_of(
     rest: &[LlOp],
     exit: &LlExit,
 ) -> Result<LlBlock, NoMem>
-    ensures ops { IfOk result (λ made. made.ops ≡ spec.way_ops around.entry.slots.family around.entry.slots.types.now rest.now exit.now) }
-    ensures exit { IfOk result (λ made. made.exit ≡ spec.way_exit around.entry.result rest.now exit.now) }
-    ensures calm { IfOk result (λ made. spec.block_calm made ≡ true) }
+    ensures { IfOk result (λ made. made ≡ p.way_block (p.around_of around.entry.raising.graphs.now around.entry.raising.any around.entry.slots.family around.entry.slots.types.now around.entry.slots.kind around.entry.slots.test around.entry.result) rest.now exit.now) }
 {
     Ok(LlBlock {
         inputs: handler_reads(alloc, rest, exit)?,

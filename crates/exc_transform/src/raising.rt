@@ -1,7 +1,8 @@
 // Which graphs may raise an exception: those in which an operation or an exit does that is not caught in
 // its own block, calls of such graphs among them.
-ghost use Rattle.std.specs.Prelude.{◌≡◌};
+ghost use Rattle.std.specs.Prelude.{◌≡◌, map, IfOk};
 ghost use Rattle.exc_transform.specs.Explicit as spec;
+ghost use Rattle.exc_transform.specs.Raising as raises;
 
 use ll_code::{LlBlock, LlExit, LlGraph, LlOp};
 use rpy_base::{NoMem, Seq};
@@ -35,7 +36,9 @@ pub fn is_tested(raising: Raising<'_>, op: &LlOp) -> bool
     }
 }
 
-pub fn may_raise(raising: Raising<'_>, op: &LlOp) -> bool {
+pub fn may_raise(raising: Raising<'_>, op: &LlOp) -> bool
+    ensures { result ≡ raises.may_raise raising.entry.graphs.now raising.entry.any op.now }
+{
     match op {
         LlOp::Raise(_) => true,
         _ => is_tested(raising, op),
@@ -43,7 +46,9 @@ pub fn may_raise(raising: Raising<'_>, op: &LlOp) -> bool {
 }
 
 // Whether the exit catches what the last operation before it raises.
-fn catches(exit: &LlExit) -> bool {
+fn catches(exit: &LlExit) -> bool
+    ensures { result ≡ raises.catches exit.now }
+{
     match exit {
         LlExit::OnRaise(_, Some(_), _) => true,
         _ => false,
@@ -52,7 +57,9 @@ fn catches(exit: &LlExit) -> bool {
 
 // ---- graphs
 
-fn ops_leave(raising: Raising<'_>, ops: &[LlOp], exit: &LlExit) -> bool {
+fn ops_leave(raising: Raising<'_>, ops: &[LlOp], exit: &LlExit) -> bool
+    ensures { result ≡ raises.ops_leave raising.entry.graphs.now raising.entry.any ops.now exit.now }
+{
     let mut rest = ops;
     while let [op, others @ ..] = rest {
         let caught = others.is_empty() && catches(exit);
@@ -64,7 +71,9 @@ fn ops_leave(raising: Raising<'_>, ops: &[LlOp], exit: &LlExit) -> bool {
     false
 }
 
-fn exit_leaves(exit: &LlExit) -> bool {
+fn exit_leaves(exit: &LlExit) -> bool
+    ensures { result ≡ raises.exit_leaves exit.now }
+{
     match exit {
         LlExit::Raise(_) => true,
         LlExit::OnRaise(_, _, _)
@@ -76,7 +85,9 @@ fn exit_leaves(exit: &LlExit) -> bool {
     }
 }
 
-fn blocks_leave(raising: Raising<'_>, blocks: &[LlBlock]) -> bool {
+fn blocks_leave(raising: Raising<'_>, blocks: &[LlBlock]) -> bool
+    ensures { result ≡ raises.blocks_leave raising.entry.graphs.now raising.entry.any blocks.now }
+{
     for block in blocks {
         if exit_leaves(&block.exit) || ops_leave(raising, block.ops.as_slice(), &block.exit) {
             return true;
@@ -85,7 +96,9 @@ fn blocks_leave(raising: Raising<'_>, blocks: &[LlBlock]) -> bool {
     false
 }
 
-fn some_raises(raising: Raising<'_>, ops: &[LlOp]) -> bool {
+fn some_raises(raising: Raising<'_>, ops: &[LlOp]) -> bool
+    ensures { result ≡ raises.some_raises raising.entry.graphs.now raising.entry.any ops.now }
+{
     for op in ops {
         if may_raise(raising, op) {
             return true;
@@ -95,7 +108,9 @@ fn some_raises(raising: Raising<'_>, ops: &[LlOp]) -> bool {
 }
 
 /// Whether some block raises, caught or not.
-pub fn raises_within(raising: Raising<'_>, blocks: &[LlBlock]) -> bool {
+pub fn raises_within(raising: Raising<'_>, blocks: &[LlBlock]) -> bool
+    ensures { result ≡ raises.raises_within raising.entry.graphs.now raising.entry.any blocks.now }
+{
     for block in blocks {
         if exit_leaves(&block.exit) || some_raises(raising, block.ops.as_slice()) {
             return true;
@@ -106,7 +121,9 @@ pub fn raises_within(raising: Raising<'_>, blocks: &[LlBlock]) -> bool {
 
 // ---- all of them
 
-pub fn any_marked(marks: &[bool]) -> bool {
+pub fn any_marked(marks: &[bool]) -> bool
+    ensures { result ≡ raises.any_marked marks.now }
+{
     for marked in marks {
         if *marked {
             return true;
@@ -115,16 +132,20 @@ pub fn any_marked(marks: &[bool]) -> bool {
     false
 }
 
-fn none_marked(alloc: Global, count: usize) -> Result<Seq<bool>, NoMem> {
+fn all_as(alloc: Global, graphs: &[LlGraph], mark: bool) -> Result<Seq<bool>, NoMem>
+    ensures { IfOk result (λ made. made ≡ map (λ graph. mark) graphs.now) }
+{
     let mut marks = Seq::new(alloc);
-    for _ in 0..count {
-        marks.push(false)?;
+    for _ in graphs {
+        marks.push(mark)?;
     }
     Ok(marks)
 }
 
 // The graphs that may raise, where these do.
-fn marked_by(alloc: Global, graphs: &[LlGraph], marks: &[bool]) -> Result<Seq<bool>, NoMem> {
+fn marked_by(alloc: Global, graphs: &[LlGraph], marks: &[bool]) -> Result<Seq<bool>, NoMem>
+    ensures { IfOk result (λ made. made ≡ raises.marked_by graphs.now marks.now) }
+{
     let raising = Raising {
         graphs: marks,
         any: any_marked(marks),
@@ -136,27 +157,35 @@ fn marked_by(alloc: Global, graphs: &[LlGraph], marks: &[bool]) -> Result<Seq<bo
     Ok(more)
 }
 
-fn same_marks(marks: &[bool], others: &[bool]) -> bool {
-    if marks.len() != others.len() {
-        return false;
-    }
-    for i in 0..marks.len() {
-        if marks[i] != others[i] {
-            return false;
+fn same_marks(marks: &[bool], others: &[bool]) -> bool
+    ensures { result ≡ raises.same_marks marks.now others.now }
+{
+    let mut left = marks;
+    let mut right = others;
+    while let [a, more @ ..] = left {
+        match right {
+            [b, rest @ ..] if *a == *b => {
+                left = more;
+                right = rest;
+            }
+            _ => return false,
         }
     }
-    true
+    right.is_empty()
 }
 
-/// For each graph whether it may raise. Each round but the last marks one more.
-pub fn raising_graphs(alloc: Global, graphs: &[LlGraph]) -> Result<Seq<bool>, NoMem> {
-    let mut marks = none_marked(alloc, graphs.len())?;
-    for _ in 0..graphs.len() {
+/// For each graph whether it may raise. Each round but the last marks one more, so that one of as many
+/// rounds as there are graphs is the last.
+pub fn raising_graphs(alloc: Global, graphs: &[LlGraph]) -> Result<Seq<bool>, NoMem>
+    ensures { IfOk result (λ made. made ≡ raises.raising_graphs graphs.now) }
+{
+    let mut marks = all_as(alloc, graphs, false)?;
+    for _ in graphs {
         let more = marked_by(alloc, graphs, marks.as_slice())?;
         if same_marks(more.as_slice(), marks.as_slice()) {
             return Ok(more);
         }
         marks = more;
     }
-    Ok(marks)
+    all_as(alloc, graphs, true)
 }

@@ -1,9 +1,8 @@
-use Rattle.std.proofs.Common.{◌≡◌, ◌&&◌, length}
-use Rattle.exc_transform.specs.Explicit.{blocks_calm}
+use Rattle.std.proofs.Common.{◌≡◌, ◌++◌, ◌+◌, reverse, length}
 use Rattle.exc_transform.proofs.blocks.turned.Given as goal
 
 abbrev pub invariant-loop-block : goal.invariant-loop-block
-invariant-loop-block l = (blocks_calm l.left && blocks_calm l.made) ≡ blocks_calm l.initial.left
+invariant-loop-block l = l.made ++ reverse l.left ≡ reverse l.initial.left
 
 abbrev pub decreases-loop-block : goal.decreases-loop-block
 decreases-loop-block l = length l.left

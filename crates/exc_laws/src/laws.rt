@@ -1,0 +1,51 @@
+// Laws of what `make_explicit` gives, over all programs.
+ghost use Rattle.std.specs.Prelude.{◌≡◌, ℕ, List, false};
+ghost use Rattle.ll_code.specs.State.{State};
+ghost use Rattle.ll_code.specs.Machine.{step};
+ghost use Rattle.ll_code.specs.Meaning.{Meant, within, LMeans, RunsOn, NeverStuck};
+ghost use Rattle.ll_code.specs.Typed.{IsWellTyped};
+ghost use Rattle.ll_code.specs.declared.program.LlStage.TheVariants as stage;
+ghost use Rattle.ll_code.specs.declared.program.LlProgram.{LlProgram};
+ghost use Rattle.ll_laws.specs.States.{StateFits};
+ghost use Rattle.exc_transform.specs.Explicit.{IsWithoutExceptions, graphs_calm};
+ghost use Rattle.exc_transform.specs.Pieces.{explicit};
+ghost use Rattle.exc_laws.specs.Ready.{IsClosed, IsReady};
+ghost use Rattle.exc_laws.specs.Stands.{Stands};
+ghost use Rattle.exc_laws.specs.Follows.{Follows};
+ghost use Rattle.exc_laws.specs.Alike.{Allows};
+
+/// The explicit program of a well-typed one is well typed.
+#[tactic(auto, using(crate::proofs::WellTyped::explicit_typed))]
+pub fn explicit_programs_are_well_typed()
+    ensures { (p : LlProgram) → IsWellTyped p → p.stage ≡ stage.Raw → IsWellTyped (explicit p) }
+{}
+
+/// A program in which nothing raises an exception means exactly the same, within as many steps of the
+/// machine.
+#[tactic(auto, using(crate::proofs::Without::without_same))]
+pub fn programs_without_exceptions_mean_the_same()
+    ensures { (p : LlProgram) → IsWithoutExceptions p → (args : List (List ℕ)) (steps k : ℕ) → within (explicit p) args steps k ≡ within p args steps k }
+{}
+
+/// The machine of the explicit program follows each step of the program's, where exceptions are raised
+/// and each block reads its inputs alone.
+#[tactic(auto, using(crate::proofs::Steps::step_follows))]
+pub fn steps_are_followed()
+    ensures { (p : LlProgram) → IsWellTyped p → p.stage ≡ stage.Raw → graphs_calm p.graphs ≡ false → IsClosed p → (args : List (List ℕ)) (s x : State) → Stands p s x → StateFits p s → IsReady p s → Follows p args x (step p args s) }
+{}
+
+/// The explicit program means what the program means, where each block reads its inputs alone and each
+/// state of the run is ready: each meaning of the one is one of the other, and the one runs on where the
+/// other does.
+pub fn explicit_programs_mean_the_same()
+    ensures forth { (p : LlProgram) → IsWellTyped p → p.stage ≡ stage.Raw → (args : List (List ℕ)) (steps : ℕ) → Allows p args steps → (meant : Meant) → LMeans p args steps meant → LMeans (explicit p) args steps meant }
+    ensures back { (p : LlProgram) → IsWellTyped p → p.stage ≡ stage.Raw → (args : List (List ℕ)) (steps : ℕ) → Allows p args steps → (meant : Meant) → LMeans (explicit p) args steps meant → LMeans p args steps meant }
+    ensures on { (p : LlProgram) → IsWellTyped p → p.stage ≡ stage.Raw → (args : List (List ℕ)) (steps : ℕ) → Allows p args steps → ((k : ℕ) → RunsOn k p args steps) → (k : ℕ) → RunsOn k (explicit p) args steps }
+    ensures on_too { (p : LlProgram) → IsWellTyped p → p.stage ≡ stage.Raw → (args : List (List ℕ)) (steps : ℕ) → Allows p args steps → ((k : ℕ) → RunsOn k (explicit p) args steps) → (k : ℕ) → RunsOn k p args steps }
+{}
+
+/// The explicit program of one that is never stuck, and whose runs are ready, is never stuck.
+#[tactic(auto, using(crate::proofs::Whole::never_stuck))]
+pub fn explicit_programs_are_never_stuck()
+    ensures { (p : LlProgram) → IsWellTyped p → p.stage ≡ stage.Raw → ((args : List (List ℕ)) (steps : ℕ) → Allows p args steps) → NeverStuck p → NeverStuck (explicit p) }
+{}
