@@ -54,7 +54,7 @@ cells_by plan n None cells = first_cells (has_count plan n) (as_they_are cells)
 cells_by plan n (Some m) cells = behind_base m cells
 
 abbrev pub cell_step : Plan → CCell-F Cell → Cell
-cell_step plan (CCell-F.Const c) role = cell.Const c
+cell_step plan (CCell-F.Const c) other = cell.Const c
 cell_step plan (CCell-F.Braces cells) None = cell.Braces (as_they_are cells)
 cell_step plan (CCell-F.Braces cells) (Some n) = cell.Braces (cells_by plan n (base_at plan n) cells)
 
