@@ -454,12 +454,12 @@ fn held_types(alloc: Global, plan: Plan<'_>, n: u64, held: &[Held]) -> Result<Se
 fn plain_body(alloc: Global, plan: Plan<'_>, held: &[Held]) -> Result<LlBlock, NoMem>
     ensures { IfOk result (λ block. block ≡ spec.plain_body (the_plan plan.entry) held.now) }
 {
-    let mut ops = Seq::new(alloc);
-    push_gets(held, &mut ops)?;
-    push_freed(alloc, plan, held, &mut ops)?;
+    let mut body = Seq::new(alloc);
+    push_gets(held, &mut body)?;
+    push_freed(alloc, plan, held, &mut body)?;
     Ok(LlBlock {
         inputs: first_variables(alloc, 1)?,
-        ops,
+        ops: body,
         exit: LlExit::Return(None),
     })
 }

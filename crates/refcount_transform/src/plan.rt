@@ -458,7 +458,7 @@ pub fn held_of(alloc: Global, plan: Plan<'_>, n: u64) -> Result<Seq<Held>, NoMem
         push_held(plan, at, &mut held)?;
         match base_at(plan, at) {
             None => return Ok(held),
-            Some(base) => at = base,
+            Some(m) => at = m,
         }
     }
     Ok(held)
