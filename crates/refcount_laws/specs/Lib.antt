@@ -1,0 +1,4 @@
+pub mod Ghost
+pub mod Graphs
+pub mod Runs
+pub mod Touched

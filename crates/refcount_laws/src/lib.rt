@@ -1,0 +1,6 @@
+//! Laws of counted programs: references are counted, and blocks are released, as the counts say.
+#![tactic(auto)]
+
+mod laws;
+
+pub use laws::dropped_references_release;
