@@ -2,4 +2,8 @@ pub mod Cells
 pub mod Ghosts
 pub mod Steps
 pub mod Touching
+pub mod Variables
+pub mod Moving
+pub mod Falling
+pub mod Reading
 pub mod Leading
