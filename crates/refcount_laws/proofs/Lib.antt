@@ -6,4 +6,5 @@ pub mod Variables
 pub mod Moving
 pub mod Falling
 pub mod Reading
+pub mod Release
 pub mod Leading

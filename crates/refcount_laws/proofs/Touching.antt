@@ -79,6 +79,16 @@ module _ (c : Counts) where
     less = t.less;
   }
 
+  pub shows_gone : (g : List Slot) (h : List (Option Block)) (a : ℕ) (d : Slot) → count_of d ≡ 0 → 0 < count g a → Shows c h g → Shows c h (slice_set g a d)
+  shows_gone g h a d e alive sh = record {
+    at = λ b lt.
+        let ne : a ≢ b = λ q. absurd (omega (arith, lt, ap (count (slice_set g a d)) (sym q), ap count_of (set_here g a d no_slot (inside g a alive)), e)) in
+        sh.at b (omega (arith, lt, ap count_of (set_other g a b d no_slot ne))) ∙ sym (ap (shown c) (set_other g a b d no_slot ne));
+  }
+
+  pub shows_beside : (g : List Slot) (h : List (Option Block)) (z : ℕ) (x : Option Block) → count g z ≡ 0 → Shows c h g → Shows c (slice_set h z x) g
+  shows_beside g h z x gone sh = record { at = λ b lt. set_other h z b x None (λ q. absurd (omega (arith, lt, gone, ap (count g) q))) ∙ sh.at b lt }
+
   -- memory that shows all blocks that were made, each gone or there
   pub record Shown (h : List (Option Block)) (g : List Slot) : Type 0 where
     pub at : (a : ℕ) → block_in h a ≡ shown c (slot_at g a)

@@ -72,6 +72,9 @@ same_but_last vars (suc n) v x =
     ap (λ l. set_all l (variables (suc v) (suc n)) (operands vars (given (suc v) n ++ x ∷ []))) (set_again vars v Unset) ∙ same_but_last vars n (suc v) x
     ∙ ap (λ w. slice_set vars w (operand vars x)) (let e : suc v + n ≡ v + suc n = omega arith in e)
 
+pub last_set : (vars : List Value) (n : ℕ) (x : COperand) → set_all vars (variables 0 (suc n)) (operands vars (given 0 n ++ x ∷ [])) ≡ slice_set vars n (operand vars x)
+last_set vars n x = same_but_last vars n 0 x ∙ ap (λ w. slice_set vars w (operand vars x)) (let e : 0 + n ≡ n = omega arith in e)
+
 pub set_more : (vars : List Value) (n a : ℕ) (x : Value) → AllSet vars n → is_unset x ≡ false → AllSet (slice_set vars a x) n
 set_more vars n a x s e = record { at = λ i lt. at i lt (set_or vars a i x) }
   where
