@@ -7,4 +7,5 @@ pub mod Moving
 pub mod Falling
 pub mod Reading
 pub mod Release
+pub mod Emptying
 pub mod Leading
