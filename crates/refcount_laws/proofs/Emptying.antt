@@ -30,7 +30,7 @@ use Rattle.refcount_laws.proofs.Moving.{own_same, before, behind, moved_on, unmo
 use Rattle.refcount_laws.proofs.Release.{memory, Down, Drops, Loops, Looped}
 
 module _ (q : LlProgram) (args : List (List ℕ)) (c : Counts) (counting : Counting q c) where
-  release_stands : (kind m : ℕ) → c.counted kind ≡ true → c.items kind ≡ Some m → Stands q (c.release kind) (type.Ptr (c.root kind) ∷ (held_types (c.held kind) ++ types_for (Some m))) (item_blocks c kind m)
+  pub release_stands : (kind m : ℕ) → c.counted kind ≡ true → c.items kind ≡ Some m → Stands q (c.release kind) (type.Ptr (c.root kind) ∷ (held_types (c.held kind) ++ types_for (Some m))) (item_blocks c kind m)
   release_stands kind m counted e = subst (λ o. Stands q (c.release kind) (type.Ptr (c.root kind) ∷ (held_types (c.held kind) ++ types_for o)) (blocks_for c kind o)) e (counting.release kind counted)
 
   module _ (kind m z : ℕ) (w0 w1 : Value) (fields items : List Value) (core : Core) (frames : List Frame) (counted : c.counted kind ≡ true) (e : c.items kind ≡ Some m) where
@@ -132,12 +132,12 @@ module _ (q : LlProgram) (args : List (List ℕ)) (c : Counts) (counting : Count
           moved = moved_on q args c g h rest own (at_test vars h (memory g)) (at_test moved_place) (λ h' s'. at_end y.now h' s') first y.moved;
         }
 
-  first_loops : Loops q args c counting 0
+  pub first_loops : Loops q args c counting 0
   first_loops kind m z w0 w1 fields items [] i g h own core frames vars le sh counted e cell gone lead has length_is small room set pointer total place counts =
       no_loops kind m z w0 w1 fields items core frames counted e g own vars i h sh (omega (arith, length_is)) room set total place counts
   first_loops kind m z w0 w1 fields items (v ∷ vs) i g h own core frames vars le sh counted e cell gone lead has length_is small room set pointer total place counts = absurd (omega (arith, le))
 
-  more_loops : (n : ℕ) → Down q args c counting n → Loops q args c counting n → Loops q args c counting (suc n)
+  pub more_loops : (n : ℕ) → Down q args c counting n → Loops q args c counting n → Loops q args c counting (suc n)
   more_loops n down ih kind m z w0 w1 fields items [] i g h own core frames vars le sh counted e cell gone lead has length_is small room set pointer total place counts =
       no_loops kind m z w0 w1 fields items core frames counted e g own vars i h sh (omega (arith, length_is)) room set total place counts
   more_loops n down ih kind m z w0 w1 fields items (v ∷ vs) i g h own core frames vars le sh counted e cell gone lead has length_is small room set pointer total place counts =

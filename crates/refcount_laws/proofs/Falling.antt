@@ -21,7 +21,7 @@ use Rattle.refcount_laws.proofs.Steps.{leads_on, get_step, put_step, any_set, bi
 use Rattle.refcount_laws.proofs.Variables.{less_word, some_left, none_left}
 
 module _ (q : LlProgram) (args : List (List ℕ)) (c : Counts) (counting : Counting q c) (core : Core) (f b : ℕ) (ex : LlExit) (frames : List Frame) (n : ℕ) (root : IsRoot c n) (x : COperand) (at : ℕ) (ops : List LlOp) (vars : List Value) where
-  abbrev waiting_ : Frame
+  abbrev pub waiting_ : Frame
   waiting_ = wait q args core f b ex frames at vars ops
 
   abbrev calls : List (Option Block) → List Block → State
@@ -30,7 +30,7 @@ module _ (q : LlProgram) (args : List (List ℕ)) (c : Counts) (counting : Count
   abbrev back : List (Option Block) → List Block → State
   back h s = At ops ex frames (here core f b (at + 1) vars h s)
 
-  abbrev within : List LlOp → LlExit → ℕ → ℕ → List Value → List (Option Block) → List Block → State
+  abbrev pub within : List LlOp → LlExit → ℕ → ℕ → List Value → List (Option Block) → List Block → State
   within os e to place vs h s = At os e (waiting_ ∷ frames) (here core (c.down n) to place vs h s)
 
   stands : Stands q (c.down n) (down_types n) (down_blocks n)
@@ -86,7 +86,7 @@ module _ (q : LlProgram) (args : List (List ℕ)) (c : Counts) (counting : Count
       (no_step q args core (c.down n) 1 (waiting_ ∷ frames) 4 3 (link 3 (Var 0 ∷ [])) (link 2 []) seen seen h s (down_types n) (down_blocks n) over refl stands refl refl refl)
       (return_step q args core f b ex frames (c.down n) 2 at 0 ops vars seen h s))
 
-  abbrev seen_none : Value → List Value
+  abbrev pub seen_none : Value → List Value
   seen_none p = p ∷ Flag false ∷ Word (pos 0) ∷ Flag true ∷ Unset ∷ []
 
   pub none_remain : (h : List (Option Block)) (s : List Block) (p : Value) → is_unset p ≡ false → Leads q args (falls_to p 0 h s) (within (released n).ops (released n).exit 3 0 (seen_none p) h s)

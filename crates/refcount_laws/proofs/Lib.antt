@@ -8,4 +8,5 @@ pub mod Falling
 pub mod Reading
 pub mod Release
 pub mod Emptying
+pub mod Dropping
 pub mod Leading

@@ -41,11 +41,11 @@ has_all (x ∷ items) = (refl, shift x items 0 items (has_all items))
     shift x vars v [] h = tt
     shift x vars v (y ∷ xs) h = (h.0, shift x vars (suc v) xs h.1)
 
-field_count : (held : List Reference) (fields : List Value) → length (field_references held fields) ≡ length held
+pub field_count : (held : List Reference) (fields : List Value) → length (field_references held fields) ≡ length held
 field_count [] fields = refl
 field_count (r ∷ held) fields = ap suc (field_count held fields)
 
-length_both : {A : Type 0} (xs ys : List A) → length (xs ++ ys) ≡ length xs + length ys
+pub length_both : {A : Type 0} (xs ys : List A) → length (xs ++ ys) ≡ length xs + length ys
 length_both [] ys = omega arith
 length_both (x ∷ xs) ys = omega (arith, length_both xs ys)
 
@@ -84,11 +84,11 @@ module _ (q : LlProgram) (args : List (List ℕ)) (c : Counts) (counting : Count
       unmoved q args c g h own (At [] (exit.Return None) frames (here core f b at vars h (memory g))) (λ h' s'. At [] (exit.Return None) frames (here core f b at vars h' s')) sh
       (own_same q args c g (λ r. 0 + own r) own (λ r. omega arith) counted) (stays q args (At [] (exit.Return None) frames (here core f b at vars h (memory g))))
 
-  first_drops : Drops 0
+  pub first_drops : Drops 0
   first_drops kind [] fields v g h own core f b frames at vars le sh all lead has counted = no_drops kind fields v g h own core f b frames at vars sh counted
   first_drops kind (r ∷ held) fields v g h own core f b frames at vars le sh all lead has counted = absurd (omega (arith, le))
 
-  more_drops : (n : ℕ) → Down n → Drops n → Drops (suc n)
+  pub more_drops : (n : ℕ) → Down n → Drops n → Drops (suc n)
   more_drops n down ih kind [] fields v g h own core f b frames at vars le sh all lead has counted = no_drops kind fields v g h own core f b frames at vars sh counted
   more_drops n down ih kind (t ∷ held) fields v g h own core f b frames at vars le sh all lead has counted =
       let x : Value = read fields t.at in
@@ -103,7 +103,7 @@ module _ (q : LlProgram) (args : List (List ℕ)) (c : Counts) (counting : Count
 
   -- ---- one reference of several
 
-  down_null : (n : ℕ) (g : Ghost) (h : List (Option Block)) (own : Value → ℕ) (to : ℕ) (core : Core) (f b : ℕ) (ex : LlExit) (frames : List Frame) (x : COperand) (at : ℕ) (ops : List LlOp) (vars : List Value) → Shows c h g.blocks → IsRoot c to
+  pub down_null : (n : ℕ) (g : Ghost) (h : List (Option Block)) (own : Value → ℕ) (to : ℕ) (core : Core) (f b : ℕ) (ex : LlExit) (frames : List Frame) (x : COperand) (at : ℕ) (ops : List LlOp) (vars : List Value) → Shows c h g.blocks → IsRoot c to
       → IsCounted q c g (λ r. hit r Null + own r) → operand vars x ≡ Null
       → Moved q args c g h own (At (op.Call None (c.down to) (x ∷ []) ∷ ops) ex frames (here core f b at vars h (memory g))) (λ h' s'. At ops ex frames (here core f b (at + 1) vars h' s'))
   down_null n g h own to core f b ex frames x at ops vars sh root counted e =
@@ -160,7 +160,7 @@ module _ (q : LlProgram) (args : List (List ℕ)) (c : Counts) (counting : Count
       whole = all_whole q c g fallen (λ b. refl) firsts counted.whole (λ b. omega arith);
     }
 
-    down_static : (core : Core) (f b : ℕ) (ex : LlExit) (frames : List Frame) (x : COperand) (at : ℕ) (ops : List LlOp) (vars : List Value) → operand vars x ≡ Static s
+    pub down_static : (core : Core) (f b : ℕ) (ex : LlExit) (frames : List Frame) (x : COperand) (at : ℕ) (ops : List LlOp) (vars : List Value) → operand vars x ≡ Static s
         → Moved q args c g h own (At (op.Call None (c.down to) (x ∷ []) ∷ ops) ex frames (here core f b at vars h (memory g))) (λ h' s'. At ops ex frames (here core f b (at + 1) vars h' s'))
     down_static core f b ex frames x at ops vars e =
         let low : List Block = slice_set (memory g) s (shown_fixed lower) in
@@ -240,7 +240,7 @@ module _ (q : LlProgram) (args : List (List ℕ)) (c : Counts) (counting : Count
         count_falls q args c counting core f b ex frames to root x at ops vars h (slice_set h a (Some (record { kind = kind; fields = Word (pos m) ∷ Fun (c.release kind) ∷ fields; items = items }))) (memory g) (memory g) (Ptr a) m kind
         (Fun (c.release kind)) fields items e refl refl of (subst (λ n. n < 2 ^ 63) (ap count_of is) (counted.small a)) (λ b at vars. cell) (λ b at vars. refl)
 
-  down_shared : (g : Ghost) (h : List (Option Block)) (own : Value → ℕ) (a m kind : ℕ) (fields items : List Value) (is : slot_at g.blocks a ≡ S (suc (suc m)) kind fields items) (sh : Shows c h g.blocks) (counted : IsCounted q c g (λ r. hit r (Ptr a) + own r))
+  pub down_shared : (g : Ghost) (h : List (Option Block)) (own : Value → ℕ) (a m kind : ℕ) (fields items : List Value) (is : slot_at g.blocks a ≡ S (suc (suc m)) kind fields items) (sh : Shows c h g.blocks) (counted : IsCounted q c g (λ r. hit r (Ptr a) + own r))
       (to : ℕ) (root : IsRoot c to) (core : Core) (f b : ℕ) (ex : LlExit) (frames : List Frame) (x : COperand) (at : ℕ) (ops : List LlOp) (vars : List Value) → begins_with (shapes_of q.structs) kind to ≡ true → operand vars x ≡ Ptr a
       → Moved q args c g h own (At (op.Call None (c.down to) (x ∷ []) ∷ ops) ex frames (here core f b at vars h (memory g))) (λ h' s'. At ops ex frames (here core f b (at + 1) vars h' s'))
   down_shared g h own a m kind fields items is sh counted to root core f b ex frames x at ops vars of e =

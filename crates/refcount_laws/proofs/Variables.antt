@@ -1,5 +1,5 @@
 -- Variables of the graphs that are made, and words.
-use Rattle.std.proofs.Common.{◌≡◌, ◌≢◌, ◌⊎◌, inl, inr, ◌<◌, ◌≤◌, ◌^◌, ℕ, zero, suc, ◌+◌, Bool, true, false, ◌||◌, List, [], ◌∷◌, ◌++◌, length, map, replicate, Ok, refl, sym, ap, ◌∙◌, subst, arith}
+use Rattle.std.proofs.Common.{◌≡◌, ◌≢◌, ◌⊎◌, ⊎_elim, inl, inr, ◌<◌, ◌≤◌, ◌^◌, ℕ, zero, suc, ◌+◌, Bool, true, false, ◌||◌, List, [], ◌∷◌, ◌++◌, length, map, replicate, Ok, refl, sym, ap, ◌∙◌, subst, arith}
 use Rattle.std.proofs.Math.IntN.{ℤ, pos, negsuc, ◌+ℤ◌, ◌-ℤ◌}
 use Rattle.std.proofs.lemmas.Int.{int_wrap_fits, ints}
 use Rattle.std.proofs.lemmas.Bool.Decides.{nat_tests}
@@ -15,6 +15,7 @@ use Rattle.csub_tree.specs.declared.tree.COperand.{COperand}
 use Rattle.csub_tree.specs.declared.tree.COperand.TheVariants.{Var}
 use Rattle.ll_code.specs.Machine.{set_all}
 use Rattle.refcount_laws.specs.Graphs.{variables, given}
+use Rattle.refcount_laws.proofs.Touching.{is_or_not}
 use Rattle.refcount_laws.proofs.Cells.{set_here, set_other, set_again, past}
 
 -- ---- words
@@ -88,6 +89,15 @@ set_more vars n a x s e = record { at = λ i lt. at i lt (set_or vars a i x) }
     at : (i : ℕ) → i < n → (read (slice_set vars a x) i ≡ read vars i) ⊎ (read (slice_set vars a x) i ≡ x) → is_unset (read (slice_set vars a x) i) ≡ false
     at i lt (inl same) = ap is_unset same ∙ s.at i lt
     at i lt (inr new) = ap is_unset new ∙ e
+
+pub set_next : (vars : List Value) (n : ℕ) (x : Value) → n < length vars → AllSet vars n → is_unset x ≡ false → AllSet (slice_set vars n x) (suc n)
+set_next vars n x room s e = record {
+  at = λ i lt.
+      ⊎_elim
+      (λ q. subst (λ i. is_unset (read (slice_set vars n x) i) ≡ false) q (ap is_unset (set_here vars n x Unset room) ∙ e))
+      (λ ne. let d : (n ≡ i) ⊎ (i < n) = grind arith in ⊎_elim (λ q. absurd (ne q)) (λ l. ap is_unset (set_other vars n i x Unset ne) ∙ s.at i l) d)
+      (is_or_not n i);
+}
 
 -- values that stand in variables from this one on
 abbrev pub HasFrom : List Value → ℕ → List Value → Type 0
