@@ -9,4 +9,6 @@ pub mod Reading
 pub mod Release
 pub mod Emptying
 pub mod Dropping
+pub mod Rising
+pub mod Doing
 pub mod Leading

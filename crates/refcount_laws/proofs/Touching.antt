@@ -4,7 +4,7 @@ use Rattle.std.specs.Prelude.{slice_set}
 use Rattle.csub_tree.specs.State.{Block}
 use Rattle.refcount_laws.specs.Graphs.{Counts}
 use Rattle.refcount_laws.specs.Ghost.{Slot, S, no_slot, count_of, shown, slot_at, count}
-use Rattle.refcount_laws.specs.Touched.{block_in, Shows, Touched}
+use Rattle.refcount_laws.specs.Touched.{block_in, Shows, Touched, Shown}
 use Rattle.refcount_laws.proofs.Cells.{set_here, set_other, set_length, past, same_lists}
 use Rattle.refcount_laws.proofs.Ghosts.{inside}
 
@@ -89,12 +89,7 @@ module _ (c : Counts) where
   pub shows_beside : (g : List Slot) (h : List (Option Block)) (z : ℕ) (x : Option Block) → count g z ≡ 0 → Shows c h g → Shows c (slice_set h z x) g
   shows_beside g h z x gone sh = record { at = λ b lt. set_other h z b x None (λ q. absurd (omega (arith, lt, gone, ap (count g) q))) ∙ sh.at b lt }
 
-  -- memory that shows all blocks that were made, each gone or there
-  pub record Shown (h : List (Option Block)) (g : List Slot) : Type 0 where
-    pub at : (a : ℕ) → block_in h a ≡ shown c (slot_at g a)
-    pub size : length h ≡ length g
-
-  pub shown_after : (g g' : List Slot) (h h' : List (Option Block)) → length g' ≡ length g → Shown h g → Touched c g g' h h' → Shown h' g'
+  pub shown_after : (g g' : List Slot) (h h' : List (Option Block)) → length g' ≡ length g → Shown c h g → Touched c g g' h h' → Shown c h' g'
   shown_after g g' h h' e sh t = record {
     at = λ a.
         ⊎_elim
@@ -102,3 +97,6 @@ module _ (c : Counts) where
         (λ lt. t.live a lt) (none_or_some (count g a));
     size = t.size ∙ sh.size ∙ sym e;
   }
+
+  pub all_shown : (g : List Slot) (h : List (Option Block)) → Shown c h g → Shows c h g
+  all_shown g h sh = record { at = λ a lt. sh.at a }

@@ -34,3 +34,21 @@ pub record Moved (q : LlProgram) (args : List (List ℕ)) (c : Counts) (g : Ghos
   pub counted : IsCounted q c later own
   pub touched : Touched c g.blocks later.blocks h blocks
   pub leads : Leads q args from (to blocks (map shown_fixed later.statics))
+
+-- memory shows all blocks that were made, each gone or there
+pub record Shown (c : Counts) (h : List (Option Block)) (g : List Slot) : Type 0 where
+  pub at : (a : ℕ) → block_in h a ≡ shown c (slot_at g a)
+  pub size : length h ≡ length g
+
+-- some steps later blocks and statics are the same but for their counts, memory shows them, and `own` has what it has besides
+pub record Done (q : LlProgram) (args : List (List ℕ)) (c : Counts) (g : Ghost) (own : Value → ℕ) (from : State) (to : List (Option Block) → List Block → State) : Type 0 where
+  pub later : Ghost
+  pub blocks : List (Option Block)
+  pub same : (b : ℕ) → bare_at later.blocks b ≡ bare_at g.blocks b
+  pub same_statics : (s : ℕ) → as_first (fixed_at later.statics s) ≡ as_first (fixed_at g.statics s)
+  pub size : length later.blocks ≡ length g.blocks
+  pub size_statics : length later.statics ≡ length g.statics
+  pub inners : (r : Value) → inner c later.blocks r ≤ inner c g.blocks r
+  pub counted : IsCounted q c later own
+  pub shown : Shown c blocks later.blocks
+  pub leads : Leads q args from (to blocks (map shown_fixed later.statics))
