@@ -2,7 +2,7 @@
 // given, and pay no step.
 use crate::copies::copy_types;
 use crate::plan::{
-    Plan, add, counts_at, field_number, fields_of, is_counted, items_referred, referred, root_of,
+    Held, Plan, add, counts_at, field_number, fields_of, is_counted, items_referred, referred, root_of,
 };
 use crate::slots::{Slots, own_some};
 use csub_tree::{CBinary, CConst, COperand};
@@ -277,14 +277,6 @@ fn clear_graph(alloc: Global, plan: Plan<'_>, n: u64) -> Result<LlGraph, NoMem> 
 }
 
 // ---- release
-
-// A field that is a reference: its struct, its number there, and what it refers to.
-#[derive(Clone, Copy)]
-struct Held {
-    owner: u64,
-    number: u64,
-    to: u64,
-}
 
 fn push_held_of(plan: Plan<'_>, n: u64, into: &mut Seq<Held>) -> Result<(), NoMem> {
     let kinds = fields_of(plan, n);

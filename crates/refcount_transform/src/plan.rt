@@ -28,6 +28,14 @@ pub struct Plan<'a> {
     pub slots: Slots,
 }
 
+/// A field that is a reference: its struct, its number there, and what it refers to.
+#[derive(Clone, Copy)]
+pub struct Held {
+    pub owner: u64,
+    pub number: u64,
+    pub to: u64,
+}
+
 // ---- roots
 
 pub fn base_of(structs: &[LlStruct], n: u64) -> Option<u64> {

@@ -1,0 +1,5 @@
+pub mod Blocks
+pub mod Changes
+pub mod Counted
+pub mod Made
+pub mod Plan
