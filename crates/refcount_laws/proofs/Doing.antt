@@ -12,7 +12,7 @@ use Rattle.ll_code.specs.declared.program.LlOp.TheVariants as op
 use Rattle.ll_code.specs.declared.program.LlExit.{LlExit}
 use Rattle.ll_code.specs.declared.program.LlProgram.{LlProgram}
 use Rattle.refcount_laws.specs.Graphs.{Counts, Counting, IsRoot}
-use Rattle.refcount_laws.specs.Ghost.{one, hit, occurs, Slot, S, no_slot, count_of, bare, shown, slot_at, count, bare_at, inner, held_by, weight, Fixed, Alone, F, shown_fixed, as_first, fixed_at, Ghost, IsFixed, IsSmall, LeadsTo, IsWhole, IsCounted}
+use Rattle.refcount_laws.specs.Ghost.{one, hit, occurs, Slot, S, no_slot, count_of, bare, shown, slot_at, count, bare_at, inner, held_by, weight, Fixed, Alone, F, shown_fixed, as_first, fixed_at, Ghost, IsFixed, IsSmall, HasRoom, memory, LeadsTo, IsWhole, IsCounted}
 use Rattle.refcount_laws.specs.Runs.{Leads, here}
 use Rattle.refcount_laws.specs.Touched.{block_in, Shown, Moved, Done}
 use Rattle.refcount_laws.proofs.Cells.{set_here, set_other, set_length}
@@ -21,7 +21,6 @@ use Rattle.refcount_laws.proofs.Steps.{leads_on}
 use Rattle.refcount_laws.proofs.Touching.{is_or_not, all_shown, shown_after, there_inside}
 use Rattle.refcount_laws.proofs.Leading.{static_there, static_inside, set_statics, all_whole, whole_kept, lead_kept}
 use Rattle.refcount_laws.proofs.Moving.{own_same}
-use Rattle.refcount_laws.proofs.Release.{memory}
 use Rattle.refcount_laws.proofs.Dropping.{dropped}
 use Rattle.refcount_laws.proofs.Rising.{null_up, count_rises}
 
@@ -50,12 +49,6 @@ module _ (q : LlProgram) (args : List (List ℕ)) (c : Counts) where
   done_nothing g h own from to sh counted l = record {
     later = g; blocks = h; same = λ b. refl; same_statics = λ s. refl; size = refl; size_statics = refl; inners = λ r. omega arith; counted = counted; shown = sh; leads = l;
   }
-
--- the count of what the value leads to may rise
-abbrev pub HasRoom : Ghost → Value → Type 0
-HasRoom g (Ptr a) = (0 < count g.blocks a) × (suc (count g.blocks a) < 2 ^ 63)
-HasRoom g (Static s) = (n : ℕ) (kind : ℕ) (fields items : List Value) → fixed_at g.statics s ≡ F n kind fields items → suc n < 2 ^ 63
-HasRoom g other = Unit {0}
 
 no_hit : (r : Value) → hit r Null ≡ 0
 no_hit Unset = refl

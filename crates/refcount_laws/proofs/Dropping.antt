@@ -19,7 +19,7 @@ use Rattle.ll_code.specs.declared.program.LlExit.TheVariants as exit
 use Rattle.ll_code.specs.declared.program.LlBlock.{LlBlock}
 use Rattle.ll_code.specs.declared.program.LlProgram.{LlProgram}
 use Rattle.refcount_laws.specs.Graphs.{Reference, Counts, Counting, Stands, IsRoot, AllFields, gets, drops, link, word, given, test, first, one_item, freed, release_types, release_blocks, item_blocks, blocks_for, types_for, held_types, loop_types, AreItems}
-use Rattle.refcount_laws.specs.Ghost.{one, hit, occurs, Slot, S, no_slot, count_of, bare, shown, slot_at, count, bare_at, field_references, item_references, references, held_by, inner, size_of, weight, Ghost, F, IsFixed, fixed_at, LeadsTo, AllLead, FieldsLead, ItemsLead, IsWhole, IsCounted}
+use Rattle.refcount_laws.specs.Ghost.{memory, one, hit, occurs, Slot, S, no_slot, count_of, bare, shown, slot_at, count, bare_at, field_references, item_references, references, held_by, inner, size_of, weight, Ghost, F, IsFixed, fixed_at, LeadsTo, AllLead, FieldsLead, ItemsLead, IsWhole, IsCounted}
 use Rattle.refcount_laws.specs.Runs.{Leads, here}
 use Rattle.refcount_laws.specs.Touched.{block_in, Shows, Touched, Moved}
 use Rattle.refcount_laws.proofs.Cells.{set_here, set_other, set_length, set_again}
@@ -28,7 +28,7 @@ use Rattle.refcount_laws.proofs.Touching.{is_or_not, none_or_some, set_twice, th
 use Rattle.refcount_laws.proofs.Leading.{lead_set, all_kept, fields_kept}
 use Rattle.refcount_laws.proofs.Variables.{is_below, not_below, more_word, AllSet, set_next, none_unset, none_unset_behind, same_again, last_set, set_more, HasFrom, has_same}
 use Rattle.refcount_laws.proofs.Moving.{own_same, before, behind, moved_on, unmoved}
-use Rattle.refcount_laws.proofs.Release.{memory, Down, Drops, Loops, Looped, fewer, whole_block, cell, slot_now, first_touch, bare_same, fewer_counted, inner_less, weight_less, field_count, length_both, alive, falls, has_all, first_drops, more_drops, down_null, down_static, down_shared}
+use Rattle.refcount_laws.proofs.Release.{Down, Drops, Loops, Looped, fewer, whole_block, cell, slot_now, first_touch, bare_same, fewer_counted, inner_less, weight_less, field_count, length_both, alive, falls, has_all, first_drops, more_drops, down_null, down_static, down_shared}
 use Rattle.refcount_laws.proofs.Emptying.{release_stands, at_test, first_loops, more_loops}
 use Rattle.refcount_laws.proofs.Ghosts.{occurs_both, There, there, one_self}
 use Rattle.refcount_laws.proofs.Reading.{along, Got, gets_run, references_set}

@@ -18,7 +18,7 @@ use Rattle.ll_code.specs.declared.program.LlExit.{LlExit}
 use Rattle.ll_code.specs.declared.program.LlExit.TheVariants as exit
 use Rattle.ll_code.specs.declared.program.LlProgram.{LlProgram}
 use Rattle.refcount_laws.specs.Graphs.{Reference, Counts, Counting, Stands, IsRoot, AllFields, gets, drops, link, word, given, test, one_item, freed, release_types, release_blocks, item_blocks, blocks_for, types_for, held_types}
-use Rattle.refcount_laws.specs.Ghost.{one, hit, occurs, Slot, S, no_slot, count_of, bare, shown, slot_at, count, bare_at, field_references, item_references, references, held_by, inner, size_of, weight, Ghost, LeadsTo, AllLead, FieldsLead, IsWhole, IsCounted}
+use Rattle.refcount_laws.specs.Ghost.{memory, one, hit, occurs, Slot, S, no_slot, count_of, bare, shown, slot_at, count, bare_at, field_references, item_references, references, held_by, inner, size_of, weight, Ghost, LeadsTo, AllLead, FieldsLead, IsWhole, IsCounted}
 use Rattle.refcount_laws.specs.Runs.{Leads, here}
 use Rattle.refcount_laws.specs.Touched.{block_in, Shows, Touched, Moved}
 use Rattle.refcount_laws.proofs.Cells.{set_here, set_other, set_length, set_again}
@@ -27,7 +27,7 @@ use Rattle.refcount_laws.proofs.Touching.{is_or_not, set_twice, there_inside, sh
 use Rattle.refcount_laws.proofs.Leading.{lead_set, all_kept, fields_kept}
 use Rattle.refcount_laws.proofs.Variables.{is_below, not_below, more_word, AllSet, none_unset, none_unset_behind, same_again, last_set, set_more, HasFrom, has_same}
 use Rattle.refcount_laws.proofs.Moving.{own_same, before, behind, moved_on, unmoved}
-use Rattle.refcount_laws.proofs.Release.{memory, Down, Drops, Loops, Looped}
+use Rattle.refcount_laws.proofs.Release.{Down, Drops, Loops, Looped}
 
 module _ (q : LlProgram) (args : List (List ℕ)) (c : Counts) (counting : Counting q c) where
   pub release_stands : (kind m : ℕ) → c.counted kind ≡ true → c.items kind ≡ Some m → Stands q (c.release kind) (type.Ptr (c.root kind) ∷ (held_types (c.held kind) ++ types_for (Some m))) (item_blocks c kind m)

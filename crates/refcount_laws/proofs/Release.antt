@@ -16,7 +16,7 @@ use Rattle.ll_code.specs.declared.program.LlExit.{LlExit}
 use Rattle.ll_code.specs.declared.program.LlExit.TheVariants as exit
 use Rattle.ll_code.specs.declared.program.LlProgram.{LlProgram}
 use Rattle.refcount_laws.specs.Graphs.{Reference, Counts, Counting, IsRoot, AllFields, drops, link, word, given, test, one_item, freed}
-use Rattle.refcount_laws.specs.Ghost.{one, hit, occurs, Slot, S, no_slot, count_of, bare, shown, slot_at, count, bare_at, field_references, item_references, references, held_by, inner, size_of, weight, Fixed, Alone, F, shown_fixed, as_first, fixed_at, Ghost, IsFixed, IsSmall, LeadsTo, AllLead, FieldsLead, IsWhole, IsCounted}
+use Rattle.refcount_laws.specs.Ghost.{memory, one, hit, occurs, Slot, S, no_slot, count_of, bare, shown, slot_at, count, bare_at, field_references, item_references, references, held_by, inner, size_of, weight, Fixed, Alone, F, shown_fixed, as_first, fixed_at, Ghost, IsFixed, IsSmall, LeadsTo, AllLead, FieldsLead, IsWhole, IsCounted}
 use Rattle.refcount_laws.specs.Runs.{Leads, here}
 use Rattle.refcount_laws.specs.Touched.{block_in, Shows, Touched, Moved}
 use Rattle.refcount_laws.proofs.Cells.{set_here, set_other, set_length}
@@ -28,9 +28,6 @@ use Rattle.refcount_laws.proofs.Variables.{is_below, not_below, more_word, AllSe
 use Rattle.refcount_laws.proofs.Moving.{own_same, before, behind, moved_on, unmoved}
 use Rattle.refcount_laws.proofs.Falling.{null_down, count_falls, some_remain, none_remain, falls_to}
 use Rattle.refcount_laws.proofs.Reading.{along, Got, gets_run, references_set}
-
-abbrev pub memory : Ghost → List Block
-memory g = map shown_fixed g.statics
 
 -- the items from one place on
 pub has_all : (items : List Value) → HasFrom items 0 items

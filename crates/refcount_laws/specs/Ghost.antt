@@ -155,3 +155,13 @@ pub record IsCounted (q : LlProgram) (c : Counts) (g : Ghost) (own : Value → �
   pub small : (b : ℕ) → count g.blocks b < 2 ^ 63
   pub small_static : (s : ℕ) → IsSmall (fixed_at g.statics s)
   pub whole : (b : ℕ) → 0 < count g.blocks b → IsWhole q c g (bare_at g.blocks b)
+
+-- the count of what the value leads to may rise
+abbrev pub HasRoom : Ghost → Value → Type 0
+HasRoom g (Ptr a) = (0 < count g.blocks a) × (suc (count g.blocks a) < 2 ^ 63)
+HasRoom g (Static s) = (n : ℕ) (kind : ℕ) (fields items : List Value) → fixed_at g.statics s ≡ F n kind fields items → suc n < 2 ^ 63
+HasRoom g other = Unit {0}
+
+-- the statics as memory has them
+abbrev pub memory : Ghost → List Block
+memory g = map shown_fixed g.statics

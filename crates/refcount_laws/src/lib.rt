@@ -3,4 +3,4 @@
 
 mod laws;
 
-pub use laws::dropped_references_release;
+pub use laws::{dropped_references_release, references_are_counted};
