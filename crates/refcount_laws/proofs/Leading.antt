@@ -49,32 +49,48 @@ lead_set q g to Null h = refl
 lead_set q g to (Ptr b) h = refl
 lead_set q g to (Static s) h = refl
 
-module _ (q : LlProgram) (c : Counts) (g g' : Ghost) (same : (b : ℕ) → bare_at g'.blocks b ≡ bare_at g.blocks b) (same_statics : (s : ℕ) → as_first (fixed_at g'.statics s) ≡ as_first (fixed_at g.statics s)) where
-  pub lead_kept : (to : ℕ) (v : Value) → LeadsTo q g to v → LeadsTo q g' to v
-  lead_kept to Unset h = absurd h
-  lead_kept to (Word z) h = absurd h
-  lead_kept to (Byte b) h = absurd h
-  lead_kept to (Flag b) h = absurd h
-  lead_kept to (Fun f) h = absurd h
-  lead_kept to Null h = tt
-  lead_kept to (Ptr b) h = ap (λ block. begins_with (shapes_of q.structs) block.kind to) (same b) ∙ h
-  lead_kept to (Static s) (n, kind, fields, items, e, h) =
+module _ (q : LlProgram) (c : Counts) (g g' : Ghost) (kinds : (b : ℕ) → (bare_at g'.blocks b).kind ≡ (bare_at g.blocks b).kind) (same_statics : (s : ℕ) → as_first (fixed_at g'.statics s) ≡ as_first (fixed_at g.statics s)) where
+  pub lead_by_kind : (to : ℕ) (v : Value) → LeadsTo q g to v → LeadsTo q g' to v
+  lead_by_kind to Unset h = absurd h
+  lead_by_kind to (Word z) h = absurd h
+  lead_by_kind to (Byte b) h = absurd h
+  lead_by_kind to (Flag b) h = absurd h
+  lead_by_kind to (Fun f) h = absurd h
+  lead_by_kind to Null h = tt
+  lead_by_kind to (Ptr b) h = ap (λ kind. begins_with (shapes_of q.structs) kind to) (kinds b) ∙ h
+  lead_by_kind to (Static s) (n, kind, fields, items, e, h) =
       let x : Counted (fixed_at g'.statics s) kind fields items = as_counted (fixed_at g'.statics s) kind fields items (same_statics s ∙ ap as_first e) in (x.n, kind, fields, items, x.is, h)
 
+  pub all_by_kind : (to : ℕ) (vs : List Value) → AllLead q g to vs → AllLead q g' to vs
+  all_by_kind to [] h = tt
+  all_by_kind to (v ∷ vs) h = (lead_by_kind to v h.0, all_by_kind to vs h.1)
+
+  pub fields_by_kind : (held : List Reference) (fields : List Value) → FieldsLead q g held fields → FieldsLead q g' held fields
+  fields_by_kind [] fields w = tt
+  fields_by_kind (h ∷ held) fields w = (lead_by_kind h.to (read fields h.at) w.0, fields_by_kind held fields w.1)
+
+  pub items_by_kind : (o : Option ℕ) (block : Block) → ItemsLead q c g o block → ItemsLead q c g' o block
+  items_by_kind None block w = tt
+  items_by_kind (Some m) block w = (all_by_kind m block.items w.0, w.1, w.2)
+
+  pub whole_by_kind : (block : Block) → IsWhole q c g block → IsWhole q c g' block
+  whole_by_kind block w = record { counted = w.counted; fields = fields_by_kind (c.held block.kind) block.fields w.fields; items = items_by_kind (c.items block.kind) block w.items }
+
+module _ (q : LlProgram) (c : Counts) (g g' : Ghost) (same : (b : ℕ) → bare_at g'.blocks b ≡ bare_at g.blocks b) (same_statics : (s : ℕ) → as_first (fixed_at g'.statics s) ≡ as_first (fixed_at g.statics s)) where
+  kinds : (b : ℕ) → (bare_at g'.blocks b).kind ≡ (bare_at g.blocks b).kind
+  kinds b = ap (λ block. block.kind) (same b)
+
+  pub lead_kept : (to : ℕ) (v : Value) → LeadsTo q g to v → LeadsTo q g' to v
+  lead_kept to v h = lead_by_kind q c g g' kinds same_statics to v h
+
   pub all_kept : (to : ℕ) (vs : List Value) → AllLead q g to vs → AllLead q g' to vs
-  all_kept to [] h = tt
-  all_kept to (v ∷ vs) h = (lead_kept to v h.0, all_kept to vs h.1)
+  all_kept to vs h = all_by_kind q c g g' kinds same_statics to vs h
 
   pub fields_kept : (held : List Reference) (fields : List Value) → FieldsLead q g held fields → FieldsLead q g' held fields
-  fields_kept [] fields w = tt
-  fields_kept (h ∷ held) fields w = (lead_kept h.to (read fields h.at) w.0, fields_kept held fields w.1)
-
-  pub items_kept : (o : Option ℕ) (block : Block) → ItemsLead q c g o block → ItemsLead q c g' o block
-  items_kept None block w = tt
-  items_kept (Some m) block w = (all_kept m block.items w.0, w.1, w.2)
+  fields_kept held fields h = fields_by_kind q c g g' kinds same_statics held fields h
 
   pub whole_kept : (block : Block) → IsWhole q c g block → IsWhole q c g' block
-  whole_kept block w = record { counted = w.counted; fields = fields_kept (c.held block.kind) block.fields w.fields; items = items_kept (c.items block.kind) block w.items }
+  whole_kept block w = whole_by_kind q c g g' kinds same_statics block w
 
   pub all_whole : ((b : ℕ) → 0 < count g.blocks b → IsWhole q c g (bare_at g.blocks b)) → ((b : ℕ) → count g'.blocks b ≤ count g.blocks b) → (b : ℕ) → 0 < count g'.blocks b → IsWhole q c g' (bare_at g'.blocks b)
   all_whole w less b lt = subst (IsWhole q c g') (sym (same b)) (whole_kept (bare_at g.blocks b) (w b (omega (arith, less b, lt))))

@@ -11,4 +11,5 @@ pub mod Emptying
 pub mod Dropping
 pub mod Rising
 pub mod Doing
+pub mod Writing
 pub mod Leading

@@ -166,6 +166,30 @@ release_types c n = type.Ptr (c.root n) ∷ (held_types (c.held n) ++ types_for 
 abbrev pub release_blocks : Counts → ℕ → List LlBlock
 release_blocks c n = blocks_for c n (c.items n)
 
+-- ---- writes
+
+-- a field that is a reference is set: the new value is counted, and the old one dropped
+abbrev pub put_block : Counts → Reference → LlBlock
+put_block c h = record {
+  inputs = 0 ∷ 1 ∷ [];
+  ops = op.Call None (c.up h.to) (Var 1 ∷ []) ∷ op.GetField 2 h.owner 0 h.number ∷ op.SetField h.owner 0 h.number (Var 1) ∷ op.Call None (c.down h.to) (Var 2 ∷ []) ∷ [];
+  exit = exit.Return None;
+}
+
+abbrev pub put_types : Counts → Reference → List LlType
+put_types c h = type.Ptr (c.root h.owner) ∷ type.Ptr h.to ∷ type.Ptr h.to ∷ []
+
+-- an item of struct n is set, whose items lead to m
+abbrev pub put_item_block : Counts → ℕ → ℕ → LlBlock
+put_item_block c n m = record {
+  inputs = 0 ∷ 1 ∷ 2 ∷ [];
+  ops = op.Call None (c.up m) (Var 2 ∷ []) ∷ op.GetItem 3 n 0 (Var 1) ∷ op.SetItem n 0 (Var 1) (Var 2) ∷ op.Call None (c.down m) (Var 3 ∷ []) ∷ [];
+  exit = exit.Return None;
+}
+
+abbrev pub put_item_types : Counts → ℕ → ℕ → List LlType
+put_item_types c n m = type.Ptr (c.root n) ∷ type.Signed ∷ type.Ptr m ∷ type.Ptr m ∷ []
+
 -- ---- a program that has them
 
 -- a graph of one parameter, which gives nothing, stands there
@@ -173,6 +197,15 @@ pub record Stands (q : LlProgram) (f : ℕ) (types : List LlType) (blocks : List
   pub graph : LlGraph
   pub there : slice_get q.graphs f ≡ Some graph
   pub params : graph.params ≡ 0 ∷ []
+  pub result : graph.result ≡ type.Void
+  pub typed : graph.types ≡ types
+  pub laid : graph.blocks ≡ blocks
+
+-- the same, with these parameters
+pub record StandsWith (q : LlProgram) (f : ℕ) (params : List ℕ) (types : List LlType) (blocks : List LlBlock) : Type 0 where
+  pub graph : LlGraph
+  pub there : slice_get q.graphs f ≡ Some graph
+  pub taken : graph.params ≡ params
   pub result : graph.result ≡ type.Void
   pub typed : graph.types ≡ types
   pub laid : graph.blocks ≡ blocks
