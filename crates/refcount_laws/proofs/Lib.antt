@@ -12,4 +12,6 @@ pub mod Dropping
 pub mod Rising
 pub mod Doing
 pub mod Writing
+pub mod Numbers
+pub mod Standing
 pub mod Leading
