@@ -14,4 +14,6 @@ pub mod Doing
 pub mod Writing
 pub mod Numbers
 pub mod Standing
+pub mod Shapes
+pub mod Places
 pub mod Leading
