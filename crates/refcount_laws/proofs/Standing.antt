@@ -40,11 +40,11 @@ slots_clear counted (graph ∷ graphs) n = by (set_by_blocks graph.blocks) (slot
     by (Some x) e = refl
 
 -- a struct that is counted is there
-record StructAt (structs : List LlStruct) (n : ℕ) : Type 0 where
-  s : LlStruct
-  is : slice_get structs n ≡ Some s
+pub record StructAt (structs : List LlStruct) (n : ℕ) : Type 0 where
+  pub s : LlStruct
+  pub is : slice_get structs n ≡ Some s
 
-marked_there : (structs : List LlStruct) (graphs : List LlGraph) (k : ℕ) (ss : List LlStruct) (n : ℕ) → is_marked (counted_from structs graphs k ss) n ≡ true → StructAt ss n
+pub marked_there : (structs : List LlStruct) (graphs : List LlGraph) (k : ℕ) (ss : List LlStruct) (n : ℕ) → is_marked (counted_from structs graphs k ss) n ≡ true → StructAt ss n
 marked_there structs graphs k [] n e = absurd (cc)
 marked_there structs graphs k (s ∷ ss) zero e = record { s = s; is = refl }
 marked_there structs graphs k (s ∷ ss) (suc n) e = let w : StructAt ss n = marked_there structs graphs (suc k) ss n e in record { s = w.s; is = w.is }
@@ -66,7 +66,7 @@ module _ (p : LlProgram) (based : Based p.structs) where
       ∙ get_right (map (graph_of plan) p.graphs) (all_made plan) (length (slots_made plan (own_some plan.slots)) + i) ∙ get_right (slots_made plan (own_some plan.slots)) (made_from plan 0 plan.structs) i
 
   module _ (n : ℕ) (is_one : is_counted plan n ≡ true) where
-    at_struct : StructAt p.structs n
+    pub at_struct : StructAt p.structs n
     at_struct = marked_there p.structs p.graphs 0 p.structs n is_one
 
     abbrev s : LlStruct
@@ -81,7 +81,7 @@ module _ (p : LlProgram) (based : Based p.structs) where
     made_there : (i : ℕ) → i < length (made_for plan n) → slice_get (counted p).graphs (first_number + i) ≡ slice_get (made_for plan n) i
     made_there i lt = ap (slice_get (counted p).graphs) (let e : first_number + i ≡ behind plan.slots + (place.behind + i) = omega arith in e) ∙ behind_all (place.behind + i) ∙ place.at i lt
 
-    release_there : slice_get (counted p).graphs (counts_at plan n).release ≡ Some (release_graph plan n)
+    pub release_there : slice_get (counted p).graphs (counts_at plan n).release ≡ Some (release_graph plan n)
     release_there = ap (λ c. slice_get (counted p).graphs c.release) place.is ∙ ap (slice_get (counted p).graphs) (let e : first_number ≡ first_number + 0 = omega arith in e) ∙ made_there 0 (omega arith)
 
     module _ (root : root_of plan n ≡ n) where
