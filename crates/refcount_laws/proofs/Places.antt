@@ -1,6 +1,7 @@
 -- Where the fields of counted structs stand.
 use Rattle.std.proofs.Common.{◌≡◌, ◌≢◌, ◌⊎◌, inl, inr, ⊎_elim, ◌<◌, ◌≤◌, ℕ, zero, suc, ◌+◌, ◌-◌, Bool, true, false, ◌&&◌, List, [], ◌∷◌, ◌++◌, length, map, Option, Some, None, refl, sym, ap, ◌∙◌, subst, arith}
 use Rattle.std.specs.Prelude.{slice_get, ◌==◌, is_none}
+use Rattle.std.proofs.lemmas.Bool.Decides.{nat_tests}
 use Rattle.csub_tree.specs.Layout.{Shape, shape_at, shape_over, base_of, begins_with, place}
 use Rattle.ll_code.specs.declared.program.LlType.{LlType}
 use Rattle.ll_code.specs.declared.program.LlType.TheVariants as type
@@ -177,3 +178,109 @@ module _ (p : LlProgram) (based : Based p.structs) where
         where
           base_counted : (m : ℕ) → HasBase p.structs based n m → is_counted plan m ≡ true
           base_counted m w = let there : StructAt p.structs m = earlier p.structs n m w.s w.is (based.before n m w.s w.is w.base) in sym (counted_base n m w there.s there.is) ∙ c
+
+  -- the first of the struct's own fields stand behind the count and the release
+  place_low : (n k : ℕ) → is_counted plan n ≡ true → 2 ≤ place (shape_at (shapes_counted plan) n) (field_number plan n k)
+  place_low n k c = let w : StructAt p.structs n = marked_there p.structs p.graphs 0 p.structs n c in by w.s w.is w.s.base refl
+    where
+      shape_here : (s : LlStruct) (e : slice_get p.structs n ≡ Some s) (o : Option ℕ) → s.base ≡ o → shape_at (shapes_counted plan) n ≡ shape_over n (length (struct_by (has_count plan n) s).fields) (base_of (shapes_of structs) o)
+      shape_here s e o b = shape_is structs counted_based n (struct_by (has_count plan n) s) (struct_there n s e) ∙ ap (λ o. shape_over n (length (struct_by (has_count plan n) s).fields) (base_of (shapes_of structs) o)) (base_of_struct (has_count plan n) s ∙ b)
+
+      by : (s : LlStruct) → slice_get p.structs n ≡ Some s → (o : Option ℕ) → s.base ≡ o → 2 ≤ place (shape_at (shapes_counted plan) n) (field_number plan n k)
+      by s e None b =
+          let yes : has_count plan n ≡ true = has_count_is n s true e c (ap is_none b) in
+          let number : field_number plan n k ≡ suc (suc k) = ap (λ o. number_behind plan n o k) (ap typed.base_of e ∙ b) ∙ ap (λ b. behind_count b k) yes in
+          let is : place (shape_at (shapes_counted plan) n) (field_number plan n k) ≡ 0 + (suc (suc k) - 0) =
+          ap (λ x. place x (field_number plan n k)) (shape_here s e None b) ∙ ap (λ j. 0 + (j - 0)) number in
+          omega (arith, is)
+      by s e (Some m) b =
+          let less : m < n = based.before n m s e b in
+          let there : StructAt p.structs m = earlier p.structs n m s e less in
+          let cm : is_counted plan m ≡ true = sym (counted_base n m (record { s = s; is = e; base = b }) there.s there.is) ∙ c in
+          let low : 2 ≤ (shape_at (shapes_counted plan) m).size = sizes (suc m) m (omega arith) cm in
+          let number : field_number plan n k ≡ suc k = ap (λ o. number_behind plan n o k) (ap typed.base_of e ∙ b) in
+          let is : place (shape_at (shapes_counted plan) n) (field_number plan n k) ≡ (shape_at (shapes_counted plan) m).size + (suc k - 1) =
+          ap (λ x. place x (field_number plan n k)) (shape_here s e (Some m) b) ∙ ap (λ j. (shape_at (shapes_counted plan) m).size + (j - 1)) number in
+          omega (arith, is, low)
+
+  place_behind_two : (n k : ℕ) → is_counted plan n ≡ true → place (shape_at (shapes_counted plan) n) (field_number plan n k) ≡ suc (suc (place_in plan n (field_number plan n k)))
+  place_behind_two n k c = let low : 2 ≤ place (shape_at (shapes_counted plan) n) (field_number plan n k) = place_low n k c in omega (arith, low)
+
+  -- a root has its fields at their numbers
+  first_place : (n k : ℕ) → is_counted plan n ≡ true → root_of plan n ≡ n → place (shape_at (shapes_counted plan) n) k ≡ k
+  first_place n k c r = let w : StructAt p.structs n = marked_there p.structs p.graphs 0 p.structs n c in by w.s w.is w.s.base refl
+    where
+      by : (s : LlStruct) → slice_get p.structs n ≡ Some s → (o : Option ℕ) → s.base ≡ o → place (shape_at (shapes_counted plan) n) k ≡ k
+      by s e None b =
+          ap (λ x. place x k) (shape_is structs counted_based n (struct_by (has_count plan n) s) (struct_there n s e) ∙ ap (λ o. shape_over n (length (struct_by (has_count plan n) s).fields) (base_of (shapes_of structs) o)) (base_of_struct (has_count plan n) s ∙ b))
+          ∙ (let z : 0 + (k - 0) ≡ k = omega arith in z)
+      by s e (Some m) b =
+          let own : (root p.structs n == n) ≡ is_none s.base = is_own_root p.structs based n s e in
+          let yes : (root p.structs n == n) ≡ true = grind (arith, nat_tests, r) in
+          absurd (let f : true ≡ false = sym yes ∙ own ∙ ap is_none b in cc)
+
+  -- ---- fields that are references
+
+  module _ (leads : structs_lead plan p.structs ≡ true) where
+    leads_at : (ss : List LlStruct) (n : ℕ) (s : LlStruct) → structs_lead plan ss ≡ true → slice_get ss n ≡ Some s → (all_lead plan s.fields && is_root_given plan (reference_given plan.counted s.items)) ≡ true
+    leads_at [] n s h e = absurd (cc)
+    leads_at (t ∷ ss) zero s h e = let f : t ≡ s = cc in subst (λ t. (all_lead plan t.fields && is_root_given plan (reference_given plan.counted t.items)) ≡ true) f (and_left _ _ h)
+    leads_at (t ∷ ss) (suc n) s h e = leads_at ss n s (and_right _ _ h) e
+
+    given_root : (o : Option ℕ) (m : ℕ) → o ≡ Some m → is_root_given plan o ≡ true → root_of plan m ≡ m
+    given_root None m e h = absurd (cc)
+    given_root (Some k) m e h = let f : k ≡ m = cc in subst (λ k. root_of plan k ≡ k) f (is_same (root_of plan k) k h)
+
+    own_fields : (k n : ℕ) → is_counted plan n ≡ true → begins_with (shapes_counted plan) k n ≡ true → (place : ℕ) (ts : List LlType) → all_lead plan ts ≡ true → AllFields (counted p) (counts_of plan) k (map (reference_of plan) (held_from plan n place ts))
+    own_fields k n c of place [] lead = tt
+    own_fields k n c of place (t ∷ ts) lead = by (referred plan t) refl (own_fields k n c of (suc place) ts (and_right _ _ lead))
+      where
+        by : (o : Option ℕ) → referred plan t ≡ o → AllFields (counted p) (counts_of plan) k (map (reference_of plan) (held_from plan n (suc place) ts))
+            → AllFields (counted p) (counts_of plan) k (map (reference_of plan) (held_if n (field_number plan n place) o (held_from plan n (suc place) ts)))
+        by None e rest = rest
+        by (Some m) e rest = (record { of = of; place = place_behind_two n place c; to = (reference_marked plan.counted t m e, given_root (referred plan t) m e (and_left _ _ lead)) }, rest)
+
+    fields_both : (k : ℕ) (xs ys : List Held) → AllFields (counted p) (counts_of plan) k (map (reference_of plan) xs) → AllFields (counted p) (counts_of plan) k (map (reference_of plan) ys) → AllFields (counted p) (counts_of plan) k (map (reference_of plan) (xs ++ ys))
+    fields_both k [] ys a b = b
+    fields_both k (x ∷ xs) ys a b = (a.0, fields_both k xs ys a.1 b)
+
+    own_all : (k n : ℕ) → is_counted plan n ≡ true → begins_with (shapes_counted plan) k n ≡ true → AllFields (counted p) (counts_of plan) k (map (reference_of plan) (own_held plan n))
+    own_all k n c of =
+        let w : StructAt p.structs n = marked_there p.structs p.graphs 0 p.structs n c in
+        own_fields k n c of 0 (fields_of plan n) (ap (λ o. all_lead plan (fields_given o)) w.is ∙ and_left _ _ (leads_at p.structs n w.s leads w.is))
+
+    held_all : (times : List LlStruct) (k n : ℕ) → is_counted plan n ≡ true → begins_with (shapes_counted plan) k n ≡ true → AllFields (counted p) (counts_of plan) k (map (reference_of plan) (held_within plan times n))
+    held_all [] k n c of = tt
+    held_all (t ∷ times) k n c of = fields_both k (own_held plan n) (of_base (held_within plan times) (base_at plan n)) (own_all k n c of) (by (λ m c of. held_all times k m c of) (base_at plan n) refl)
+      where
+        w : StructAt p.structs n
+        w = marked_there p.structs p.graphs 0 p.structs n c
+
+        by : ((m : ℕ) → is_counted plan m ≡ true → begins_with (shapes_counted plan) k m ≡ true → AllFields (counted p) (counts_of plan) k (map (reference_of plan) (held_within plan times m))) → (o : Option ℕ) → base_at plan n ≡ o
+            → AllFields (counted p) (counts_of plan) k (map (reference_of plan) (of_base (held_within plan times) o))
+        by go None e = tt
+        by go (Some m) e =
+            let b : w.s.base ≡ Some m = sym (ap typed.base_of w.is) ∙ e in
+            let there : StructAt p.structs m = earlier p.structs n m w.s w.is (based.before n m w.s w.is b) in
+            go m (sym (counted_base n m (record { s = w.s; is = w.is; base = b }) there.s there.is) ∙ c) (begins_on structs counted_based k n m of (base_there n m w.s w.is b))
+
+    begins_self : (n : ℕ) → is_counted plan n ≡ true → begins_with (shapes_counted plan) n n ≡ true
+    begins_self n c = let w : StructAt p.structs n = marked_there p.structs p.graphs 0 p.structs n c in begins_itself structs counted_based n (struct_by (has_count plan n) w.s) (struct_there n w.s w.is)
+
+    pub counting : Counting (counted p) (counts_of plan)
+    counting = record {
+      release = λ n c. release_stands p based n c;
+      up = λ n r. up_stands p based n r.0 r.1;
+      down = λ n r. down_stands p based n r.0 r.1;
+      root = λ kind n r h. (let w : Rooted kind n = rooted (suc kind) kind n (omega arith) r.0 r.1 h in (w.counted, w.root));
+      first = λ n k r. first_place n k r.0 r.1;
+      held = λ n c. held_all p.structs n n c (begins_self n c);
+      items = λ n m c e. (let w : StructAt p.structs n = marked_there p.structs p.graphs 0 p.structs n c in record {
+        of = begins_self n c;
+        place = place_behind_two n 0 c;
+        to = (given_marked plan.counted (typed.items_of (slice_get p.structs n)) m e, given_root (items_referred plan n) m e (ap (λ o. is_root_given plan (reference_given plan.counted (typed.items_of o))) w.is ∙ and_right _ _ (leads_at p.structs n w.s leads w.is)));
+      });
+    }
+
+pub counted_counting : (p : LlProgram) → IsWellTyped p → leads_to_roots p ≡ true → Counting (counted p) (counts_of (plan_of p))
+counted_counting p ok leads = counting p (all_based p.structs (and_left _ _ (and_left _ _ (and_left _ _ ok)))) leads
