@@ -16,4 +16,5 @@ pub mod Numbers
 pub mod Standing
 pub mod Shapes
 pub mod Places
+pub mod Putting
 pub mod Leading

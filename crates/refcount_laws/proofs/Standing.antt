@@ -72,13 +72,13 @@ module _ (p : LlProgram) (based : Based p.structs) where
     abbrev s : LlStruct
     s = at_struct.s
 
-    place : Found plan (behind plan.slots) (counts_at plan n) (made_from plan 0 plan.structs) (made_for plan n) s
+    pub place : Found plan (behind plan.slots) (counts_at plan n) (made_from plan 0 plan.structs) (made_for plan n) s
     place = all_found plan based (behind plan.slots) n s at_struct.is is_one
 
-    abbrev first_number : ℕ
+    abbrev pub first_number : ℕ
     first_number = behind plan.slots + place.behind
 
-    made_there : (i : ℕ) → i < length (made_for plan n) → slice_get (counted p).graphs (first_number + i) ≡ slice_get (made_for plan n) i
+    pub made_there : (i : ℕ) → i < length (made_for plan n) → slice_get (counted p).graphs (first_number + i) ≡ slice_get (made_for plan n) i
     made_there i lt = ap (slice_get (counted p).graphs) (let e : first_number + i ≡ behind plan.slots + (place.behind + i) = omega arith in e) ∙ behind_all (place.behind + i) ∙ place.at i lt
 
     pub release_there : slice_get (counted p).graphs (counts_at plan n).release ≡ Some (release_graph plan n)

@@ -18,7 +18,7 @@ use Rattle.ll_code.specs.declared.program.LlExit.TheVariants as exit
 use Rattle.ll_code.specs.declared.program.LlBlock.{LlBlock}
 use Rattle.ll_code.specs.declared.program.LlProgram.{LlProgram}
 use Rattle.refcount_laws.specs.Graphs.{Reference, Counts, Counting, StandsWith, IsRoot, IsField, put_block, put_types}
-use Rattle.refcount_laws.specs.Ghost.{memory, one, hit, occurs, Slot, S, no_slot, count_of, bare, shown, slot_at, count, bare_at, field_references, item_references, references, held_by, inner, as_first, fixed_at, Ghost, IsFixed, HasRoom, LeadsTo, AllLead, FieldsLead, ItemsLead, IsWhole, IsCounted}
+use Rattle.refcount_laws.specs.Ghost.{memory, one, hit, occurs, Slot, S, no_slot, count_of, bare, shown, slot_at, count, bare_at, field_references, item_references, references, held_by, inner, as_first, fixed_at, Ghost, IsFixed, HasRoom, LeadsTo, AllLead, FieldsLead, ItemsLead, IsWhole, IsCounted, Apart, OnceIn, written}
 use Rattle.refcount_laws.specs.Runs.{Leads, here}
 use Rattle.refcount_laws.specs.Touched.{block_in, Shown, Done}
 use Rattle.refcount_laws.proofs.Cells.{set_here, set_other, set_length}
@@ -28,15 +28,6 @@ use Rattle.refcount_laws.proofs.Touching.{is_or_not}
 use Rattle.refcount_laws.proofs.Leading.{lead_set, lead_kept, lead_by_kind, fields_by_kind, items_by_kind, whole_by_kind, whole_kept}
 use Rattle.refcount_laws.proofs.Moving.{own_same}
 use Rattle.refcount_laws.proofs.Doing.{done_before, done_on, down_done, up_done}
-
--- a list of fields that has this one, once
-abbrev pub Apart : Reference → List Reference → Type 0
-Apart h [] = Unit {0}
-Apart h (k ∷ held) = (k.at ≢ h.at) × Apart h held
-
-abbrev pub OnceIn : Reference → List Reference → Type 0
-OnceIn h [] = ⊥
-OnceIn h (k ∷ held) = ((k ≡ h) × Apart h held) ⊎ ((k.at ≢ h.at) × OnceIn h held)
 
 apart_same : (h : Reference) (held : List Reference) (fields : List Value) (w : Value) → Apart h held → field_references held (slice_set fields h.at w) ≡ field_references held fields
 apart_same h [] fields w a = refl
@@ -74,10 +65,6 @@ read_inside : (fields : List Value) (k : ℕ) → is_unset (read fields k) ≡ f
 read_inside [] k e = absurd (cc)
 read_inside (x ∷ fields) zero e = omega arith
 read_inside (x ∷ fields) (suc k) e = omega (arith, read_inside fields k e)
-
--- one block has other fields and items
-abbrev pub written : Ghost → ℕ → Slot → Ghost
-written g a d = record g { blocks = slice_set g.blocks a d }
 
 module _ (q : LlProgram) (args : List (List ℕ)) (c : Counts) (g : Ghost) (own : Value → ℕ) (a n kind : ℕ) (fields items fields2 items2 : List Value) (is : slot_at g.blocks a ≡ S (suc n) kind fields items) (old new : Value) where
   abbrev block1 : Block

@@ -1,5 +1,5 @@
 -- What is counted: of each block ever made how many references lead to it, none where it is gone.
-use Rattle.std.specs.Prelude.{◌≡◌, ◌<◌, ◌^◌, ℕ, zero, suc, ◌+◌, pos, List, [], ◌∷◌, ◌++◌, length, map, slice_get, slice_index_or, Option, Some, None, true}
+use Rattle.std.specs.Prelude.{◌≡◌, ◌≢◌, ◌⊎◌, ◌<◌, ◌^◌, ℕ, zero, suc, ◌+◌, pos, List, [], ◌∷◌, ◌++◌, length, map, slice_get, slice_set, slice_index_or, Option, Some, None, true}
 use Rattle.csub_tree.specs.State.{Value, Unset, Word, Byte, Flag, Fun, Null, Ptr, Static, Block}
 use Rattle.csub_tree.specs.Layout.{begins_with}
 use Rattle.csub_tree.specs.Statement.{read}
@@ -165,3 +165,16 @@ HasRoom g other = Unit {0}
 -- the statics as memory has them
 abbrev pub memory : Ghost → List Block
 memory g = map shown_fixed g.statics
+
+-- a list of fields that has this one, once
+abbrev pub Apart : Reference → List Reference → Type 0
+Apart h [] = Unit {0}
+Apart h (k ∷ held) = (k.at ≢ h.at) × Apart h held
+
+abbrev pub OnceIn : Reference → List Reference → Type 0
+OnceIn h [] = ⊥
+OnceIn h (k ∷ held) = ((k ≡ h) × Apart h held) ⊎ ((k.at ≢ h.at) × OnceIn h held)
+
+-- one block has other fields and items
+abbrev pub written : Ghost → ℕ → Slot → Ghost
+written g a d = record g { blocks = slice_set g.blocks a d }

@@ -3,4 +3,7 @@
 
 mod laws;
 
-pub use laws::{dropped_references_release, references_are_counted};
+pub use laws::{
+    counted_programs_have_their_graphs, dropped_references_release, references_are_counted,
+    references_are_written,
+};
