@@ -17,4 +17,6 @@ pub mod Standing
 pub mod Shapes
 pub mod Places
 pub mod Putting
+pub mod Owning
+pub mod Dead
 pub mod Leading

@@ -83,7 +83,7 @@ marked_is structs graphs k [] j s e = absurd (cc)
 marked_is structs graphs k (t ∷ ss) zero s e = ap (λ n. is_made structs graphs (root structs n)) (let z : k ≡ k + 0 = omega arith in z)
 marked_is structs graphs k (t ∷ ss) (suc j) s e = marked_is structs graphs (suc k) ss j s e ∙ ap (λ n. is_made structs graphs (root structs n)) (let z : suc k + j ≡ k + suc j = omega arith in z)
 
-reference_marked : (marks : List Bool) (t : LlType) (m : ℕ) → reference_to marks t ≡ Some m → is_marked marks m ≡ true
+pub reference_marked : (marks : List Bool) (t : LlType) (m : ℕ) → reference_to marks t ≡ Some m → is_marked marks m ≡ true
 reference_marked marks type.Signed m e = absurd (cc)
 reference_marked marks type.Char m e = absurd (cc)
 reference_marked marks type.Bool m e = absurd (cc)
@@ -95,7 +95,7 @@ reference_marked marks (type.Ptr n) m e = by (is_marked marks n) refl e
     by true h e = let f : n ≡ m = cc in subst (λ n. is_marked marks n ≡ true) f h
     by false h e = absurd (cc)
 
-given_marked : (marks : List Bool) (o : Option LlType) (m : ℕ) → reference_given marks o ≡ Some m → is_marked marks m ≡ true
+pub given_marked : (marks : List Bool) (o : Option LlType) (m : ℕ) → reference_given marks o ≡ Some m → is_marked marks m ≡ true
 given_marked marks None m e = absurd (cc)
 given_marked marks (Some t) m e = reference_marked marks t m e
 

@@ -1,5 +1,6 @@
 pub mod Ghost
 pub mod Graphs
 pub mod Made
+pub mod Owned
 pub mod Runs
 pub mod Touched
