@@ -19,4 +19,5 @@ pub mod Places
 pub mod Putting
 pub mod Owning
 pub mod Dead
+pub mod Given
 pub mod Leading
