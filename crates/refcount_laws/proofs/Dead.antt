@@ -30,10 +30,10 @@ use Rattle.refcount_laws.proofs.Doing.{done_on, done_nothing, down_done}
 use Rattle.refcount_laws.proofs.Places.{given_marked}
 use Rattle.refcount_laws.proofs.Owning.{owned_same, owned_plain, owned_one}
 
-same_is : (n : ℕ) → (n == n) ≡ true
+pub same_is : (n : ℕ) → (n == n) ≡ true
 same_is n = grind (arith, nat_tests)
 
-differ_is : (m n : ℕ) → m ≢ n → (m == n) ≡ false
+pub differ_is : (m n : ℕ) → m ≢ n → (m == n) ≡ false
 differ_is m n ne = by (m == n) refl
   where
     by : (b : Bool) → (m == n) ≡ b → b ≡ false

@@ -20,4 +20,5 @@ pub mod Putting
 pub mod Owning
 pub mod Dead
 pub mod Given
+pub mod Accounts
 pub mod Leading
