@@ -12,6 +12,7 @@ pub mod Dropping
 pub mod Rising
 pub mod Doing
 pub mod Writing
+pub mod Storing
 pub mod Numbers
 pub mod Standing
 pub mod Shapes

@@ -61,7 +61,7 @@ old_lead q g h (k ∷ held) fields (inl (e, a)) f = subst (λ k. LeadsTo q g k.t
 old_lead q g h (k ∷ held) fields (inr (ne, o)) f = old_lead q g h held fields o f.1
 
 -- a value that leads somewhere stands inside
-read_inside : (fields : List Value) (k : ℕ) → is_unset (read fields k) ≡ false → k < length fields
+pub read_inside : (fields : List Value) (k : ℕ) → is_unset (read fields k) ≡ false → k < length fields
 read_inside [] k e = absurd (cc)
 read_inside (x ∷ fields) zero e = omega arith
 read_inside (x ∷ fields) (suc k) e = omega (arith, read_inside fields k e)
@@ -119,7 +119,7 @@ module _ (q : LlProgram) (args : List (List ℕ)) (c : Counts) (g : Ghost) (own 
   }
 
 -- the same block is written, whatever the counts
-same_written : (q : LlProgram) (args : List (List ℕ)) (c : Counts) (g g1 : Ghost) (own : Value → ℕ) (a n m kind : ℕ) (fields items fields2 items2 : List Value) (is : slot_at g.blocks a ≡ S (suc n) kind fields items) (is1 : slot_at g1.blocks a ≡ S (suc m) kind fields items)
+pub same_written : (q : LlProgram) (args : List (List ℕ)) (c : Counts) (g g1 : Ghost) (own : Value → ℕ) (a n m kind : ℕ) (fields items fields2 items2 : List Value) (is : slot_at g.blocks a ≡ S (suc n) kind fields items) (is1 : slot_at g1.blocks a ≡ S (suc m) kind fields items)
     (old new : Value) → ((b : ℕ) → bare_at g1.blocks b ≡ bare_at g.blocks b) → (b : ℕ) → bare_at (written g1 a (S (suc m) kind fields2 items2)).blocks b ≡ bare_at (written g a (S (suc n) kind fields2 items2)).blocks b
 same_written q args c g g1 own a n m kind fields items fields2 items2 is is1 old new same b =
     ⊎_elim
