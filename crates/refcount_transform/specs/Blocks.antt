@@ -1,6 +1,6 @@
 -- Blocks and graphs with their changes of counts. Where a way of a test does not give a reference on that the other way gives, it drops
 -- it in a block of its own.
-use Rattle.std.specs.Prelude.{ℕ, ◌+◌, ◌||◌, Bool, List, [], ◌∷◌, ◌++◌, length, map}
+use Rattle.std.specs.Prelude.{ℕ, ◌+◌, ◌||◌, List, [], ◌∷◌, ◌++◌, length}
 use Rattle.csub_tree.specs.declared.tree.COperand.{COperand}
 use Rattle.ll_code.specs.declared.program.LlLink.{LlLink}
 use Rattle.ll_code.specs.declared.program.LlOp.{LlOp}
@@ -40,7 +40,7 @@ abbrev pub exit_of : Around → ℕ → LlExit → LlExit
 exit_of around next (exit.OnRaise a by without) = exit.Goto without
 exit_of around next (exit.If v there elsewhere) =
     exit.If v (way_link there next (way_ops around there elsewhere))
-      (way_link elsewhere (next + length (way_block there (way_ops around there elsewhere))) (way_ops around elsewhere there))
+    (way_link elsewhere (next + length (way_block there (way_ops around there elsewhere))) (way_ops around elsewhere there))
 exit_of around next other = other
 
 -- the blocks that stand behind the others for it

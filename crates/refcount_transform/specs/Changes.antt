@@ -116,6 +116,19 @@ emptied slots rest = emptied_by slots (own_some slots) rest
 
 -- ---- one operation
 
+-- one that changes no count
+abbrev pub plain : LlOp → List LlOp
+plain (op.Unary a o x) = op.Unary a o x ∷ []
+plain (op.Binary a o x y) = op.Binary a o x y ∷ []
+plain (op.Free a) = op.Free a ∷ []
+plain (op.Step x) = op.Step x ∷ []
+plain (op.Argc a) = op.Argc a ∷ []
+plain (op.ArgLen a x) = op.ArgLen a x ∷ []
+plain (op.Arg a x y) = op.Arg a x y ∷ []
+plain (op.Put x) = op.Put x ∷ []
+plain (op.Raise a) = op.Raise a ∷ []
+plain other = []
+
 -- what is read out of a block is one reference more, a call is given references of its own, and the slots take a reference each
 abbrev pub changed : Around → LlOp → List LlOp → List LlOp
 changed around (op.Set a x) rest = up around x (op.Set a x ∷ rest)

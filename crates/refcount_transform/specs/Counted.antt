@@ -20,9 +20,12 @@ abbrev pub struct_by : Bool → LlStruct → LlStruct
 struct_by true s = record { base = s.base; fields = type.Signed ∷ type.Fn ∷ s.fields; items = s.items }
 struct_by false s = s
 
+abbrev pub struct_at : Plan → ℕ → LlStruct → LlStruct
+struct_at plan n s = struct_by (has_count plan n) s
+
 abbrev pub structs_from : Plan → ℕ → List LlStruct → List LlStruct
 structs_from plan n [] = []
-structs_from plan n (s ∷ ss) = struct_by (has_count plan n) s ∷ structs_from plan (suc n) ss
+structs_from plan n (s ∷ ss) = struct_at plan n s ∷ structs_from plan (suc n) ss
 
 -- a root begins with the count and the graph that releases it
 abbrev pub structs_of : Plan → List LlStruct
@@ -51,7 +54,7 @@ cells_by plan n None cells = first_cells (has_count plan n) (as_they_are cells)
 cells_by plan n (Some m) cells = behind_base m cells
 
 abbrev pub cell_step : Plan → CCell-F Cell → Cell
-cell_step plan (CCell-F.Const c) as = cell.Const c
+cell_step plan (CCell-F.Const c) role = cell.Const c
 cell_step plan (CCell-F.Braces cells) None = cell.Braces (as_they_are cells)
 cell_step plan (CCell-F.Braces cells) (Some n) = cell.Braces (cells_by plan n (base_at plan n) cells)
 

@@ -70,7 +70,7 @@ up_graph n = graph_with (codes "count_s" ++ decimal n) 1 (type.Ptr n ∷ type.Bo
 abbrev pub less : ℕ → LlBlock
 less n =
     block_with (0 ∷ []) (op.GetField 2 n 0 0 ∷ op.Binary 2 Sub (Var 2) (word 1) ∷ op.SetField n 0 0 (Var 2) ∷ op.Binary 3 Eq (Var 2) (word 0) ∷ [])
-      (exit.If 3 (link_to 3 (Var 0 ∷ [])) (link_to 2 []))
+    (exit.If 3 (link_to 3 (Var 0 ∷ [])) (link_to 2 []))
 
 abbrev pub released : ℕ → LlBlock
 released n = block_with (0 ∷ []) (op.GetField 4 n 0 1 ∷ op.CallFn None type.Void (type.Ptr n ∷ []) 4 (Var 0 ∷ []) ∷ []) (exit.Return None)
@@ -85,8 +85,8 @@ down_graph n =
 abbrev pub put_body : Plan → Held → LlBlock
 put_body plan h =
     block_with (0 ∷ 1 ∷ [])
-      (call (counts_at plan h.to).up (Var 1 ∷ []) ∷ op.GetField 2 h.owner 0 h.number ∷ op.SetField h.owner 0 h.number (Var 1) ∷ call (counts_at plan h.to).down (Var 2 ∷ []) ∷ [])
-      (exit.Return None)
+    (call (counts_at plan h.to).up (Var 1 ∷ []) ∷ op.GetField 2 h.owner 0 h.number ∷ op.SetField h.owner 0 h.number (Var 1) ∷ call (counts_at plan h.to).down (Var 2 ∷ []) ∷ [])
+    (exit.Return None)
 
 abbrev pub put_graph : Plan → Held → LlGraph
 put_graph plan h =
@@ -95,8 +95,8 @@ put_graph plan h =
 abbrev pub put_item_body : Plan → ℕ → ℕ → LlBlock
 put_item_body plan n m =
     block_with (0 ∷ 1 ∷ 2 ∷ [])
-      (call (counts_at plan m).up (Var 2 ∷ []) ∷ op.GetItem 3 n 0 (Var 1) ∷ op.SetItem n 0 (Var 1) (Var 2) ∷ call (counts_at plan m).down (Var 3 ∷ []) ∷ [])
-      (exit.Return None)
+    (call (counts_at plan m).up (Var 2 ∷ []) ∷ op.GetItem 3 n 0 (Var 1) ∷ op.SetItem n 0 (Var 1) (Var 2) ∷ call (counts_at plan m).down (Var 3 ∷ []) ∷ [])
+    (exit.Return None)
 
 -- sets an item of struct n, whose items refer to struct m
 abbrev pub put_item_graph : Plan → ℕ → ℕ → LlGraph
@@ -136,10 +136,11 @@ held_types held = map (λ h. type.Ptr h.to) held
 abbrev pub freed : Plan → List Held → List LlOp
 freed plan held = op.Free 0 ∷ drops plan 1 held []
 
+abbrev pub plain_body : Plan → List Held → LlBlock
+plain_body plan held = block_with (first_variables 1) (gets 1 held (freed plan held)) (exit.Return None)
+
 abbrev pub release_plain : Plan → ℕ → List Held → LlGraph
-release_plain plan n held =
-    graph_with (codes "release_s" ++ decimal n) 1 (type.Ptr (root_of plan n) ∷ held_types held)
-      (block_with (first_variables 1) (gets 1 held (freed plan held)) (exit.Return None) ∷ [])
+release_plain plan n held = graph_with (codes "release_s" ++ decimal n) 1 (type.Ptr (root_of plan n) ∷ held_types held) (plain_body plan held ∷ [])
 
 -- the variables of a release with items, behind the first one and the fields: the number of items, the place, whether one is left, and
 -- an item
@@ -157,18 +158,21 @@ release_start plan n held places =
 abbrev pub release_test : Loop → LlBlock
 release_test places =
     block_with (first_variables (places.at + 1)) (op.Binary places.test Lt (Var places.at) (Var places.length) ∷ [])
-      (exit.If places.test (link_to 2 (first_operands places.at ++ Var places.at ∷ [])) (link_to 3 (first_operands places.length)))
+    (exit.If places.test (link_to 2 (first_operands places.at ++ Var places.at ∷ [])) (link_to 3 (first_operands places.length)))
 
 -- one item is dropped, and the next one follows
 abbrev pub release_one : Plan → ℕ → ℕ → Loop → LlBlock
 release_one plan n m places =
     block_with (first_variables (places.at + 1))
-      (op.GetItem places.item n 0 (Var places.at) ∷ call (counts_at plan m).down (Var places.item ∷ []) ∷ op.Binary places.at Add (Var places.at) (word 1) ∷ [])
-      (exit.Goto (link_to 1 (first_operands places.at ++ Var places.at ∷ [])))
+    (op.GetItem places.item n 0 (Var places.at) ∷ call (counts_at plan m).down (Var places.item ∷ []) ∷ op.Binary places.at Add (Var places.at) (word 1) ∷ [])
+    (exit.Goto (link_to 1 (first_operands places.at ++ Var places.at ∷ [])))
+
+abbrev pub release_end : Plan → List Held → Loop → LlBlock
+release_end plan held places = block_with (first_variables places.length) (freed plan held) (exit.Return None)
 
 abbrev pub release_blocks : Plan → ℕ → ℕ → List Held → Loop → List LlBlock
 release_blocks plan n m held places =
-    release_start plan n held places ∷ release_test places ∷ release_one plan n m places ∷ block_with (first_variables places.length) (freed plan held) (exit.Return None) ∷ []
+    release_start plan n held places ∷ release_test places ∷ release_one plan n m places ∷ release_end plan held places ∷ []
 
 abbrev pub release_items : Plan → ℕ → ℕ → List Held → LlGraph
 release_items plan n m held =

@@ -150,9 +150,13 @@ set_by_blocks (block ∷ blocks) = or_found (set_by_ops block.ops) (set_by_block
 abbrev pub no_slots : ℕ → Slots
 no_slots clear = record { kind = None; value = None; clear = clear }
 
+-- what a variable refers to
+abbrev pub referred_by : List Bool → List LlType → ℕ → Option ℕ
+referred_by counted types v = reference_given counted (slice_get types v)
+
 abbrev pub or_slots : List Bool → List LlType → ℕ → Option (ℕ × ℕ) → Slots → Slots
 or_slots counted types clear None other = other
-or_slots counted types clear (Some x) other = record { kind = reference_given counted (slice_get types x.0); value = reference_given counted (slice_get types x.1); clear = clear }
+or_slots counted types clear (Some x) other = record { kind = referred_by counted types x.0; value = referred_by counted types x.1; clear = clear }
 
 -- what the slots refer to tells the first operation that sets them
 abbrev pub slots_of : List Bool → List LlGraph → ℕ → Slots
