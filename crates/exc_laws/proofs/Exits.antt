@@ -25,11 +25,11 @@ use Rattle.ll_code.specs.declared.program.LlProgram.{LlProgram}
 use Rattle.ll_laws.proofs.Values.{and_left, and_right}
 use Rattle.exc_transform.specs.Explicit.{graphs_calm, is_marked, default_of, raising, left_ops, left_exit}
 use Rattle.exc_transform.specs.Raising.{exit_leaves}
-use Rattle.exc_transform.specs.Live.{variables_in, exit_variables}
+use Rattle.ll_live.specs.Live.{variables_in, exit_variables}
 use Rattle.exc_transform.specs.Pieces.{explicit}
 use Rattle.exc_laws.specs.Ready.{marks_of, exceptions_of, IsClosed, IsWhole, ReadyAt}
 use Rattle.exc_laws.specs.Stands.{explicit_graph, Beside, IsClear, Leaving, Wait, Stands}
-use Rattle.exc_laws.specs.Follows.{Leads, Comes, Does, Follows}
+use Rattle.exc_laws.specs.Follows.{Leads, Does, Follows}
 use Rattle.exc_laws.proofs.Tests.{or_first, or_second, equals, get_left}
 use Rattle.exc_laws.proofs.Lives.{among_left, among_right, among_own, needed_live}
 use Rattle.exc_laws.proofs.Operations.{SameOn, operand_same, reached_same}
@@ -43,7 +43,7 @@ module _ (p : LlProgram) (raises : graphs_calm p.graphs ≡ false) (closed : IsC
   does_later x mid count next l d = record { later = d.later; count = d.count + count; leads = then (explicit p) args x mid d.later count d.count l d.leads; does = d.does }
 
   pub follows_later : (x mid : State) (count : ℕ) (next : Next) → Leads (explicit p) args x mid count → Follows p args mid next → Follows p args x next
-  follows_later x mid count (Goes to) l f = record { later = f.later; count = f.count + count; leads = then (explicit p) args x mid f.later count f.count l f.leads; some = (let s : 1 ≤ f.count = f.some in omega (arith, s)); stands = f.stands }
+  follows_later x mid count (Goes to) l (later, d, s) = (later, does_later x mid count (Goes later) l d, s)
   follows_later x mid count (Puts byte to) l (later, d, s) = (later, does_later x mid count (Puts byte later) l d, s)
   follows_later x mid count (Tells event to) l (later, d, s) = (later, does_later x mid count (Tells event later) l d, s)
   follows_later x mid count (Ends outcome core) l (later, d, s) = (later, does_later x mid count (Ends outcome later) l d, s)
@@ -52,8 +52,8 @@ module _ (p : LlProgram) (raises : graphs_calm p.graphs ≡ false) (closed : IsC
   pub does_now : (x : State) (next : Next) → step (explicit p) args x ≡ next → Does p args x next
   does_now x next e = record { later = x; count = 0; leads = nothing (explicit p) args x; does = e }
 
-  pub comes_now : (x to later : State) → step (explicit p) args x ≡ Goes later → Stands p to later → Comes p args x to
-  comes_now x to later e s = record { later = later; count = 1; leads = one (explicit p) args x later e; some = omega arith; stands = s }
+  pub comes_now : (x to later : State) → step (explicit p) args x ≡ Goes later → Stands p to later → Follows p args x (Goes to)
+  comes_now x to later e s = (later, does_now x (Goes later) e, s)
 
   -- a graph is left by a value that nothing reads
   pub default_run : (t : LlType) (frames : List Frame) (core : Core) → (value : Value) × (step (explicit p) args (At [] (exit.Return (default_of t)) frames core) ≡ Goes (Returning value frames core))
@@ -75,21 +75,18 @@ module _ (p : LlProgram) (raises : graphs_calm p.graphs ≡ false) (closed : IsC
         from : Raised (explicit p) args (length graph.types) (exit.Return (default_of graph.result)) x_frames x_core (read core.vars v) (raising (exceptions_of p) (length graph.types) v) []
             → Follows p args (At (raising (exceptions_of p) (length graph.types) v) (exit.Return (default_of graph.result)) x_frames x_core) (Goes (Throwing (read core.vars v) frames core))
         from r =
-            let out = default_run graph.result x_frames r.core_after in
-            record {
-              later = Returning out.0 x_frames r.core_after;
-              count = 1 + r.count;
-              leads = then (explicit p) args _ (At [] (exit.Return (default_of graph.result)) x_frames r.core_after) (Returning out.0 x_frames r.core_after) r.count 1 r.leads (one (explicit p) args _ _ out.1);
-              some = omega arith;
-              stands = record {
+            let out = default_run graph.result x_frames r.core_after in (
+              Returning out.0 x_frames r.core_after,
+              record { later = At [] (exit.Return (default_of graph.result)) x_frames r.core_after; count = r.count; leads = r.leads; does = out.1 },
+              record {
                 beside = record { function = r.kept.beside.function ∙ beside.function; blocks = r.kept.beside.blocks ∙ beside.blocks; statics = r.kept.beside.statics ∙ beside.statics; steps = r.kept.beside.steps ∙ beside.steps };
                 set = set;
                 slot = r.slot;
                 kind = r.kind;
                 marked = marked;
                 waiting = waiting;
-              };
-            }
+              },
+            )
 
     -- ---- exits
 

@@ -6,8 +6,10 @@ use Rattle.ll_code.specs.declared.program.LlExit.{LlExit}
 use Rattle.ll_code.specs.declared.program.LlProgram.{LlProgram}
 use Rattle.ll_laws.proofs.Values.{is_same}
 use Rattle.exc_transform.specs.Raising.{may_raise}
-use Rattle.exc_transform.specs.Live.{among, reads, set_by, exit_variables, new_ones, handler_reads, exit_reads, and_this, live_from, live}
-use Rattle.exc_laws.specs.Ready.{marks_of, any_of, is_live, sets}
+use Rattle.ll_live.specs.Live.{among, reads, set_by, exit_variables}
+use Rattle.exc_transform.specs.Live.{new_ones, handler_reads, exit_reads, and_this, live_from, live}
+use Rattle.ll_live.specs.Live.{sets}
+use Rattle.exc_laws.specs.Ready.{marks_of, any_of, is_live}
 use Rattle.exc_laws.specs.Stands.{needs}
 use Rattle.exc_laws.proofs.Tests.{or_first, or_second, equals}
 

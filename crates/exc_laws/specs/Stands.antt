@@ -11,9 +11,12 @@ use Rattle.ll_code.specs.declared.program.LlGraph.{LlGraph}
 use Rattle.ll_code.specs.declared.program.LlProgram.{LlProgram}
 use Rattle.exc_transform.specs.Explicit.{is_marked, testing}
 use Rattle.exc_transform.specs.Raising.{may_raise, catches, is_last, ops_leave, exit_leaves, some_raises, raises_within}
-use Rattle.exc_transform.specs.Live.{among, reads, set_by, exit_reads, handler_reads}
-use Rattle.exc_transform.specs.Pieces.{Around, around_graph, graph_of, onward, way_block, rest_blocks, behind, piece_ops, piece_exit, test_exit}
-use Rattle.exc_laws.specs.Ready.{marks_of, any_of, exceptions_of, sets, is_pointer}
+use Rattle.ll_live.specs.Live.{among, reads, set_by}
+use Rattle.exc_transform.specs.Live.{exit_reads, handler_reads}
+use Rattle.exc_transform.specs.Pieces.{Around, explicit, around_graph, graph_of, onward, way_block, rest_blocks, behind, piece_ops, piece_exit, test_exit}
+use Rattle.ll_held.specs.Roots.{under_way, read_by}
+use Rattle.ll_live.specs.Live.{sets}
+use Rattle.exc_laws.specs.Ready.{marks_of, any_of, exceptions_of, is_pointer}
 
 -- ---- graphs
 
@@ -86,7 +89,7 @@ pub record Tests (p : LlProgram) (graph : LlGraph) (frame x_frame : Frame) : Typ
   pub handled : (v : ℕ) → among v (handler_reads frame.ops frame.exit) ≡ true → Handled frame x_frame v
   pub out : (is_last frame.ops && catches frame.exit) ≡ false → is_marked (marks_of p) frame.graph ≡ true
 
--- a call of graph f waits: it is tested, or the graph raises nothing
+-- a call of graph f waits: both read the same in it; it is tested, or the graph raises nothing
 pub record Waits (p : LlProgram) (f : ℕ) (graph : LlGraph) (frame x_frame : Frame) : Type 0 where
   pub of : slice_get p.graphs frame.graph ≡ Some graph
   pub same : x_frame.graph ≡ frame.graph
@@ -95,6 +98,7 @@ pub record Waits (p : LlProgram) (f : ℕ) (graph : LlGraph) (frame x_frame : Fr
   pub vars : (v : ℕ) → needs p false frame.ops frame.exit v ≡ true → sets frame.into v ≡ false → read x_frame.vars v ≡ read frame.vars v
   pub leaving : Leaving p frame.graph frame.ops frame.exit
   pub testing : Testing p graph frame.ops frame.exit
+  pub under : (v : ℕ) → read_by (under_way (explicit p) x_frame) v ≡ true → (read_by (under_way p frame) v ≡ true) × (read x_frame.vars v ≡ read frame.vars v)
   pub left : (PieceAt p graph frame.ops frame.exit x_frame.ops x_frame.exit × (is_marked (marks_of p) f ≡ false)) ⊎ Tests p graph frame x_frame
 
 abbrev pub Wait : LlProgram → ℕ → List Frame → List Frame → Type 0

@@ -7,6 +7,7 @@ ghost use Rattle.ll_code.specs.Typed.{IsWellTyped};
 ghost use Rattle.ll_code.specs.declared.program.LlStage.TheVariants as stage;
 ghost use Rattle.ll_code.specs.declared.program.LlProgram.{LlProgram};
 ghost use Rattle.ll_laws.specs.States.{StateFits};
+ghost use Rattle.ll_held.specs.Places.{IsPlaced};
 ghost use Rattle.exc_transform.specs.Explicit.{IsWithoutExceptions, graphs_calm};
 ghost use Rattle.exc_transform.specs.Pieces.{explicit};
 ghost use Rattle.exc_laws.specs.Ready.{IsClosed, IsReady};
@@ -28,10 +29,10 @@ pub fn programs_without_exceptions_mean_the_same()
 {}
 
 /// The machine of the explicit program follows each step of the program's, where exceptions are raised
-/// and each block reads its inputs alone.
+/// and each block reads its inputs alone. States of runs are placed.
 #[tactic(auto, using(crate::proofs::Steps::step_follows))]
 pub fn steps_are_followed()
-    ensures { (p : LlProgram) → IsWellTyped p → p.stage ≡ stage.Raw → graphs_calm p.graphs ≡ false → IsClosed p → (args : List (List ℕ)) (s x : State) → Stands p s x → StateFits p s → IsReady p s → Follows p args x (step p args s) }
+    ensures { (p : LlProgram) → IsWellTyped p → p.stage ≡ stage.Raw → graphs_calm p.graphs ≡ false → IsClosed p → (args : List (List ℕ)) (s x : State) → Stands p s x → IsPlaced p s → IsPlaced (explicit p) x → StateFits p s → IsReady p s → Follows p args x (step p args s) }
 {}
 
 /// The explicit program means what the program means, where each block reads its inputs alone and each

@@ -24,6 +24,7 @@ use Rattle.ll_code.specs.declared.program.LlBlock.{LlBlock}
 use Rattle.ll_code.specs.declared.program.LlGraph.{LlGraph}
 use Rattle.ll_code.specs.declared.program.LlProgram.{LlProgram}
 use Rattle.ll_live.specs.Live.{set_by}
+use Rattle.ll_held.specs.Roots.{operation_in, under_way}
 use Rattle.ll_held.specs.Places.{PlacedAt, BehindCall, AllBehind, IsPlaced}
 
 -- ---- an operation that stays in its block goes on at the next place
@@ -127,6 +128,18 @@ module _ (core : Core) where
     does_moves (op.Call into f xs) = tt
     does_moves (op.CallFn into result params b xs) = tt
     does_moves (op.Raise a) = tt
+
+-- ---- the call that is under way
+
+drop_get : {A : Type 0} (n : ℕ) (xs ys : List A) (x : A) → drop n xs ≡ x ∷ ys → slice_get xs n ≡ Some x
+drop_get zero [] ys x e = absurd (cc)
+drop_get zero (z ∷ xs) ys x e = cc
+drop_get (suc n) [] ys x e = absurd (cc)
+drop_get (suc n) (z ∷ xs) ys x e = drop_get n xs ys x e
+
+pub under_is : (p : LlProgram) (o : LlOp) (ops : List LlOp) (e : LlExit) (into : Option ℕ) (core : Core) → PlacedAt p core.function core.block core.at (o ∷ ops) e → under_way p (waiting core into ops e) ≡ Some o
+under_is p o ops e into core h =
+    ap (λ b. operation_in b (core.at + 1 - 1)) h.of ∙ (let s : core.at + 1 - 1 ≡ core.at = omega arith in ap (slice_get h.block.ops) s) ∙ drop_get core.at h.block.ops ops o h.left
 
 -- ---- steps
 
