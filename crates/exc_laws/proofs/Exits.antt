@@ -1,9 +1,9 @@
 -- The machine of the explicit program follows the exits of blocks.
-use Rattle.std.proofs.Common.{◌≡◌, ◌<◌, ◌≤◌, ℕ, ◌+◌, Bool, true, false, ◌==◌, List, [], length, Option, Some, None, Result, Ok, Err, refl, sym, ap, ◌∙◌, subst, arith}
+use Rattle.std.proofs.Common.{◌∷◌, ◌≡◌, ◌<◌, ◌≤◌, ℕ, ◌+◌, Bool, true, false, ◌==◌, List, [], length, Option, Some, None, Result, Ok, Err, refl, sym, ap, ◌∙◌, subst, arith}
 use Rattle.std.specs.Prelude.{slice_get, cond, option_map}
 use Rattle.std.proofs.lemmas.Option.{slice_get_within}
 use Rattle.rpy_base.specs.declared.outcome.FailName.{FailName}
-use Rattle.csub_tree.specs.State.{Value, Unset, Block, Core, After, Over, Stuck}
+use Rattle.csub_tree.specs.State.{Value, Ptr, Unset, Block, Core, After, Over, Stuck}
 use Rattle.csub_tree.specs.Layout.{Shape}
 use Rattle.csub_tree.specs.Operation.{is_unset, flag_of}
 use Rattle.csub_tree.specs.Statement.{read, operand, reached, on_block, fail, fail_name_of, raised, raised_as, bytes_of}
@@ -29,6 +29,7 @@ use Rattle.ll_live.specs.Live.{variables_in, exit_variables}
 use Rattle.exc_transform.specs.Pieces.{explicit}
 use Rattle.exc_laws.specs.Ready.{marks_of, exceptions_of, IsClosed, IsWhole, ReadyAt}
 use Rattle.exc_laws.specs.Stands.{explicit_graph, Beside, IsClear, Leaving, Wait, Stands}
+use Rattle.ll_held.specs.Held.{Held}
 use Rattle.exc_laws.specs.Follows.{Leads, Does, Follows}
 use Rattle.exc_laws.proofs.Tests.{or_first, or_second, equals, get_left}
 use Rattle.exc_laws.proofs.Lives.{among_left, among_right, among_own, needed_live}
@@ -56,13 +57,13 @@ module _ (p : LlProgram) (raises : graphs_calm p.graphs ≡ false) (closed : IsC
   comes_now x to later e s = (later, does_now x (Goes later) e, s)
 
   -- a graph is left by a value that nothing reads
-  pub default_run : (t : LlType) (frames : List Frame) (core : Core) → (value : Value) × (step (explicit p) args (At [] (exit.Return (default_of t)) frames core) ≡ Goes (Returning value frames core))
-  default_run type.Signed frames core = (_, refl)
-  default_run type.Char frames core = (_, refl)
-  default_run type.Bool frames core = (_, refl)
-  default_run type.Void frames core = (_, refl)
-  default_run type.Fn frames core = (_, refl)
-  default_run (type.Ptr n) frames core = (_, refl)
+  pub default_run : (t : LlType) (frames : List Frame) (core : Core) → (value : Value) × (step (explicit p) args (At [] (exit.Return (default_of t)) frames core) ≡ Goes (Returning value frames core)) × ((b : ℕ) → value ≡ Ptr b → ⊥)
+  default_run type.Signed frames core = (_, refl, λ b e. absurd (cc))
+  default_run type.Char frames core = (_, refl, λ b e. absurd (cc))
+  default_run type.Bool frames core = (_, refl, λ b e. absurd (cc))
+  default_run type.Void frames core = (_, refl, λ b e. absurd (cc))
+  default_run type.Fn frames core = (_, refl, λ b e. absurd (cc))
+  default_run (type.Ptr n) frames core = (_, refl, λ b e. absurd (cc))
 
   module _ (graph : LlGraph) (frames x_frames : List Frame) (core x_core : Core) (of : slice_get p.graphs core.function ≡ Some graph) (beside : Beside core x_core) (clear : IsClear x_core)
       (count : length core.vars ≡ length graph.types) (size : length x_core.vars ≡ length (explicit_graph p graph).types) (waiting : Wait p core.function frames x_frames) where
@@ -83,6 +84,8 @@ module _ (p : LlProgram) (raises : graphs_calm p.graphs ≡ false) (closed : IsC
                 set = set;
                 slot = r.slot;
                 kind = r.kind;
+                known = λ apart b e. subst (λ blocks. Held blocks (read core.vars v ∷ []) b) beside.blocks (r.known (λ g block i. apart g block (ap (λ s. slice_get s g) (sym beside.statics) ∙ i)) b e);
+                gives = out.2;
                 marked = marked;
                 waiting = waiting;
               },

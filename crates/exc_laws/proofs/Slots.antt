@@ -22,7 +22,10 @@ use Rattle.exc_transform.specs.Explicit.{raising_by, raising, testing, taking}
 use Rattle.exc_transform.specs.Pieces.{explicit}
 use Rattle.exc_laws.specs.Ready.{exceptions_of, is_pointer, IsWholeOf, IsWhole}
 use Rattle.exc_laws.specs.Stands.{Beside}
-use Rattle.ll_held.specs.Quiet.{Calm, Stay, Go, is_quiet}
+use Rattle.ll_held.specs.Held.{Held, Root}
+use Rattle.ll_held.specs.Quiet.{Calm, Stay, Go, is_quiet, StaticsAreApart}
+use Rattle.ll_held.proofs.Keeping.{head_in}
+use Rattle.ll_held.proofs.Calming.{reached_there, field_held}
 use Rattle.exc_laws.specs.Follows.{Leads}
 use Rattle.exc_laws.proofs.Operations.{reached_same}
 
@@ -121,6 +124,7 @@ module _ (x : LlProgram) (args : List (List ℕ)) where
         pub kept : Kept core core_after
         pub slot : core_after.exc_value ≡ value
         pub kind : is_pointer core_after.exc_type ≡ true
+        pub known : StaticsAreApart core → (b : ℕ) → core_after.exc_type ≡ Ptr b → Held core.blocks (value ∷ []) b
 
       pointer_set : (w : Value) → is_pointer w ≡ true → is_unset w ≡ false
       pointer_set (Ptr n) h = refl
@@ -141,6 +145,7 @@ module _ (x : LlProgram) (args : List (List ℕ)) where
         kept = record { beside = record { function = refl; blocks = refl; statics = refl; steps = refl }; size = refl; vars = λ v le. refl };
         slot = refl;
         kind = pointer;
+        known = λ apart b e. Root {b = b} (head_in b value [] e);
       }
 
       abbrev kind_in : ℕ → Block → Value
@@ -168,6 +173,7 @@ module _ (x : LlProgram) (args : List (List ℕ)) where
         };
         slot = refl;
         kind = pointer;
+        known = λ apart b e. field_held core (value ∷ []) value block apart (reached_there core (shapes_of x.structs) root value block found) (λ m i. Root {b = m} (head_in m value [] i)) b (place (shape_at (shapes_of x.structs) root) 0) e;
       }
         where
           got : goes_on (At (op.ExcSet own v ∷ rest) e frames) (st.get_field core (shapes_of x.structs) own root (read core.vars v) 0) ≡ Goes (At (op.ExcSet own v ∷ rest) e frames (got_core (kind_in root block)))

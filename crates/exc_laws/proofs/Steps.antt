@@ -37,10 +37,11 @@ use Rattle.exc_transform.specs.Pieces.{explicit, called as called_ending, test_t
 use Rattle.exc_transform.proofs.Without.{raises_is, tested_calm}
 use Rattle.ll_live.specs.Live.{sets}
 use Rattle.exc_laws.specs.Ready.{marks_of, any_of, exceptions_of, IsClosed, IsWhole, ReadyAt, IsReady, is_pointer}
-use Rattle.exc_laws.specs.Stands.{explicit_graph, around_in, From, needs, Beside, IsClear, PieceAt, TestAt, Leaving, Testing, Tests, Waits, Wait, StandsCalling, StandsAt, StandsReturning, StandsThrowing, Stands}
+use Rattle.exc_laws.specs.Stands.{explicit_graph, around_in, From, needs, Beside, IsClear, PieceAt, TestAt, Leaving, Testing, Tests, Waits, Wait, SameHandled, StandsCalling, StandsAt, StandsReturning, StandsThrowing, Stands}
 use Rattle.ll_held.specs.Roots.{under_way, read_by}
 use Rattle.ll_held.specs.Places.{PlacedAt, IsPlaced}
-use Rattle.ll_held.specs.Quiet.{is_quiet}
+use Rattle.ll_held.specs.Held.{Held}
+use Rattle.ll_held.specs.Quiet.{is_quiet, StaticsAreApart}
 use Rattle.ll_held.proofs.Placing.{under_is}
 use Rattle.exc_laws.specs.Follows.{Leads, Follows}
 use Rattle.exc_laws.proofs.Tests.{or_first, or_second, equals, length_both}
@@ -432,12 +433,14 @@ module _ (p : LlProgram) (ok : IsWellTyped p) (raw : p.stage ≡ stage.Raw) (rai
       same_graph : (g h : LlGraph) (o : Option LlGraph) → o ≡ Some g → o ≡ Some h → g ≡ h
       same_graph g h o e f = let i : Some g ≡ Some h = sym e ∙ f in cc
 
-      left_at : (graph : LlGraph) → Waits p core.function graph frame x_frame → PieceAt p graph frame.ops frame.exit x_frame.ops x_frame.exit ⊎ TestAt p graph frame.ops frame.exit x_frame.ops x_frame.exit
+      left_at : (graph : LlGraph) → Waits p core.function graph frame x_frame
+          → PieceAt p graph frame.ops frame.exit x_frame.ops x_frame.exit ⊎ (TestAt p graph frame.ops frame.exit x_frame.ops x_frame.exit × SameHandled frame.ops frame.exit (record (resumed frame core) { vars = taken_by frame.vars frame.into value }) (record (resumed x_frame x_core) { vars = taken_by x_frame.vars x_frame.into x_value }))
       left_at graph w = one w.left
         where
-          one : (PieceAt p graph frame.ops frame.exit x_frame.ops x_frame.exit × (is_marked (marks_of p) core.function ≡ false)) ⊎ Tests p graph frame x_frame → PieceAt p graph frame.ops frame.exit x_frame.ops x_frame.exit ⊎ TestAt p graph frame.ops frame.exit x_frame.ops x_frame.exit
+          one : (PieceAt p graph frame.ops frame.exit x_frame.ops x_frame.exit × (is_marked (marks_of p) core.function ≡ false)) ⊎ Tests p graph frame x_frame
+              → PieceAt p graph frame.ops frame.exit x_frame.ops x_frame.exit ⊎ (TestAt p graph frame.ops frame.exit x_frame.ops x_frame.exit × SameHandled frame.ops frame.exit (record (resumed frame core) { vars = taken_by frame.vars frame.into value }) (record (resumed x_frame x_core) { vars = taken_by x_frame.vars x_frame.into x_value }))
           one (inl h) = inl h.0
-          one (inr h) = inr h.test
+          one (inr h) = inr (h.test, λ v i. taken_apart x_frame.vars x_frame.into x_value v (ap (λ o. sets o v) w.into ∙ (h.handled v i).apart) ∙ (h.handled v i).same ∙ sym (taken_apart frame.vars frame.into value v (h.handled v i).apart))
 
       back : Wait p core.function (frame ∷ frames) (x_frame ∷ x_frames) → FramesFit p (length core.blocks) t (frame ∷ frames) → Follows p args (Returning x_value (x_frame ∷ x_frames) x_core) (returned value (frame ∷ frames) core)
       back (graph, w, more) (other, fits, _) =
@@ -468,13 +471,13 @@ module _ (p : LlProgram) (ok : IsWellTyped p) (raw : p.stage ≡ stage.Raw) (rai
 
   module _ (graph : LlGraph) (rest : List LlOp) (e : LlExit) (way : ℕ) (frames x_frames : List Frame) (core x_core : Core) (value : Value) (of : slice_get p.graphs core.function ≡ Some graph) (beside : Beside core x_core)
       (count : length core.vars ≡ length graph.types) (size : length x_core.vars ≡ length (explicit_graph p graph).types) (wait : Wait p core.function frames x_frames) (set : is_unset value ≡ false) (slot : x_core.exc_value ≡ value)
-      (kind : is_pointer x_core.exc_type ≡ true) (same : (w : ℕ) → among w (handler_reads rest e) ≡ true → read x_core.vars w ≡ read core.vars w) (fine : exit_ok p graph e ≡ true)
+      (kind : is_pointer x_core.exc_type ≡ true) (known : StaticsAreApart core → (b : ℕ) → x_core.exc_type ≡ Ptr b → Held core.blocks (value ∷ []) b) (same : (w : ℕ) → among w (handler_reads rest e) ≡ true → read x_core.vars w ≡ read core.vars w) (fine : exit_ok p graph e ≡ true)
       (out : (is_last rest && catches e) ≡ false → is_marked (marks_of p) core.function ≡ true) where
     goes_out : is_marked (marks_of p) core.function ≡ true → Follows p args (At [] (exit.Return (default_of graph.result)) x_frames x_core) (Goes (Throwing value frames core))
     goes_out marked =
         let run = default_run p raises closed args graph.result x_frames x_core in
         comes_now p raises closed args (At [] (exit.Return (default_of graph.result)) x_frames x_core) (Throwing value frames core) (Returning run.0 x_frames x_core) run.1
-        (record { beside = beside; set = set; slot = slot; kind = kind; marked = marked; waiting = wait })
+        (record { beside = beside; set = set; slot = slot; kind = kind; known = known; gives = run.2; marked = marked; waiting = wait })
 
     taken_follows : (a : ℕ) (by : LlLink) → a < length graph.types → link_ok p graph by ≡ true → ((w : ℕ) → among w (read_behind a by) ≡ true → read x_core.vars w ≡ read core.vars w)
         → Follows p args (At (taking (exceptions_of p) graph.types a) (exit.Goto by) x_frames x_core) (jump p frames (record core { vars = slice_set core.vars a value }) by)
@@ -625,17 +628,17 @@ module _ (p : LlProgram) (ok : IsWellTyped p) (raw : p.stage ≡ stage.Raw) (rai
       → PlacedAt (explicit p) x_core.function x_core.block x_core.at x_ops x_exit → AtFits p ops e frames core graph → ReadyAt p ops e core → Follows p args (At x_ops x_exit x_frames x_core) (step p args (At ops e frames core))
   at_follows ops e frames core x_ops x_exit x_frames x_core graph s place x_place fit ready = one s.left
     where
-      one : PieceAt p graph ops e x_ops x_exit ⊎ TestAt p graph ops e x_ops x_exit → Follows p args (At x_ops x_exit x_frames x_core) (step p args (At ops e frames core))
+      one : PieceAt p graph ops e x_ops x_exit ⊎ (TestAt p graph ops e x_ops x_exit × SameHandled ops e core x_core) → Follows p args (At x_ops x_exit x_frames x_core) (step p args (At ops e frames core))
       one (inl t) =
           subst (λ l. Follows p args (At l x_exit x_frames x_core) (step p args (At ops e frames core))) (sym t.left)
           (subst (λ x. Follows p args (At (piece_ops (around_in p graph) ops e) x x_frames x_core) (step p args (At ops e frames core))) (sym t.end)
           (piece_follows graph frames x_frames core x_core s.of s.beside s.clear fit.fits s.size s.waiting ops e t.way place
           (record { block = x_place.block; of = x_place.of; left = x_place.left ∙ t.left; end = x_place.end ∙ t.end }) t.blocks fit.left fit.end s.vars ready s.leaving s.testing))
-      one (inr t) = test_follows ops e frames core x_ops x_exit x_frames x_core graph s t place fit ready
+      one (inr t) = test_follows ops e frames core x_ops x_exit x_frames x_core graph s t.0 place fit ready
 
   -- ---- an exception comes to who waits
 
-  thrown_follows_on : (value : Value) (frame : Frame) (frames : List Frame) (core : Core) (t : LlType) (x_value : Value) (x_frame : Frame) (x_frames : List Frame) (x_core : Core) → StandsThrowing p value (frame ∷ frames) core (x_frame ∷ x_frames) x_core
+  thrown_follows_on : (value : Value) (frame : Frame) (frames : List Frame) (core : Core) (t : LlType) (x_value : Value) (x_frame : Frame) (x_frames : List Frame) (x_core : Core) → StandsThrowing p value (frame ∷ frames) core x_value (x_frame ∷ x_frames) x_core
       → LeavesFits p exception value (frame ∷ frames) core t → Follows p args (Returning x_value (x_frame ∷ x_frames) x_core) (thrown p value (frame ∷ frames) core)
   thrown_follows_on value frame frames core t x_value x_frame x_frames x_core s fit = to s.waiting fit.waiting
     where
@@ -658,7 +661,7 @@ module _ (p : LlProgram) (ok : IsWellTyped p) (raw : p.stage ≡ stage.Raw) (rai
               (one (explicit p) args (At [] x_frame.exit x_frames run.core_after) (At (way_ops (exceptions_of p) graph.types frame.ops frame.exit) (way_exit graph.result frame.ops frame.exit) x_frames (passed run.core_after tests.test.way (handler_reads frame.ops frame.exit))) stepped refl))
               (way_follows graph frame.ops frame.exit tests.test.way frames x_frames (resumed frame core) (passed run.core_after tests.test.way (handler_reads frame.ops frame.exit)) value w.of
               (record { function = run.kept.beside.function ∙ w.same; blocks = run.kept.beside.blocks ∙ s.beside.blocks; statics = run.kept.beside.statics ∙ s.beside.statics; steps = run.kept.beside.steps ∙ s.beside.steps }) count
-              (set_all_size (handler_reads frame.ops frame.exit) (operands run.core_after.vars (as_operands (handler_reads frame.ops frame.exit))) run.core_after.vars ∙ run.kept.size ∙ taken_size x_frame.vars x_frame.into x_value ∙ w.size) more s.set (run.value ∙ s.slot) (ap is_pointer run.kind ∙ s.kind)
+              (set_all_size (handler_reads frame.ops frame.exit) (operands run.core_after.vars (as_operands (handler_reads frame.ops frame.exit))) run.core_after.vars ∙ run.kept.size ∙ taken_size x_frame.vars x_frame.into x_value ∙ w.size) more s.set (run.value ∙ s.slot) (ap is_pointer run.kind ∙ s.kind) (λ apart b e. s.known apart b (sym run.kind ∙ e))
               (λ v i. own_values run.core_after.vars run.core_after.vars (handler_reads frame.ops frame.exit) (λ v. refl) v ∙ same v i) fine tests.out frame.ops frame.exit refl refl)
             where
               same : (v : ℕ) → among v (handler_reads frame.ops frame.exit) ≡ true → read run.core_after.vars v ≡ read frame.vars v

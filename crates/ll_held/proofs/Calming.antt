@@ -5,7 +5,7 @@ use Rattle.std.specs.Prelude.{slice_get, slice_set, slice_index_or, cond, if◌t
 use Rattle.rpy_base.specs.declared.outcome.FailName.{FailName}
 use Rattle.rpy_base.specs.declared.outcome.Outcome.TheVariants.{Returned}
 use Rattle.csub_tree.specs.State.{Value, Unset, Null, Ptr, Static, Block, Core, After, Onward, Over, Stuck}
-use Rattle.csub_tree.specs.Layout.{shape_at, place}
+use Rattle.csub_tree.specs.Layout.{Shape, shape_at, place, begins_with}
 use Rattle.csub_tree.specs.Operation.{Answer, is_unset, word_of, binary_of, flag_of}
 use Rattle.csub_tree.specs.Statement as st
 use Rattle.csub_tree.specs.Statement.{read, operand, operands, any_unset, block_at, as_struct, reached, on_block, taken_by, fail_name_of}
@@ -34,7 +34,7 @@ use Rattle.ll_laws.specs.States.{AtFits, StateFits}
 use Rattle.ll_laws.proofs.Values.{and_left, and_right, is_same, binary_fits}
 use Rattle.ll_live.specs.Live.{among, variables_of, variables_in, reads, set_by, sets, exit_variables, exit_reads, live}
 use Rattle.ll_held.specs.Roots.{kept, waits_for, waiting_roots, slots, roots, core_of}
-use Rattle.ll_held.specs.Held.{times, references, cells_at, Refers, Held, Root, Cycle, From}
+use Rattle.ll_held.specs.Held.{times, references, cells, cells_at, Refers, Held, Root, Cycle, From}
 use Rattle.ll_held.specs.Quiet.{is_quiet_operation, is_quiet, ReadsInputs, StaticsAreApart, frames_of, Near}
 use Rattle.ll_held.proofs.Keeping.{or_left, or_right, same_number, times_append, references_append, in_parts, in_first, in_second, at_head, head_in, tail_in, read_in, used_from, used_to, operand_from, operands_from, set_read, set_all_read, held_on}
 use Rattle.ll_live.proofs.Appended.{among_append}
@@ -51,6 +51,29 @@ near_then p s t u m n = record {
   held = λ b h. held_on (core_of s).blocks (roots p t) (roots p s) m.held b (subst (λ blocks. Held blocks (roots p t) b) m.blocks (n.held b h));
   waiting = (let a : references (waiting_roots p (frames_of t)) ≤ references (waiting_roots p (frames_of s)) = m.waiting in let b : references (waiting_roots p (frames_of u)) ≤ references (waiting_roots p (frames_of t)) = n.waiting in omega (arith, a, b));
 }
+
+-- ---- what a field of a block that is held names
+
+-- a block that is reached is there
+pub reached_there : (core : Core) (shapes : List Shape) (n : ℕ) (value : Value) (block : Block) → reached core shapes n value ≡ Ok block → block_at core value ≡ Some block
+reached_there core shapes n value block = there (is_unset value)
+  where
+    seen : (o : Option Block) → block_at core value ≡ o → as_struct shapes n o ≡ Ok block → block_at core value ≡ Some block
+    seen None at f = absurd (cc)
+    seen (Some other) at f = one (begins_with shapes other.kind n) f
+      where
+        one : (b : Bool) → cond b (Ok other) (Err WrongKind) ≡ Ok block → block_at core value ≡ Some block
+        one true i = let j : other ≡ block = cc in at ∙ ap Some j
+        one false i = absurd (cc)
+
+    there : (b : Bool) → cond b (Err IsUnset) (as_struct shapes n (block_at core value)) ≡ Ok block → block_at core value ≡ Some block
+    there true i = absurd (cc)
+    there false i = seen (block_at core value) refl i
+
+pub field_held : (core : Core) (holds : List Value) (value : Value) (block : Block) → StaticsAreApart core → block_at core value ≡ Some block → ((m : ℕ) → value ≡ Ptr m → Held core.blocks holds m) → (b j : ℕ) → read block.fields j ≡ Ptr b → Held core.blocks holds b
+field_held core holds (Ptr m) block apart at h b j r = From (h m refl) (subst (λ (o : Option Block). 0 < times b (cells o)) (sym at) (in_first b block.fields block.items (read_in b block.fields j r)))
+field_held core holds (Static g) block apart at h b j r = absurd (let z : times b block.fields ≡ 0 = apart g block at b in let y : 0 < times b block.fields = read_in b block.fields j r in omega (arith, z, y))
+field_held core holds other block apart at h b j r = absurd (cc)
 
 -- each input is given one operand
 given_count : (p : LlProgram) (vars others : List LlType) (vs : List ℕ) (xs : List COperand) → all_given p vars others vs xs ≡ true → length vs ≡ length xs
@@ -276,35 +299,16 @@ module _ (q : LlProgram) (closed : ReadsInputs q) (args : List (List ℕ)) where
     is_read : (v : ℕ) → among v (reads o) ≡ true → (b : ℕ) → read core.vars v ≡ Ptr b → Held core.blocks (roots q Start) b
     is_read v h b r = in_vars (o ∷ ops) e frames core v b (or_left (among v (reads o)) _ h) r
 
-  -- what a field of a block that is held names
-  module _ (blocks : List (Option Block)) (holds : List Value) where
-    field_held : (n b : ℕ) (block : Block) (k : ℕ) → Held blocks holds n → slice_index_or blocks n None ≡ Some block → read block.fields k ≡ Ptr b → Held blocks holds b
-    field_held n b block k h at r = From h (subst (λ (o : Option Block). 0 < times b (Rattle.ll_held.specs.Held.cells o)) (sym at) (in_first b block.fields block.items (read_in b block.fields k r)))
-
-  got_near : (a n v k : ℕ) (ops : List LlOp) (e : LlExit) (frames : List Frame) (core : Core) (t : State) → StaticsAreApart core → goes_on (At ops e frames) (st.get_field core (shapes_of q.structs) a n (read core.vars v) k) ≡ Goes t → Near q (At (op.GetField a n v k ∷ ops) e frames core) t
+  got_near : (a n v k : ℕ) (ops : List LlOp) (e : LlExit) (frames : List Frame) (core : Core) (t : State) → StaticsAreApart core → goes_on (At ops e frames) (st.get_field core (shapes_of q.structs) a n (read core.vars v) k) ≡ Goes t
+      → Near q (At (op.GetField a n v k ∷ ops) e frames core) t
   got_near a n v k ops e frames core t apart stepped = found (reached core (shapes_of q.structs) n (read core.vars v)) refl stepped
     where
-      named : (value : Value) → read core.vars v ≡ value → (block : Block) → block_at core value ≡ Some block → (b j : ℕ) → read block.fields j ≡ Ptr b → Held core.blocks (roots q (At (op.GetField a n v k ∷ ops) e frames core)) b
-      named (Ptr m) is block at b j r = field_held core.blocks (roots q (At (op.GetField a n v k ∷ ops) e frames core)) m b block j (is_read (op.GetField a n v k) ops e frames core v (or_left (v == v) false (same_number v)) m is) at r
-      named (Static g) is block at b j r = absurd (let z : times b block.fields ≡ 0 = apart g block at b in let y : 0 < times b block.fields = read_in b block.fields j r in omega (arith, z, y))
-      named other is block at b j r = absurd (cc)
-
-      seen : (o : Option Block) → block_at core (read core.vars v) ≡ o → (r : Result Block StuckReason) → as_struct (shapes_of q.structs) n o ≡ r → (block : Block) → r ≡ Ok block → block_at core (read core.vars v) ≡ Some block
-      seen None at r f block g = absurd (cc)
-      seen (Some other) at r f block g = one (Rattle.csub_tree.specs.Layout.begins_with (shapes_of q.structs) other.kind n) (f ∙ g)
-        where
-          one : (b : Bool) → cond b (Ok other) (Err WrongKind) ≡ Ok block → block_at core (read core.vars v) ≡ Some block
-          one true i = let j : other ≡ block = cc in at ∙ ap Some j
-          one false i = absurd (cc)
-
-      there : (b : Bool) (block : Block) → cond b (Err IsUnset) (as_struct (shapes_of q.structs) n (block_at core (read core.vars v))) ≡ Ok block → block_at core (read core.vars v) ≡ Some block
-      there true block i = absurd (cc)
-      there false block i = seen (block_at core (read core.vars v)) refl (as_struct (shapes_of q.structs) n (block_at core (read core.vars v))) refl block i
-
-      found : (r : Result Block StuckReason) → reached core (shapes_of q.structs) n (read core.vars v) ≡ r → goes_on (At ops e frames) (on_block (λ block. st.set core a (read block.fields (place (shape_at (shapes_of q.structs) n) k))) r) ≡ Goes t → Near q (At (op.GetField a n v k ∷ ops) e frames core) t
+      found : (r : Result Block StuckReason) → reached core (shapes_of q.structs) n (read core.vars v) ≡ r → goes_on (At ops e frames) (on_block (λ block. st.set core a (read block.fields (place (shape_at (shapes_of q.structs) n) k))) r) ≡ Goes t
+          → Near q (At (op.GetField a n v k ∷ ops) e frames core) t
       found (Ok block) i s =
           set_near (op.GetField a n v k) ops e frames core a (read block.fields (place (shape_at (shapes_of q.structs) n) k)) t refl
-          (λ b r. named (read core.vars v) refl block (there (is_unset (read core.vars v)) block i) b (place (shape_at (shapes_of q.structs) n) k) r) s
+          (λ b r. field_held core (roots q (At (op.GetField a n v k ∷ ops) e frames core)) (read core.vars v) block apart (reached_there core (shapes_of q.structs) n (read core.vars v) block i)
+          (λ m is. is_read (op.GetField a n v k) ops e frames core v (or_left (v == v) false (same_number v)) m is) b (place (shape_at (shapes_of q.structs) n) k) r) s
       found (Err reason) i s = absurd (cc)
 
   answer_near : (a : ℕ) (o : CBinary) (x y : COperand) (ops : List LlOp) (e : LlExit) (frames : List Frame) (core : Core) (t : State) → goes_on (At ops e frames) (st.answered core a (binary_of o (operand core.vars x) (operand core.vars y))) ≡ Goes t → Near q (At (op.Binary a o x y ∷ ops) e frames core) t
