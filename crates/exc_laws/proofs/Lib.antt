@@ -1,5 +1,6 @@
 pub mod Exits
 pub mod Families
+pub mod Holding
 pub mod Jumps
 pub mod Kept
 pub mod Lives
@@ -7,6 +8,7 @@ pub mod Marks
 pub mod Operations
 pub mod Pieces
 pub mod Places
+pub mod Roots
 pub mod Slots
 pub mod Statics
 pub mod Steps

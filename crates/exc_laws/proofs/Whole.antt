@@ -25,7 +25,7 @@ use Rattle.exc_laws.proofs.Without.{without_same}
 -- ---- a run that has ended has ended
 
 module _ (q : LlProgram) (args : List (List ℕ)) where
-  one_more : (k : ℕ) (s : State) (text : List ℕ) (events : List Event) → run q args (suc k) s text events ≡ follow (run q args k) text events (step q args s)
+  pub one_more : (k : ℕ) (s : State) (text : List ℕ) (events : List Event) → run q args (suc k) s text events ≡ follow (run q args k) text events (step q args s)
   unfolding run
   one_more k s text events = refl
 
@@ -52,7 +52,7 @@ module _ (p : LlProgram) (ok : IsWellTyped p) (raw : p.stage ≡ stage.Raw) (rai
   RanFollows k x text events (Ended ending left out told) = (m : ℕ) × (run (explicit p) args m x text events ≡ Ended ending left out told)
   RanFollows k x text events (Unfinished later out told) = (j : ℕ) × (last : State) × (run (explicit p) args j x text events ≡ Unfinished last out told) × (k ≤ j)
 
-  abbrev ReadyFrom : State → List ℕ → List Event → Type 0
+  abbrev pub ReadyFrom : State → List ℕ → List Event → Type 0
   ReadyFrom s text events = (j : ℕ) (t : State) (on : List ℕ) (more : List Event) → run p args j s text events ≡ Unfinished t on more → IsReady p t
 
   -- some steps before
@@ -67,15 +67,15 @@ module _ (p : LlProgram) (ok : IsWellTyped p) (raw : p.stage ≡ stage.Raw) (rai
       (let e : m + (1 + d.count) ≡ suc m + d.count = omega arith in ap (λ k. run (explicit p) args k x text events) e) ∙ d.leads.by (suc m) text events ∙ one_more (explicit p) args m d.later text events
       ∙ ap (follow (run (explicit p) args m) text events) d.does
 
-  later_ready : (s : State) (text : List ℕ) (events : List Event) → ReadyFrom s text events → (j : ℕ) (t : State) (on : List ℕ) (more : List Event) → follow (run p args j) text events (step p args s) ≡ Unfinished t on more → IsReady p t
+  pub later_ready : (s : State) (text : List ℕ) (events : List Event) → ReadyFrom s text events → (j : ℕ) (t : State) (on : List ℕ) (more : List Event) → follow (run p args j) text events (step p args s) ≡ Unfinished t on more → IsReady p t
   later_ready s text events r j t on more e = r (suc j) t on more (one_more p args j s text events ∙ e)
 
   -- where the explicit program comes it stands in a block of its own
-  calm_placed : (x y : State) → Calm (explicit p) args x y → IsPlaced (explicit p) x → IsPlaced (explicit p) y
+  pub calm_placed : (x y : State) → Calm (explicit p) args x y → IsPlaced (explicit p) x → IsPlaced (explicit p) y
   calm_placed x y (Stay s) h = h
   calm_placed x y (Go s t u e q c) h = calm_placed t y c (subst (NextPlaced (explicit p)) e (step_placed (explicit p) args s h))
 
-  does_placed : (x : State) (next : Next) (d : Does p args x next) → IsPlaced (explicit p) x → NextPlaced (explicit p) next
+  pub does_placed : (x : State) (next : Next) (d : Does p args x next) → IsPlaced (explicit p) x → NextPlaced (explicit p) next
   does_placed x next d h = subst (NextPlaced (explicit p)) d.does (step_placed (explicit p) args d.later (calm_placed x d.later d.leads.calm h))
 
   on_next : (k : ℕ) (s x : State) (text : List ℕ) (events : List Event) → ((t later : State) (on : List ℕ) (more : List Event) → Stands p t later → IsPlaced p t → IsPlaced (explicit p) later → StateFits p t → ReadyFrom t on more → RanFollows k later on more (run p args k t on more))
