@@ -1,6 +1,7 @@
 pub mod Exits
 pub mod Families
 pub mod Holding
+pub mod Holds
 pub mod Jumps
 pub mod Kept
 pub mod Lives
@@ -10,6 +11,7 @@ pub mod Pieces
 pub mod Places
 pub mod Roots
 pub mod Slots
+pub mod Small
 pub mod Statics
 pub mod Steps
 pub mod Tests
