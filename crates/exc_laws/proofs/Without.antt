@@ -10,7 +10,7 @@ use Rattle.exc_transform.specs.Pieces.{explicit}
 use Rattle.exc_transform.proofs.Without.{explicit_same}
 
 module _ (p : LlProgram) (args : List (List ℕ)) where
-  step_same : (s : State) → step (restaged p) args s ≡ step p args s
+  pub step_same : (s : State) → step (restaged p) args s ≡ step p args s
   step_same (Calling f values frames core) = refl
   step_same (At [] exit frames core) = refl
   step_same (At (o ∷ ops) exit frames core) = refl

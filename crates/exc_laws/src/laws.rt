@@ -56,7 +56,8 @@ pub fn explicit_programs_are_never_stuck()
 /// Each state of a run of the explicit program holds no more than some state of the program's run, with
 /// the same output and the same blocks made and freed, where in the states of that run the statics name no
 /// block: the same blocks stand in both, each block that can be reached from the roots of the one, or
-/// lies on a cycle, is held in the other, and the calls that wait hold no more references.
+/// lies on a cycle, is held in the other, and the calls that wait hold no more references. Where the one
+/// ends, so does the other.
 pub fn explicit_programs_hold_no_more()
     ensures { (p : LlProgram) → IsWellTyped p → p.stage ≡ stage.Raw → (args : List (List ℕ)) (steps : ℕ) → Allows p args steps → AreApartOn p args steps → (k : ℕ) (x : State) (text : List ℕ) (events : List Event) → run (explicit p) args k (start (explicit p) steps) [] [] ≡ Unfinished x text events → Found p args (start p steps) [] [] x text events }
 {}
