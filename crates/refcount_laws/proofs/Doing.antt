@@ -27,7 +27,15 @@ use Rattle.refcount_laws.proofs.Rising.{null_up, count_rises}
 module _ (q : LlProgram) (args : List (List ℕ)) (c : Counts) where
   pub done_before : (g : Ghost) (own : Value → ℕ) (first from : State) (to : List (Option Block) → List Block → State) → Leads q args first from → Done q args c g own from to → Done q args c g own first to
   done_before g own first from to l m = record {
-    later = m.later; blocks = m.blocks; same = m.same; same_statics = m.same_statics; size = m.size; size_statics = m.size_statics; inners = m.inners; counted = m.counted; shown = m.shown;
+    later = m.later;
+    blocks = m.blocks;
+    same = m.same;
+    same_statics = m.same_statics;
+    size = m.size;
+    size_statics = m.size_statics;
+    inners = m.inners;
+    counted = m.counted;
+    shown = m.shown;
     leads = leads_on q args l m.leads;
   }
 
@@ -47,7 +55,16 @@ module _ (q : LlProgram) (args : List (List ℕ)) (c : Counts) where
 
   pub done_nothing : (g : Ghost) (h : List (Option Block)) (own : Value → ℕ) (from : State) (to : List (Option Block) → List Block → State) → Shown c h g.blocks → IsCounted q c g own → Leads q args from (to h (memory g)) → Done q args c g own from to
   done_nothing g h own from to sh counted l = record {
-    later = g; blocks = h; same = λ b. refl; same_statics = λ s. refl; size = refl; size_statics = refl; inners = λ r. omega arith; counted = counted; shown = sh; leads = l;
+    later = g;
+    blocks = h;
+    same = λ b. refl;
+    same_statics = λ s. refl;
+    size = refl;
+    size_statics = refl;
+    inners = λ r. omega arith;
+    counted = counted;
+    shown = sh;
+    leads = l;
   }
 
 no_hit : (r : Value) → hit r Null ≡ 0
@@ -70,7 +87,14 @@ module _ (q : LlProgram) (args : List (List ℕ)) (c : Counts) (counting : Count
       let m : Moved q args c g h own (At (op.Call None (c.down to) (x ∷ []) ∷ ops) ex frames (here core f b at vars h (memory g))) (λ h' s'. At ops ex frames (here core f b (at + 1) vars h' s')) =
       dropped q args c counting (weight c g.blocks) g h own to v core f b ex frames x at ops vars (omega arith) (all_shown c g.blocks h sh) root lead counted e in
       record {
-        later = m.later; blocks = m.blocks; same = m.same; same_statics = m.same_statics; size = m.size; size_statics = m.size_statics; inners = m.inners; counted = m.counted;
+        later = m.later;
+        blocks = m.blocks;
+        same = m.same;
+        same_statics = m.same_statics;
+        size = m.size;
+        size_statics = m.size_statics;
+        inners = m.inners;
+        counted = m.counted;
         shown = shown_after c g.blocks m.later.blocks h m.blocks m.size sh m.touched;
         leads = m.leads;
       }

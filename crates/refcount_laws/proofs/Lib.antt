@@ -6,6 +6,7 @@ pub mod Variables
 pub mod Moving
 pub mod Falling
 pub mod Reading
+pub mod Reaching
 pub mod Release
 pub mod Emptying
 pub mod Dropping

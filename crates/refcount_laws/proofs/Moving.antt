@@ -22,14 +22,32 @@ module _ (q : LlProgram) (args : List (List ℕ)) (c : Counts) where
 
   pub before : (g : Ghost) (h : List (Option Block)) (own : Value → ℕ) (first from : State) (to : List (Option Block) → List Block → State) → Leads q args first from → Moved q args c g h own from to → Moved q args c g h own first to
   before g h own first from to l m = record {
-    later = m.later; blocks = m.blocks; same = m.same; same_statics = m.same_statics; size = m.size; size_statics = m.size_statics; weighs = m.weighs; inners = m.inners; counted = m.counted; touched = m.touched;
+    later = m.later;
+    blocks = m.blocks;
+    same = m.same;
+    same_statics = m.same_statics;
+    size = m.size;
+    size_statics = m.size_statics;
+    weighs = m.weighs;
+    inners = m.inners;
+    counted = m.counted;
+    touched = m.touched;
     leads = leads_on q args l m.leads;
   }
 
   pub behind : (g : Ghost) (h : List (Option Block)) (own : Value → ℕ) (from : State) (to last : List (Option Block) → List Block → State) → Moved q args c g h own from to → ((h : List (Option Block)) (s : List Block) → Leads q args (to h s) (last h s))
       → Moved q args c g h own from last
   behind g h own from to last m l = record {
-    later = m.later; blocks = m.blocks; same = m.same; same_statics = m.same_statics; size = m.size; size_statics = m.size_statics; weighs = m.weighs; inners = m.inners; counted = m.counted; touched = m.touched;
+    later = m.later;
+    blocks = m.blocks;
+    same = m.same;
+    same_statics = m.same_statics;
+    size = m.size;
+    size_statics = m.size_statics;
+    weighs = m.weighs;
+    inners = m.inners;
+    counted = m.counted;
+    touched = m.touched;
     leads = leads_on q args m.leads (l m.blocks (map shown_fixed m.later.statics));
   }
 
