@@ -23,4 +23,5 @@ pub mod Owning
 pub mod Dead
 pub mod Given
 pub mod Accounts
+pub mod Alike
 pub mod Leading

@@ -29,7 +29,7 @@ struct_from plan [] n j s e = absurd (cc)
 struct_from plan (t ∷ ss) n zero s e = let f : t ≡ s = cc in ap (λ t. Some (struct_by (has_count plan n) t)) f ∙ ap (λ n. Some (struct_by (has_count plan n) s)) (let z : n ≡ n + 0 = omega arith in z)
 struct_from plan (t ∷ ss) n (suc j) s e = struct_from plan ss (suc n) j s e ∙ ap (λ n. Some (struct_by (has_count plan n) s)) (let z : suc n + j ≡ n + suc j = omega arith in z)
 
-base_of_struct : (b : Bool) (s : LlStruct) → (struct_by b s).base ≡ s.base
+pub base_of_struct : (b : Bool) (s : LlStruct) → (struct_by b s).base ≡ s.base
 base_of_struct true s = refl
 base_of_struct false s = refl
 
@@ -99,7 +99,7 @@ pub given_marked : (marks : List Bool) (o : Option LlType) (m : ℕ) → referen
 given_marked marks None m e = absurd (cc)
 given_marked marks (Some t) m e = reference_marked marks t m e
 
-earlier : (l : List LlStruct) (n m : ℕ) (s : LlStruct) → slice_get l n ≡ Some s → m < n → StructAt l m
+pub earlier : (l : List LlStruct) (n m : ℕ) (s : LlStruct) → slice_get l n ≡ Some s → m < n → StructAt l m
 earlier [] n m s e lt = absurd (cc)
 earlier (x ∷ l) zero m s e lt = absurd (omega (arith, lt))
 earlier (x ∷ l) (suc n) zero s e lt = record { s = x; is = refl }
@@ -151,7 +151,7 @@ module _ (p : LlProgram) (based : Based p.structs) where
 
   -- ---- places
 
-  has_count_is : (n : ℕ) (s : LlStruct) (b : Bool) → slice_get p.structs n ≡ Some s → is_counted plan n ≡ true → is_none s.base ≡ b → has_count plan n ≡ b
+  pub has_count_is : (n : ℕ) (s : LlStruct) (b : Bool) → slice_get p.structs n ≡ Some s → is_counted plan n ≡ true → is_none s.base ≡ b → has_count plan n ≡ b
   has_count_is n s b e c h = ap (λ b. b && is_none (base_at plan n)) c ∙ ap (λ o. is_none (typed.base_of o)) e ∙ h
 
   -- there is room for the count and the release

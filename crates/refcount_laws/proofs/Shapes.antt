@@ -99,7 +99,7 @@ module _ (structs : List LlStruct) (based : Based structs) where
       by None b = ap (is_among n) (bases_end n s e b) ∙ among_first n []
       by (Some m) b = ap (is_among n) (bases_on n m (record { s = s; is = e; base = b })) ∙ among_first n (shape_at (shapes_of structs) m).bases
 
-  none_past : (n : ℕ) → slice_get structs n ≡ None → (shape_at (shapes_of structs) n).bases ≡ []
+  pub none_past : (n : ℕ) → slice_get structs n ≡ None → (shape_at (shapes_of structs) n).bases ≡ []
   none_past n e = ap (λ x. x.bases) (past (shapes_of structs) n no_shape (let l : length structs ≤ n = outside structs n e in omega (arith, length_shapes structs [], l)))
     where
       outside : (l : List LlStruct) (n : ℕ) → slice_get l n ≡ None → length l ≤ n
