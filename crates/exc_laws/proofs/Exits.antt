@@ -1,9 +1,9 @@
 -- The machine of the explicit program follows the exits of blocks.
-use Rattle.std.proofs.Common.{◌≡◌, ◌<◌, ◌≤◌, ℕ, ◌+◌, Bool, true, false, ◌==◌, List, [], length, Option, Some, None, Result, Ok, Err, refl, sym, ap, ◌∙◌, subst, arith}
+use Rattle.std.proofs.Common.{◌∷◌, ◌≡◌, ◌<◌, ◌≤◌, ℕ, ◌+◌, Bool, true, false, ◌==◌, List, [], length, Option, Some, None, Result, Ok, Err, refl, sym, ap, ◌∙◌, subst, arith}
 use Rattle.std.specs.Prelude.{slice_get, cond, option_map}
 use Rattle.std.proofs.lemmas.Option.{slice_get_within}
 use Rattle.rpy_base.specs.declared.outcome.FailName.{FailName}
-use Rattle.csub_tree.specs.State.{Value, Unset, Block, Core, After, Over, Stuck}
+use Rattle.csub_tree.specs.State.{Value, Ptr, Unset, Block, Core, After, Over, Stuck}
 use Rattle.csub_tree.specs.Layout.{Shape}
 use Rattle.csub_tree.specs.Operation.{is_unset, flag_of}
 use Rattle.csub_tree.specs.Statement.{read, operand, reached, on_block, fail, fail_name_of, raised, raised_as, bytes_of}
@@ -25,11 +25,12 @@ use Rattle.ll_code.specs.declared.program.LlProgram.{LlProgram}
 use Rattle.ll_laws.proofs.Values.{and_left, and_right}
 use Rattle.exc_transform.specs.Explicit.{graphs_calm, is_marked, default_of, raising, left_ops, left_exit}
 use Rattle.exc_transform.specs.Raising.{exit_leaves}
-use Rattle.exc_transform.specs.Live.{variables_in, exit_variables}
+use Rattle.ll_live.specs.Live.{variables_in, exit_variables}
 use Rattle.exc_transform.specs.Pieces.{explicit}
 use Rattle.exc_laws.specs.Ready.{marks_of, exceptions_of, IsClosed, IsWhole, ReadyAt}
 use Rattle.exc_laws.specs.Stands.{explicit_graph, Beside, IsClear, Leaving, Wait, Stands}
-use Rattle.exc_laws.specs.Follows.{Leads, Comes, Does, Follows}
+use Rattle.ll_held.specs.Held.{Held}
+use Rattle.exc_laws.specs.Follows.{Leads, Does, Follows}
 use Rattle.exc_laws.proofs.Tests.{or_first, or_second, equals, get_left}
 use Rattle.exc_laws.proofs.Lives.{among_left, among_right, among_own, needed_live}
 use Rattle.exc_laws.proofs.Operations.{SameOn, operand_same, reached_same}
@@ -43,7 +44,7 @@ module _ (p : LlProgram) (raises : graphs_calm p.graphs ≡ false) (closed : IsC
   does_later x mid count next l d = record { later = d.later; count = d.count + count; leads = then (explicit p) args x mid d.later count d.count l d.leads; does = d.does }
 
   pub follows_later : (x mid : State) (count : ℕ) (next : Next) → Leads (explicit p) args x mid count → Follows p args mid next → Follows p args x next
-  follows_later x mid count (Goes to) l f = record { later = f.later; count = f.count + count; leads = then (explicit p) args x mid f.later count f.count l f.leads; some = (let s : 1 ≤ f.count = f.some in omega (arith, s)); stands = f.stands }
+  follows_later x mid count (Goes to) l (later, d, s) = (later, does_later x mid count (Goes later) l d, s)
   follows_later x mid count (Puts byte to) l (later, d, s) = (later, does_later x mid count (Puts byte later) l d, s)
   follows_later x mid count (Tells event to) l (later, d, s) = (later, does_later x mid count (Tells event later) l d, s)
   follows_later x mid count (Ends outcome core) l (later, d, s) = (later, does_later x mid count (Ends outcome later) l d, s)
@@ -52,17 +53,17 @@ module _ (p : LlProgram) (raises : graphs_calm p.graphs ≡ false) (closed : IsC
   pub does_now : (x : State) (next : Next) → step (explicit p) args x ≡ next → Does p args x next
   does_now x next e = record { later = x; count = 0; leads = nothing (explicit p) args x; does = e }
 
-  pub comes_now : (x to later : State) → step (explicit p) args x ≡ Goes later → Stands p to later → Comes p args x to
-  comes_now x to later e s = record { later = later; count = 1; leads = one (explicit p) args x later e; some = omega arith; stands = s }
+  pub comes_now : (x to later : State) → step (explicit p) args x ≡ Goes later → Stands p to later → Follows p args x (Goes to)
+  comes_now x to later e s = (later, does_now x (Goes later) e, s)
 
   -- a graph is left by a value that nothing reads
-  pub default_run : (t : LlType) (frames : List Frame) (core : Core) → (value : Value) × (step (explicit p) args (At [] (exit.Return (default_of t)) frames core) ≡ Goes (Returning value frames core))
-  default_run type.Signed frames core = (_, refl)
-  default_run type.Char frames core = (_, refl)
-  default_run type.Bool frames core = (_, refl)
-  default_run type.Void frames core = (_, refl)
-  default_run type.Fn frames core = (_, refl)
-  default_run (type.Ptr n) frames core = (_, refl)
+  pub default_run : (t : LlType) (frames : List Frame) (core : Core) → (value : Value) × (step (explicit p) args (At [] (exit.Return (default_of t)) frames core) ≡ Goes (Returning value frames core)) × ((b : ℕ) → value ≡ Ptr b → ⊥)
+  default_run type.Signed frames core = (_, refl, λ b e. absurd (cc))
+  default_run type.Char frames core = (_, refl, λ b e. absurd (cc))
+  default_run type.Bool frames core = (_, refl, λ b e. absurd (cc))
+  default_run type.Void frames core = (_, refl, λ b e. absurd (cc))
+  default_run type.Fn frames core = (_, refl, λ b e. absurd (cc))
+  default_run (type.Ptr n) frames core = (_, refl, λ b e. absurd (cc))
 
   module _ (graph : LlGraph) (frames x_frames : List Frame) (core x_core : Core) (of : slice_get p.graphs core.function ≡ Some graph) (beside : Beside core x_core) (clear : IsClear x_core)
       (count : length core.vars ≡ length graph.types) (size : length x_core.vars ≡ length (explicit_graph p graph).types) (waiting : Wait p core.function frames x_frames) where
@@ -75,21 +76,20 @@ module _ (p : LlProgram) (raises : graphs_calm p.graphs ≡ false) (closed : IsC
         from : Raised (explicit p) args (length graph.types) (exit.Return (default_of graph.result)) x_frames x_core (read core.vars v) (raising (exceptions_of p) (length graph.types) v) []
             → Follows p args (At (raising (exceptions_of p) (length graph.types) v) (exit.Return (default_of graph.result)) x_frames x_core) (Goes (Throwing (read core.vars v) frames core))
         from r =
-            let out = default_run graph.result x_frames r.core_after in
-            record {
-              later = Returning out.0 x_frames r.core_after;
-              count = 1 + r.count;
-              leads = then (explicit p) args _ (At [] (exit.Return (default_of graph.result)) x_frames r.core_after) (Returning out.0 x_frames r.core_after) r.count 1 r.leads (one (explicit p) args _ _ out.1);
-              some = omega arith;
-              stands = record {
+            let out = default_run graph.result x_frames r.core_after in (
+              Returning out.0 x_frames r.core_after,
+              record { later = At [] (exit.Return (default_of graph.result)) x_frames r.core_after; count = r.count; leads = r.leads; does = out.1 },
+              record {
                 beside = record { function = r.kept.beside.function ∙ beside.function; blocks = r.kept.beside.blocks ∙ beside.blocks; statics = r.kept.beside.statics ∙ beside.statics; steps = r.kept.beside.steps ∙ beside.steps };
                 set = set;
                 slot = r.slot;
                 kind = r.kind;
+                known = λ apart b e. subst (λ blocks. Held blocks (read core.vars v ∷ []) b) beside.blocks (r.known (λ g block i. apart g block (ap (λ s. slice_get s g) (sym beside.statics) ∙ i)) b e);
+                gives = out.2;
                 marked = marked;
                 waiting = waiting;
-              };
-            }
+              },
+            )
 
     -- ---- exits
 

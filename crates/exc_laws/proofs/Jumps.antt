@@ -18,11 +18,11 @@ use Rattle.ll_laws.proofs.Values.{and_left, and_right, is_same}
 use Rattle.ll_laws.proofs.Operations.{length_set}
 use Rattle.exc_transform.specs.Explicit.{graphs_calm}
 use Rattle.exc_transform.specs.Raising.{raises_within}
-use Rattle.exc_transform.specs.Live.{among, variables_in}
+use Rattle.ll_live.specs.Live.{among, variables_in}
 use Rattle.exc_transform.specs.Pieces.{test_types, explicit, graph_of, graphs_of, piece, piece_ops, piece_exit, behind}
 use Rattle.exc_laws.specs.Ready.{marks_of, any_of, exceptions_of, IsClosed}
 use Rattle.exc_laws.specs.Stands.{explicit_graph, around_in, From, Beside, IsClear, Wait}
-use Rattle.exc_laws.specs.Follows.{Leads, Follows}
+use Rattle.exc_laws.specs.Follows.{Leads, Does, Follows}
 use Rattle.exc_laws.proofs.Tests.{length_map, length_both, get_map, get_left}
 use Rattle.exc_laws.proofs.Places.{block_placed}
 use Rattle.exc_laws.proofs.Lives.{needed_live}
@@ -138,12 +138,10 @@ module _ (p : LlProgram) (raises : graphs_calm p.graphs ≡ false) (args : List 
 
         landed : any_unset (operands core.vars link.args) ≡ false → (block : LlBlock) → slice_get graph.blocks link.to ≡ Some block → all_given p graph.types graph.types block.inputs link.args ≡ true
             → Follows p args x (begins frames core link.to (operands core.vars link.args) (Some block))
-        landed free block at given = record {
-          later = Begun link block placed.0;
-          count = 1 + before;
-          leads = then (explicit p) args x mid (Begun link block placed.0) before 1 leads (one (explicit p) args mid (Begun link block placed.0) (x_jump false free ∙ ap (λ o. begins x_frames x_core link.to (operands core.vars link.args) o) placed.1));
-          some = omega arith;
-          stands = (
+        landed free block at given = (
+          Begun link block placed.0,
+          record { later = mid; count = before; leads = leads; does = x_jump false free ∙ ap (λ o. begins x_frames x_core link.to (operands core.vars link.args) o) placed.1 },
+          (
             graph,
             record {
               of = of;
@@ -160,8 +158,8 @@ module _ (p : LlProgram) (raises : graphs_calm p.graphs ≡ false) (args : List 
               left = inl (record { way = placed.0; left = refl; end = refl; blocks = placed.2 });
               waiting = waiting;
             },
-          );
-        }
+          ),
+        )
           where
             placed : (way : ℕ) × (slice_get (explicit_graph p graph).blocks link.to ≡ Some (piece (around_in p graph) block.inputs block.ops block.exit way)) × From (explicit_graph p graph).blocks way (behind (around_in p graph) way block.ops block.exit)
             placed = block_placed (around_in p graph) graph.blocks link.to block at

@@ -1,5 +1,7 @@
 pub mod Exits
 pub mod Families
+pub mod Holding
+pub mod Holds
 pub mod Jumps
 pub mod Kept
 pub mod Lives
@@ -7,7 +9,9 @@ pub mod Marks
 pub mod Operations
 pub mod Pieces
 pub mod Places
+pub mod Roots
 pub mod Slots
+pub mod Small
 pub mod Statics
 pub mod Steps
 pub mod Tests

@@ -6,8 +6,10 @@ use Rattle.ll_code.specs.declared.program.LlExit.{LlExit}
 use Rattle.ll_code.specs.declared.program.LlProgram.{LlProgram}
 use Rattle.ll_laws.proofs.Values.{is_same}
 use Rattle.exc_transform.specs.Raising.{may_raise}
-use Rattle.exc_transform.specs.Live.{among, reads, set_by, exit_variables, new_ones, handler_reads, exit_reads, and_this, live_from, live}
-use Rattle.exc_laws.specs.Ready.{marks_of, any_of, is_live, sets}
+use Rattle.ll_live.specs.Live.{among, reads, set_by, exit_variables}
+use Rattle.exc_transform.specs.Live.{new_ones, handler_reads, exit_reads, and_this, live_from, live}
+use Rattle.ll_live.specs.Live.{sets}
+use Rattle.exc_laws.specs.Ready.{marks_of, any_of, is_live}
 use Rattle.exc_laws.specs.Stands.{needs}
 use Rattle.exc_laws.proofs.Tests.{or_first, or_second, equals}
 
@@ -29,7 +31,7 @@ pub among_own : (v : ℕ) → among v (v ∷ []) ≡ true
 among_own v = or_first (v == v) false (equals v v refl)
 
 -- which of two a variable is among, or of neither
-among_either : (v : ℕ) (xs ys : List ℕ) → among v xs ≡ false → among v ys ≡ false → among v (xs ++ ys) ≡ false
+pub among_either : (v : ℕ) (xs ys : List ℕ) → among v xs ≡ false → among v ys ≡ false → among v (xs ++ ys) ≡ false
 among_either v [] ys h k = k
 among_either v (x ∷ xs) ys h k = one (λ h. among_either v xs ys h k) (x == v) h
   where
@@ -90,7 +92,7 @@ module _ (p : LlProgram) (e : LlExit) (v : ℕ) where
 
 -- ---- what is live is needed
 
-new_in : (v : ℕ) (vs set into : List ℕ) → among v (new_ones vs set into) ≡ true → (among v into ≡ true) ⊎ ((among v set ≡ false) × (among v vs ≡ true))
+pub new_in : (v : ℕ) (vs set into : List ℕ) → among v (new_ones vs set into) ≡ true → (among v into ≡ true) ⊎ ((among v set ≡ false) × (among v vs ≡ true))
 new_in v [] set into h = inl h
 new_in v (w ∷ vs) set into h = one (λ into. new_in v vs set into) (among w set) (among w into) refl h
   where

@@ -15,7 +15,7 @@ use Rattle.ll_code.specs.Machine.{does, shapes_of}
 use Rattle.ll_code.specs.declared.program.LlOp.{LlOp}
 use Rattle.ll_code.specs.declared.program.LlOp.TheVariants as op
 use Rattle.ll_code.specs.declared.program.LlProgram.{LlProgram}
-use Rattle.exc_transform.specs.Live.{among, variables_of, variables_in, reads, set_by}
+use Rattle.ll_live.specs.Live.{among, variables_of, variables_in, reads, set_by}
 use Rattle.exc_laws.specs.Ready.{uses_slots}
 use Rattle.exc_laws.specs.Stands.{Beside}
 use Rattle.exc_laws.proofs.Tests.{or_first, or_second, equals}

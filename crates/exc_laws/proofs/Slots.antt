@@ -22,6 +22,10 @@ use Rattle.exc_transform.specs.Explicit.{raising_by, raising, testing, taking}
 use Rattle.exc_transform.specs.Pieces.{explicit}
 use Rattle.exc_laws.specs.Ready.{exceptions_of, is_pointer, IsWholeOf, IsWhole}
 use Rattle.exc_laws.specs.Stands.{Beside}
+use Rattle.ll_held.specs.Held.{Held, Root}
+use Rattle.ll_held.specs.Quiet.{Calm, Stay, Go, is_quiet, StaticsAreApart}
+use Rattle.ll_held.proofs.Keeping.{head_in}
+use Rattle.ll_held.proofs.Calming.{reached_there, field_held}
 use Rattle.exc_laws.specs.Follows.{Leads}
 use Rattle.exc_laws.proofs.Operations.{reached_same}
 
@@ -46,17 +50,21 @@ above a b lt e = absurd (omega (arith, lt, e))
 
 module _ (x : LlProgram) (args : List (List ℕ)) where
   pub nothing : (s : State) → Leads x args s s 0
-  nothing s = record { by = λ k text events. (let e : k + 0 ≡ k = omega arith in ap (λ j. run x args j s text events) e) }
+  nothing s = record { by = λ k text events. (let e : k + 0 ≡ k = omega arith in ap (λ j. run x args j s text events) e); calm = Stay s }
 
   pub one_more : (k : ℕ) (s : State) (text : List ℕ) (events : List Event) → run x args (suc k) s text events ≡ follow (run x args k) text events (step x args s)
   unfolding run
   one_more k s text events = refl
 
-  pub one : (s t : State) → step x args s ≡ Goes t → Leads x args s t 1
-  one s t e = record { by = λ k text events. (let f : k + 1 ≡ suc k = omega arith in ap (λ j. run x args j s text events) f) ∙ one_more k s text events ∙ ap (follow (run x args k) text events) e }
+  pub one : (s t : State) → step x args s ≡ Goes t → is_quiet s ≡ true → Leads x args s t 1
+  one s t e q = record { calm = Go s t t e q (Stay t); by = λ k text events. (let f : k + 1 ≡ suc k = omega arith in ap (λ j. run x args j s text events) f) ∙ one_more k s text events ∙ ap (follow (run x args k) text events) e }
+
+  calm_on : {s t u : State} → Calm x args s t → Calm x args t u → Calm x args s u
+  calm_on (Stay s) k = k
+  calm_on {u = u} (Go s r t e q h) k = Go s r u e q (calm_on h k)
 
   pub then : (s t u : State) (m n : ℕ) → Leads x args s t m → Leads x args t u n → Leads x args s u (n + m)
-  then s t u m n h k = record { by = λ i text events. (let e : i + (n + m) ≡ i + n + m = omega arith in ap (λ j. run x args j s text events) e) ∙ h.by (i + n) text events ∙ k.by i text events }
+  then s t u m n h k = record { calm = calm_on h.calm k.calm; by = λ i text events. (let e : i + (n + m) ≡ i + n + m = omega arith in ap (λ j. run x args j s text events) e) ∙ h.by (i + n) text events ∙ k.by i text events }
 
   -- ---- a core after the slots were set, tested or cleared: the first variables are what they were
 
@@ -90,8 +98,8 @@ module _ (x : LlProgram) (args : List (List ℕ)) where
         count = 1 + 1;
         leads = subst (λ ops. Leads x args (At ops e frames core) (At [] e frames (second b)) (1 + 1)) (sym is)
             (then (At (testing family own (own + 1)) e frames core) (At (op.Binary (own + 1) _ (Var own) _ ∷ []) e frames first) (At [] e frames (second b)) 1 1
-            (one (At (testing family own (own + 1)) e frames core) (At (op.Binary (own + 1) _ (Var own) _ ∷ []) e frames first) refl)
-            (one (At (op.Binary (own + 1) _ (Var own) _ ∷ []) e frames first) (At [] e frames (second b)) stepped));
+            (one (At (testing family own (own + 1)) e frames core) (At (op.Binary (own + 1) _ (Var own) _ ∷ []) e frames first) refl refl)
+            (one (At (op.Binary (own + 1) _ (Var own) _ ∷ []) e frames first) (At [] e frames (second b)) stepped refl));
         kept = record {
           beside = record { function = refl; blocks = refl; statics = refl; steps = refl };
           size = length_set first.vars (own + 1) (Flag b) ∙ length_set core.vars own core.exc_type;
@@ -116,6 +124,7 @@ module _ (x : LlProgram) (args : List (List ℕ)) where
         pub kept : Kept core core_after
         pub slot : core_after.exc_value ≡ value
         pub kind : is_pointer core_after.exc_type ≡ true
+        pub known : StaticsAreApart core → (b : ℕ) → core_after.exc_type ≡ Ptr b → Held core.blocks (value ∷ []) b
 
       pointer_set : (w : Value) → is_pointer w ≡ true → is_unset w ≡ false
       pointer_set (Ptr n) h = refl
@@ -131,11 +140,12 @@ module _ (x : LlProgram) (args : List (List ℕ)) where
         core_after = record core { at = core.at + 1; exc_type = value; exc_value = value };
         count = 1;
         leads = one (At (op.ExcSet v v ∷ rest) e frames core) (At rest e frames (record core { at = core.at + 1; exc_type = value; exc_value = value }))
-            (ap (λ w. goes_on (At rest e frames) (st.exc_set core w w)) is ∙ ap (goes_on (At rest e frames)) (both_set value value core (pointer_set value pointer) (pointer_set value pointer)));
+            (ap (λ w. goes_on (At rest e frames) (st.exc_set core w w)) is ∙ ap (goes_on (At rest e frames)) (both_set value value core (pointer_set value pointer) (pointer_set value pointer))) refl;
         some = omega arith;
         kept = record { beside = record { function = refl; blocks = refl; statics = refl; steps = refl }; size = refl; vars = λ v le. refl };
         slot = refl;
         kind = pointer;
+        known = λ apart b e. Root {b = b} (head_in b value [] e);
       }
 
       abbrev kind_in : ℕ → Block → Value
@@ -153,8 +163,8 @@ module _ (x : LlProgram) (args : List (List ℕ)) where
         core_after = put_core (kind_in root block) value;
         count = 1 + 1;
         leads = then (At (op.GetField own root v 0 ∷ op.ExcSet own v ∷ rest) e frames core) (At (op.ExcSet own v ∷ rest) e frames (got_core (kind_in root block))) (At rest e frames (put_core (kind_in root block) value)) 1 1
-            (one (At (op.GetField own root v 0 ∷ op.ExcSet own v ∷ rest) e frames core) (At (op.ExcSet own v ∷ rest) e frames (got_core (kind_in root block))) got)
-            (one (At (op.ExcSet own v ∷ rest) e frames (got_core (kind_in root block))) (At rest e frames (put_core (kind_in root block) value)) put);
+            (one (At (op.GetField own root v 0 ∷ op.ExcSet own v ∷ rest) e frames core) (At (op.ExcSet own v ∷ rest) e frames (got_core (kind_in root block))) got refl)
+            (one (At (op.ExcSet own v ∷ rest) e frames (got_core (kind_in root block))) (At rest e frames (put_core (kind_in root block) value)) put refl);
         some = omega arith;
         kept = record {
           beside = record { function = refl; blocks = refl; statics = refl; steps = refl };
@@ -163,6 +173,7 @@ module _ (x : LlProgram) (args : List (List ℕ)) where
         };
         slot = refl;
         kind = pointer;
+        known = λ apart b e. field_held core (value ∷ []) value block apart (reached_there core (shapes_of x.structs) root value block found) (λ m i. Root {b = m} (head_in m value [] i)) b (place (shape_at (shapes_of x.structs) root) 0) e;
       }
         where
           got : goes_on (At (op.ExcSet own v ∷ rest) e frames) (st.get_field core (shapes_of x.structs) own root (read core.vars v) 0) ≡ Goes (At (op.ExcSet own v ∷ rest) e frames (got_core (kind_in root block)))
@@ -183,9 +194,9 @@ module _ (x : LlProgram) (args : List (List ℕ)) where
       taking_run family types a =
           then (At (taking family types a) e frames core) (At (op.ExcClear ∷ []) e frames (record core { at = core.at + 1; vars = slice_set core.vars a core.exc_value }))
           (At [] e frames (record core { at = core.at + 1 + 1; vars = slice_set core.vars a core.exc_value; exc_type = Null; exc_value = Null })) 1 1
-          (one (At (taking family types a) e frames core) (At (op.ExcClear ∷ []) e frames (record core { at = core.at + 1; vars = slice_set core.vars a core.exc_value })) refl)
+          (one (At (taking family types a) e frames core) (At (op.ExcClear ∷ []) e frames (record core { at = core.at + 1; vars = slice_set core.vars a core.exc_value })) refl refl)
           (one (At (op.ExcClear ∷ []) e frames (record core { at = core.at + 1; vars = slice_set core.vars a core.exc_value }))
-          (At [] e frames (record core { at = core.at + 1 + 1; vars = slice_set core.vars a core.exc_value; exc_type = Null; exc_value = Null })) refl)
+          (At [] e frames (record core { at = core.at + 1 + 1; vars = slice_set core.vars a core.exc_value; exc_type = Null; exc_value = Null })) refl refl)
 
 -- an exception that is whole is set into the slots, by a core beside the one that raises it
 pub raising_run : (p : LlProgram) (args : List (List ℕ)) (core x_core : Core) → Beside core x_core → (own : ℕ) (e : LlExit) (frames : List Frame) (v : ℕ) (value : Value) (rest : List LlOp) → v < own → own + 1 < length x_core.vars

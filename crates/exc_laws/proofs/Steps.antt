@@ -31,11 +31,18 @@ use Rattle.exc_transform.specs.declared.pieces.Ending.{Ending}
 use Rattle.exc_transform.specs.declared.pieces.Ending.TheVariants.{Leaves, Raises, Tested}
 use Rattle.exc_transform.specs.Explicit.{graphs_calm, is_marked, is_tested, default_of, led_to, same_led, giving, raising, taking, raised_ops, way_ops, way_exit, testing}
 use Rattle.exc_transform.specs.Raising.{may_raise, catches, is_last, ops_leave, exit_leaves, some_raises, raises_within}
-use Rattle.exc_transform.specs.Live.{among, variables_in, reads, set_by, read_behind, handler_reads, exit_reads, as_operands, live}
+use Rattle.ll_live.specs.Live.{among, variables_in, reads, set_by}
+use Rattle.exc_transform.specs.Live.{read_behind, handler_reads, exit_reads, as_operands, live}
 use Rattle.exc_transform.specs.Pieces.{explicit, called as called_ending, test_types, onward, on_by, on, link_to, test_exit, ending_in, ops_by, exit_by, piece_ops, piece_exit, piece, rest_block, rest_blocks, way_block, behind_by, behind}
 use Rattle.exc_transform.proofs.Without.{raises_is, tested_calm}
-use Rattle.exc_laws.specs.Ready.{marks_of, any_of, exceptions_of, IsClosed, IsWhole, ReadyAt, IsReady, sets, is_pointer}
-use Rattle.exc_laws.specs.Stands.{explicit_graph, around_in, From, needs, Beside, IsClear, PieceAt, TestAt, Leaving, Testing, Tests, Waits, Wait, StandsCalling, StandsAt, StandsReturning, StandsThrowing, Stands}
+use Rattle.ll_live.specs.Live.{sets}
+use Rattle.exc_laws.specs.Ready.{marks_of, any_of, exceptions_of, IsClosed, IsWhole, ReadyAt, IsReady, is_pointer}
+use Rattle.exc_laws.specs.Stands.{explicit_graph, around_in, From, needs, Beside, IsClear, PieceAt, TestAt, Leaving, Testing, Tests, Waits, Wait, SameHandled, StandsCalling, StandsAt, StandsReturning, StandsThrowing, Stands}
+use Rattle.ll_held.specs.Roots.{under_way, read_by}
+use Rattle.ll_held.specs.Places.{PlacedAt, IsPlaced}
+use Rattle.ll_held.specs.Held.{Held}
+use Rattle.ll_held.specs.Quiet.{is_quiet, StaticsAreApart}
+use Rattle.ll_held.proofs.Placing.{under_is}
 use Rattle.exc_laws.specs.Follows.{Leads, Follows}
 use Rattle.exc_laws.proofs.Tests.{or_first, or_second, equals, length_both}
 use Rattle.exc_laws.proofs.Lives.{among_own, reads_needed, rest_needed, more_needed, handled_needed, needed_live, live_needed, behind_reads}
@@ -120,10 +127,10 @@ module _ (p : LlProgram) (ok : IsWellTyped p) (raw : p.stage ≡ stage.Raw) (rai
     -- ---- calls
 
     -- the call waits on both sides
-    waits_for : (f : ℕ) (o : LlOp) (into : Option ℕ) (rest : List LlOp) (e : LlExit) (x_ops : List LlOp) (x_exit : LlExit) → set_by o ≡ into
+    waits_for : (f : ℕ) (o : LlOp) (into : Option ℕ) (rest : List LlOp) (e : LlExit) (x_ops : List LlOp) (x_exit : LlExit) → PlacedAt p core.function core.block core.at (o ∷ rest) e → PlacedAt (explicit p) x_core.function x_core.block x_core.at (o ∷ x_ops) x_exit → set_by o ≡ into
         → ((v : ℕ) → needs p false (o ∷ rest) e v ≡ true → read x_core.vars v ≡ read core.vars v) → Leaving p core.function rest e → Testing p graph rest e
         → (PieceAt p graph rest e x_ops x_exit × (is_marked (marks_of p) f ≡ false)) ⊎ Tests p graph (waiting core into rest e) (waiting x_core into x_ops x_exit) → Waits p f graph (waiting core into rest e) (waiting x_core into x_ops x_exit)
-    waits_for f o into rest e x_ops x_exit is same leaving tests left = record {
+    waits_for f o into rest e x_ops x_exit place x_place is same leaving tests left = record {
       of = of;
       same = beside.function;
       into = refl;
@@ -131,6 +138,9 @@ module _ (p : LlProgram) (ok : IsWellTyped p) (raw : p.stage ≡ stage.Raw) (rai
       vars = λ v n s. same v (rest_needed p false o rest e v (ap (λ a. sets a v) is ∙ s) (more_needed p (may_raise (marks_of p) (any_of p) o) rest e v n));
       leaving = leaving;
       testing = tests;
+      under = λ v r.
+          (let h : among v (reads o) ≡ true = ap (λ u. read_by u v) (sym (under_is (explicit p) o x_ops x_exit into x_core x_place)) ∙ r in
+          (ap (λ u. read_by u v) (under_is p o rest e into core place) ∙ h, same v (reads_needed p false o rest e v h)));
       left = left;
     }
 
@@ -265,7 +275,7 @@ module _ (p : LlProgram) (ok : IsWellTyped p) (raw : p.stage ≡ stage.Raw) (rai
             (record x_core { at = x_core.at + 1; vars = slice_set x_core.vars a (read core.vars v) })
             (one (explicit p) args (At (op.Set a (Var v) ∷ []) (exit.Goto by) x_frames x_core) (At [] (exit.Goto by) x_frames (record x_core { at = x_core.at + 1; vars = slice_set x_core.vars a (read core.vars v) }))
             (ap (λ w. goes_on (At [] (exit.Goto by) x_frames) (st.set x_core a w)) same
-            ∙ ap (λ b. goes_on (At [] (exit.Goto by) x_frames) (cond b (Stuck IsUnset) (st.assigned x_core a (read core.vars v)))) set))
+            ∙ ap (λ b. goes_on (At [] (exit.Goto by) x_frames) (cond b (Stuck IsUnset) (st.assigned x_core a (read core.vars v)))) set) refl)
             refl (record { function = beside.function; blocks = beside.blocks; statics = beside.statics; steps = beside.steps }) clear (length_set x_core.vars a (read core.vars v)) a_within fine
             (set_here x_core.vars a (read core.vars v) Unset (omega (arith, a_within, wider))) (λ w h ne. set_elsewhere x_core.vars a w (read core.vars v) Unset ne ∙ (reads w h).1)
         choose false = from (raising_run p args core x_core beside (length graph.types) (exit.Goto by) x_frames v (read core.vars v) (taking (exceptions_of p) graph.types a) within room same set whole)
@@ -345,50 +355,54 @@ module _ (p : LlProgram) (ok : IsWellTyped p) (raw : p.stage ≡ stage.Raw) (rai
         more false b c h = or_second b c h
 
     -- an operation that is tested is a call
-    tested_follows : (o : LlOp) (rest : List LlOp) (e : LlExit) (way : ℕ) → is_tested (marks_of p) (any_of p) o ≡ true → SameNeeds (o ∷ rest) e → ReadyAt p (o ∷ rest) e core → Leaving p core.function (o ∷ rest) e → Testing p graph (o ∷ rest) e
+    tested_follows : (o : LlOp) (rest : List LlOp) (e : LlExit) (way : ℕ) → PlacedAt p core.function core.block core.at (o ∷ rest) e
+        → PlacedAt (explicit p) x_core.function x_core.block x_core.at (o ∷ testing (exceptions_of p) (length graph.types) (length graph.types + 1)) (test_exit (around_in p graph) rest e way) → is_tested (marks_of p) (any_of p) o ≡ true → SameNeeds (o ∷ rest) e → ReadyAt p (o ∷ rest) e core → Leaving p core.function (o ∷ rest) e → Testing p graph (o ∷ rest) e
         → From (explicit_graph p graph).blocks way (way_block (around_in p graph) rest e ∷ rest_blocks (around_in p graph) rest e way (is_some (onward rest e)) (behind (around_in p graph) (way + 2) rest e))
         → Follows p args (At (o ∷ testing (exceptions_of p) (length graph.types) (length graph.types + 1)) (test_exit (around_in p graph) rest e way) x_frames x_core) (step p args (At (o ∷ rest) e frames core))
-    tested_follows (op.Call into f xs) rest e way t same ready leaving tests at =
+    tested_follows (op.Call into f xs) rest e way place x_place t same ready leaving tests at =
         call_follows into f xs rest e (testing (exceptions_of p) (length graph.types) (length graph.types + 1)) (test_exit (around_in p graph) rest e way) (λ v h. same v (reads_needed p false (op.Call into f xs) rest e v h))
-        (waits_for f (op.Call into f xs) into rest e (testing (exceptions_of p) (length graph.types) (length graph.types + 1)) (test_exit (around_in p graph) rest e way) refl same (rest_leaving (op.Call into f xs) rest e leaving) (rest_testing (op.Call into f xs) rest e tests)
+        (waits_for f (op.Call into f xs) into rest e (testing (exceptions_of p) (length graph.types) (length graph.types + 1)) (test_exit (around_in p graph) rest e way) place x_place refl same (rest_leaving (op.Call into f xs) rest e leaving) (rest_testing (op.Call into f xs) rest e tests)
         (inr (tested_for (op.Call into f xs) into rest e way refl t t same ready leaving tests at)))
-    tested_follows (op.CallFn into result params b xs) rest e way t same ready leaving tests at =
+    tested_follows (op.CallFn into result params b xs) rest e way place x_place t same ready leaving tests at =
         value_follows into result params b xs rest e (testing (exceptions_of p) (length graph.types) (length graph.types + 1)) (test_exit (around_in p graph) rest e way) (λ v h. same v (reads_needed p false (op.CallFn into result params b xs) rest e v h))
-        (λ f. waits_for f (op.CallFn into result params b xs) into rest e (testing (exceptions_of p) (length graph.types) (length graph.types + 1)) (test_exit (around_in p graph) rest e way) refl same
+        (λ f. waits_for f (op.CallFn into result params b xs) into rest e (testing (exceptions_of p) (length graph.types) (length graph.types + 1)) (test_exit (around_in p graph) rest e way) place x_place refl same
         (rest_leaving (op.CallFn into result params b xs) rest e leaving) (rest_testing (op.CallFn into result params b xs) rest e tests) (inr (tested_for (op.CallFn into result params b xs) into rest e way refl t t same ready leaving tests at)))
-    tested_follows other rest e way t same ready leaving tests at = absurd (cc)
+    tested_follows other rest e way place x_place t same ready leaving tests at = absurd (cc)
 
     called_leaves : (b : Bool) → called_ending b ≡ Leaves → b ≡ false
     called_leaves true e = absurd (cc)
     called_leaves false e = refl
 
     -- any other raises nothing
-    passed_follows : (o : LlOp) (rest : List LlOp) (e : LlExit) (way : ℕ) → ending_in (around_in p graph) o ≡ Leaves → operation_ok p graph.types o ≡ true → SameNeeds (o ∷ rest) e → ReadyAt p (o ∷ rest) e core → Leaving p core.function (o ∷ rest) e
+    passed_follows : (o : LlOp) (rest : List LlOp) (e : LlExit) (way : ℕ) → PlacedAt p core.function core.block core.at (o ∷ rest) e
+        → PlacedAt (explicit p) x_core.function x_core.block x_core.at (o ∷ piece_ops (around_in p graph) rest e) (piece_exit (around_in p graph) rest e way) → ending_in (around_in p graph) o ≡ Leaves → operation_ok p graph.types o ≡ true → SameNeeds (o ∷ rest) e → ReadyAt p (o ∷ rest) e core → Leaving p core.function (o ∷ rest) e
         → Testing p graph (o ∷ rest) e → From (explicit_graph p graph).blocks way (behind (around_in p graph) way rest e)
         → Follows p args (At (o ∷ piece_ops (around_in p graph) rest e) (piece_exit (around_in p graph) rest e way) x_frames x_core) (step p args (At (o ∷ rest) e frames core))
-    passed_follows (op.Call into f xs) rest e way t h same ready leaving tests at =
+    passed_follows (op.Call into f xs) rest e way place x_place t h same ready leaving tests at =
         call_follows into f xs rest e (piece_ops (around_in p graph) rest e) (piece_exit (around_in p graph) rest e way) (λ v h. same v (reads_needed p false (op.Call into f xs) rest e v h))
-        (waits_for f (op.Call into f xs) into rest e (piece_ops (around_in p graph) rest e) (piece_exit (around_in p graph) rest e way) refl same (rest_leaving (op.Call into f xs) rest e leaving) (rest_testing (op.Call into f xs) rest e tests)
+        (waits_for f (op.Call into f xs) into rest e (piece_ops (around_in p graph) rest e) (piece_exit (around_in p graph) rest e way) place x_place refl same (rest_leaving (op.Call into f xs) rest e leaving) (rest_testing (op.Call into f xs) rest e tests)
         (inl (record { way = way; left = refl; end = refl; blocks = at }, called_leaves (is_marked (marks_of p) f) t)))
-    passed_follows (op.CallFn into result params b xs) rest e way t h same ready leaving tests at =
+    passed_follows (op.CallFn into result params b xs) rest e way place x_place t h same ready leaving tests at =
         value_follows into result params b xs rest e (piece_ops (around_in p graph) rest e) (piece_exit (around_in p graph) rest e way) (λ v h. same v (reads_needed p false (op.CallFn into result params b xs) rest e v h))
-        (λ f. waits_for f (op.CallFn into result params b xs) into rest e (piece_ops (around_in p graph) rest e) (piece_exit (around_in p graph) rest e way) refl same (rest_leaving (op.CallFn into result params b xs) rest e leaving)
+        (λ f. waits_for f (op.CallFn into result params b xs) into rest e (piece_ops (around_in p graph) rest e) (piece_exit (around_in p graph) rest e way) place x_place refl same (rest_leaving (op.CallFn into result params b xs) rest e leaving)
         (rest_testing (op.CallFn into result params b xs) rest e tests) (inl (record { way = way; left = refl; end = refl; blocks = at }, unmarked p f (called_leaves (any_of p) t))))
-    passed_follows (op.Raise a) rest e way t h same ready leaving tests at = absurd (cc)
-    passed_follows (op.Free a) rest e way t h same ready leaving tests at = absurd (no_free a h)
-    passed_follows other rest e way t h same ready leaving tests at =
+    passed_follows (op.Raise a) rest e way place x_place t h same ready leaving tests at = absurd (cc)
+    passed_follows (op.Free a) rest e way place x_place t h same ready leaving tests at = absurd (no_free a h)
+    passed_follows other rest e way place x_place t h same ready leaving tests at =
         goes_follows other rest e (piece_ops (around_in p graph) rest e) (piece_exit (around_in p graph) rest e way) (At (other ∷ piece_ops (around_in p graph) rest e) (piece_exit (around_in p graph) rest e way) x_frames x_core)
         (does p args core other) (does p args x_core other) h same (rest_leaving other rest e leaving) (rest_testing other rest e tests) (record { way = way; left = refl; end = refl; blocks = at })
         (does_same core x_core beside p args other refl ready.slots (λ v i. same v (reads_needed p false other rest e v i))) refl
 
-    piece_follows : (ops : List LlOp) (e : LlExit) (way : ℕ) → From (explicit_graph p graph).blocks way (behind (around_in p graph) way ops e) → operations_ok p graph.types ops ≡ true → exit_ok p graph e ≡ true → SameNeeds ops e → ReadyAt p ops e core
+    piece_follows : (ops : List LlOp) (e : LlExit) (way : ℕ) → PlacedAt p core.function core.block core.at ops e
+        → PlacedAt (explicit p) x_core.function x_core.block x_core.at (piece_ops (around_in p graph) ops e) (piece_exit (around_in p graph) ops e way) → From (explicit_graph p graph).blocks way (behind (around_in p graph) way ops e) → operations_ok p graph.types ops ≡ true → exit_ok p graph e ≡ true → SameNeeds ops e → ReadyAt p ops e core
         → Leaving p core.function ops e → Testing p graph ops e → Follows p args (At (piece_ops (around_in p graph) ops e) (piece_exit (around_in p graph) ops e way) x_frames x_core) (step p args (At ops e frames core))
-    piece_follows [] e way at h k same ready leaving tests = exit_follows p raises closed args graph frames x_frames core x_core of beside clear fit.vars.count size wait e k same ready leaving (λ f. room_for (tests (or_first (exit_leaves e) false f)))
-    piece_follows (o ∷ rest) e way at h k same ready leaving tests = by (ending_in (around_in p graph) o) refl at
+    piece_follows [] e way place x_place at h k same ready leaving tests = exit_follows p raises closed args graph frames x_frames core x_core of beside clear fit.vars.count size wait e k same ready leaving (λ f. room_for (tests (or_first (exit_leaves e) false f)))
+    piece_follows (o ∷ rest) e way place x_place at h k same ready leaving tests = by (ending_in (around_in p graph) o) refl x_place at
       where
-        by : (y : Ending) → ending_in (around_in p graph) o ≡ y → From (explicit_graph p graph).blocks way (behind_by (around_in p graph) rest e way y (behind (around_in p graph) (way + 2) rest e) (behind (around_in p graph) way rest e))
+        by : (y : Ending) → ending_in (around_in p graph) o ≡ y
+            → PlacedAt (explicit p) x_core.function x_core.block x_core.at (ops_by (around_in p graph) o rest e y (piece_ops (around_in p graph) rest e)) (exit_by (around_in p graph) rest e way y (piece_exit (around_in p graph) rest e way)) → From (explicit_graph p graph).blocks way (behind_by (around_in p graph) rest e way y (behind (around_in p graph) (way + 2) rest e) (behind (around_in p graph) way rest e))
             → Follows p args (At (ops_by (around_in p graph) o rest e y (piece_ops (around_in p graph) rest e)) (exit_by (around_in p graph) rest e way y (piece_exit (around_in p graph) rest e way)) x_frames x_core) (step p args (At (o ∷ rest) e frames core))
-        by (Raises v) f at = raised_op o v (raises_is (marks_of p) (any_of p) o v f) (and_left _ _ h) same ready leaving tests
+        by (Raises v) f x_place at = raised_op o v (raises_is (marks_of p) (any_of p) o v f) (and_left _ _ h) same ready leaving tests
           where
             raised_op : (o : LlOp) (v : ℕ) → o ≡ op.Raise v → operation_ok p graph.types o ≡ true → SameNeeds (o ∷ rest) e → ReadyAt p (o ∷ rest) e core → Leaving p core.function (o ∷ rest) e → Testing p graph (o ∷ rest) e
                 → Follows p args (At (raised_ops (exceptions_of p) graph.types (length graph.types) v rest e) (way_exit graph.result rest e) x_frames x_core) (step p args (At (o ∷ rest) e frames core))
@@ -397,8 +411,8 @@ module _ (p : LlProgram) (ok : IsWellTyped p) (raw : p.stage ≡ stage.Raw) (rai
                 subst (λ v. Follows p args (At (raised_ops (exceptions_of p) graph.types (length graph.types) v rest e) (way_exit graph.result rest e) x_frames x_core) (step p args (At (op.Raise w ∷ rest) e frames core))) j
                 (raise_follows w rest e (and_right _ _ h) k same ready leaving (room_for (tests (or_second (exit_leaves e) _ refl))))
             raised_op other v i h same ready leaving tests = absurd (cc)
-        by Tested f at = tested_follows o rest e way (tested_calm (marks_of p) (any_of p) o f).1 same ready leaving tests at
-        by Leaves f at = passed_follows o rest e way f (and_left _ _ h) same ready leaving tests at
+        by Tested f x_place at = tested_follows o rest e way place x_place (tested_calm (marks_of p) (any_of p) o f).1 same ready leaving tests at
+        by Leaves f x_place at = passed_follows o rest e way place x_place f (and_left _ _ h) same ready leaving tests at
 
   -- ---- back to who waits
 
@@ -419,12 +433,14 @@ module _ (p : LlProgram) (ok : IsWellTyped p) (raw : p.stage ≡ stage.Raw) (rai
       same_graph : (g h : LlGraph) (o : Option LlGraph) → o ≡ Some g → o ≡ Some h → g ≡ h
       same_graph g h o e f = let i : Some g ≡ Some h = sym e ∙ f in cc
 
-      left_at : (graph : LlGraph) → Waits p core.function graph frame x_frame → PieceAt p graph frame.ops frame.exit x_frame.ops x_frame.exit ⊎ TestAt p graph frame.ops frame.exit x_frame.ops x_frame.exit
+      left_at : (graph : LlGraph) → Waits p core.function graph frame x_frame
+          → PieceAt p graph frame.ops frame.exit x_frame.ops x_frame.exit ⊎ (TestAt p graph frame.ops frame.exit x_frame.ops x_frame.exit × SameHandled frame.ops frame.exit (record (resumed frame core) { vars = taken_by frame.vars frame.into value }) (record (resumed x_frame x_core) { vars = taken_by x_frame.vars x_frame.into x_value }))
       left_at graph w = one w.left
         where
-          one : (PieceAt p graph frame.ops frame.exit x_frame.ops x_frame.exit × (is_marked (marks_of p) core.function ≡ false)) ⊎ Tests p graph frame x_frame → PieceAt p graph frame.ops frame.exit x_frame.ops x_frame.exit ⊎ TestAt p graph frame.ops frame.exit x_frame.ops x_frame.exit
+          one : (PieceAt p graph frame.ops frame.exit x_frame.ops x_frame.exit × (is_marked (marks_of p) core.function ≡ false)) ⊎ Tests p graph frame x_frame
+              → PieceAt p graph frame.ops frame.exit x_frame.ops x_frame.exit ⊎ (TestAt p graph frame.ops frame.exit x_frame.ops x_frame.exit × SameHandled frame.ops frame.exit (record (resumed frame core) { vars = taken_by frame.vars frame.into value }) (record (resumed x_frame x_core) { vars = taken_by x_frame.vars x_frame.into x_value }))
           one (inl h) = inl h.0
-          one (inr h) = inr h.test
+          one (inr h) = inr (h.test, λ v i. taken_apart x_frame.vars x_frame.into x_value v (ap (λ o. sets o v) w.into ∙ (h.handled v i).apart) ∙ (h.handled v i).same ∙ sym (taken_apart frame.vars frame.into value v (h.handled v i).apart))
 
       back : Wait p core.function (frame ∷ frames) (x_frame ∷ x_frames) → FramesFit p (length core.blocks) t (frame ∷ frames) → Follows p args (Returning x_value (x_frame ∷ x_frames) x_core) (returned value (frame ∷ frames) core)
       back (graph, w, more) (other, fits, _) =
@@ -455,13 +471,13 @@ module _ (p : LlProgram) (ok : IsWellTyped p) (raw : p.stage ≡ stage.Raw) (rai
 
   module _ (graph : LlGraph) (rest : List LlOp) (e : LlExit) (way : ℕ) (frames x_frames : List Frame) (core x_core : Core) (value : Value) (of : slice_get p.graphs core.function ≡ Some graph) (beside : Beside core x_core)
       (count : length core.vars ≡ length graph.types) (size : length x_core.vars ≡ length (explicit_graph p graph).types) (wait : Wait p core.function frames x_frames) (set : is_unset value ≡ false) (slot : x_core.exc_value ≡ value)
-      (kind : is_pointer x_core.exc_type ≡ true) (same : (w : ℕ) → among w (handler_reads rest e) ≡ true → read x_core.vars w ≡ read core.vars w) (fine : exit_ok p graph e ≡ true)
+      (kind : is_pointer x_core.exc_type ≡ true) (known : StaticsAreApart core → (b : ℕ) → x_core.exc_type ≡ Ptr b → Held core.blocks (value ∷ []) b) (same : (w : ℕ) → among w (handler_reads rest e) ≡ true → read x_core.vars w ≡ read core.vars w) (fine : exit_ok p graph e ≡ true)
       (out : (is_last rest && catches e) ≡ false → is_marked (marks_of p) core.function ≡ true) where
     goes_out : is_marked (marks_of p) core.function ≡ true → Follows p args (At [] (exit.Return (default_of graph.result)) x_frames x_core) (Goes (Throwing value frames core))
     goes_out marked =
         let run = default_run p raises closed args graph.result x_frames x_core in
         comes_now p raises closed args (At [] (exit.Return (default_of graph.result)) x_frames x_core) (Throwing value frames core) (Returning run.0 x_frames x_core) run.1
-        (record { beside = beside; set = set; slot = slot; kind = kind; marked = marked; waiting = wait })
+        (record { beside = beside; set = set; slot = slot; kind = kind; known = known; gives = run.2; marked = marked; waiting = wait })
 
     taken_follows : (a : ℕ) (by : LlLink) → a < length graph.types → link_ok p graph by ≡ true → ((w : ℕ) → among w (read_behind a by) ≡ true → read x_core.vars w ≡ read core.vars w)
         → Follows p args (At (taking (exceptions_of p) graph.types a) (exit.Goto by) x_frames x_core) (jump p frames (record core { vars = slice_set core.vars a value }) by)
@@ -545,7 +561,7 @@ module _ (p : LlProgram) (ok : IsWellTyped p) (raw : p.stage ≡ stage.Raw) (rai
   -- ---- a call that raised nothing goes on behind its test
 
   module _ (graph : LlGraph) (frames x_frames : List Frame) (core x_core : Core) (of : slice_get p.graphs core.function ≡ Some graph) (beside : Beside core x_core) (clear : IsClear x_core) (fit : CoreFits p graph.types core)
-      (size : length x_core.vars ≡ length (explicit_graph p graph).types) (wait : Wait p core.function frames x_frames) (x mid : State) (before : ℕ) (leads : Leads (explicit p) args x mid before) where
+      (size : length x_core.vars ≡ length (explicit_graph p graph).types) (wait : Wait p core.function frames x_frames) (x mid : State) (before : ℕ) (leads : Leads (explicit p) args x mid before) (quiet : is_quiet mid ≡ true) where
     link_on : (ops : List LlOp) (e : LlExit) (link : LlLink) → onward ops e ≡ Some link → exit_ok p graph e ≡ true → ((v : ℕ) → needs p false ops e v ≡ true → read x_core.vars v ≡ read core.vars v)
         → step (explicit p) args mid ≡ jump (explicit p) x_frames x_core link → Follows p args x (step p args (At ops e frames core))
     link_on [] (exit.Goto l) link i h same stepped =
@@ -559,13 +575,15 @@ module _ (p : LlProgram) (ok : IsWellTyped p) (raw : p.stage ≡ stage.Raw) (rai
     link_on [] (exit.Raised a) link i h same stepped = absurd (cc)
     link_on (o ∷ ops) e link i h same stepped = absurd (cc)
 
-    rest_on : (ops : List LlOp) (e : LlExit) (way : ℕ) → slice_get (explicit_graph p graph).blocks (way + 1) ≡ Some (rest_block (around_in p graph) ops e (way + 2)) → From (explicit_graph p graph).blocks (way + 2) (behind (around_in p graph) (way + 2) ops e)
+    rest_on : (ops : List LlOp) (e : LlExit) (way : ℕ) → PlacedAt p core.function core.block core.at ops e → slice_get (explicit_graph p graph).blocks (way + 1) ≡ Some (rest_block (around_in p graph) ops e (way + 2)) → From (explicit_graph p graph).blocks (way + 2) (behind (around_in p graph) (way + 2) ops e)
         → operations_ok p graph.types ops ≡ true → exit_ok p graph e ≡ true → ((v : ℕ) → needs p false ops e v ≡ true → read x_core.vars v ≡ read core.vars v) → ReadyAt p ops e core → Leaving p core.function ops e → Testing p graph ops e
         → step (explicit p) args mid ≡ jump (explicit p) x_frames x_core (link_to (way + 1) (as_operands (live (marks_of p) (any_of p) ops e))) → Follows p args x (step p args (At ops e frames core))
-    rest_on ops e way at more h k same ready leaving tests stepped =
-        follows_later p raises closed args x (At (piece_ops (around_in p graph) ops e) (piece_exit (around_in p graph) ops e (way + 2)) x_frames (passed x_core (way + 1) (live (marks_of p) (any_of p) ops e))) (1 + before) (step p args (At ops e frames core)) (then (explicit p) args x mid (At (piece_ops (around_in p graph) ops e) (piece_exit (around_in p graph) ops e (way + 2)) x_frames (passed x_core (way + 1) (live (marks_of p) (any_of p) ops e))) before 1 leads (one (explicit p) args mid (At (piece_ops (around_in p graph) ops e) (piece_exit (around_in p graph) ops e (way + 2)) x_frames (passed x_core (way + 1) (live (marks_of p) (any_of p) ops e))) (stepped ∙ jumped)))
+    rest_on ops e way place at more h k same ready leaving tests stepped =
+        follows_later p raises closed args x (At (piece_ops (around_in p graph) ops e) (piece_exit (around_in p graph) ops e (way + 2)) x_frames (passed x_core (way + 1) (live (marks_of p) (any_of p) ops e))) (1 + before) (step p args (At ops e frames core)) (then (explicit p) args x mid (At (piece_ops (around_in p graph) ops e) (piece_exit (around_in p graph) ops e (way + 2)) x_frames (passed x_core (way + 1) (live (marks_of p) (any_of p) ops e))) before 1 leads (one (explicit p) args mid (At (piece_ops (around_in p graph) ops e) (piece_exit (around_in p graph) ops e (way + 2)) x_frames (passed x_core (way + 1) (live (marks_of p) (any_of p) ops e))) (stepped ∙ jumped) quiet))
         (piece_follows graph frames x_frames core (passed x_core (way + 1) (live (marks_of p) (any_of p) ops e)) of (record { function = beside.function; blocks = beside.blocks; statics = beside.statics; steps = beside.steps }) clear fit (set_all_size (live (marks_of p) (any_of p) ops e) (operands x_core.vars (as_operands (live (marks_of p) (any_of p) ops e))) x_core.vars ∙ size) wait
-        ops e (way + 2) more h k (λ v n. own_values x_core.vars x_core.vars (live (marks_of p) (any_of p) ops e) (λ v. refl) v ∙ same v n) ready leaving tests)
+        ops e (way + 2) place
+        (record { block = rest_block (around_in p graph) ops e (way + 2); of = ap (λ f. block_in (slice_get (explicit p).graphs f) (way + 1)) beside.function ∙ ap (λ o. block_in o (way + 1)) (graph_made p raises args core.function graph of) ∙ at; left = refl; end = refl })
+        more h k (λ v n. own_values x_core.vars x_core.vars (live (marks_of p) (any_of p) ops e) (λ v. refl) v ∙ same v n) ready leaving tests)
       where
         jumped : jump (explicit p) x_frames x_core (link_to (way + 1) (as_operands (live (marks_of p) (any_of p) ops e))) ≡ Goes (At (piece_ops (around_in p graph) ops e) (piece_exit (around_in p graph) ops e (way + 2)) x_frames (passed x_core (way + 1) (live (marks_of p) (any_of p) ops e)))
         jumped =
@@ -573,8 +591,8 @@ module _ (p : LlProgram) (ok : IsWellTyped p) (raw : p.stage ≡ stage.Raw) (rai
             (λ v i. ap is_unset (same v (live_needed p e v ops i)) ∙ ready.set v i)
 
   test_follows : (ops : List LlOp) (e : LlExit) (frames : List Frame) (core : Core) (x_ops : List LlOp) (x_exit : LlExit) (x_frames : List Frame) (x_core : Core) (graph : LlGraph) → StandsAt p ops e frames core x_ops x_exit x_frames x_core graph
-      → TestAt p graph ops e x_ops x_exit → AtFits p ops e frames core graph → ReadyAt p ops e core → Follows p args (At x_ops x_exit x_frames x_core) (step p args (At ops e frames core))
-  test_follows ops e frames core x_ops x_exit x_frames x_core graph s t fit ready =
+      → TestAt p graph ops e x_ops x_exit → PlacedAt p core.function core.block core.at ops e → AtFits p ops e frames core graph → ReadyAt p ops e core → Follows p args (At x_ops x_exit x_frames x_core) (step p args (At ops e frames core))
+  test_follows ops e frames core x_ops x_exit x_frames x_core graph s t place fit ready =
       from (tests_run (explicit p) args (length graph.types) x_ops x_exit x_frames x_core (exceptions_of p) true t.left (room_in graph x_core.vars t.room s.size) (none_pointer x_core.exc_type s.clear.0))
     where
       from : TestedRun (explicit p) args (length graph.types) x_ops x_exit x_frames x_core true → Follows p args (At x_ops x_exit x_frames x_core) (step p args (At ops e frames core))
@@ -596,30 +614,31 @@ module _ (p : LlProgram) (ok : IsWellTyped p) (raw : p.stage ≡ stage.Raw) (rai
 
           way : (o : Option LlLink) → onward ops e ≡ o → Follows p args (At x_ops x_exit x_frames x_core) (step p args (At ops e frames core))
           way (Some link) i =
-              link_on graph frames x_frames core run.core_after s.of beside clear fit.fits (run.kept.size ∙ s.size) s.waiting (At x_ops x_exit x_frames x_core) (At [] x_exit x_frames run.core_after) run.count run.leads ops e link i fit.end same
+              link_on graph frames x_frames core run.core_after s.of beside clear fit.fits (run.kept.size ∙ s.size) s.waiting (At x_ops x_exit x_frames x_core) (At [] x_exit x_frames run.core_after) run.count run.leads refl ops e link i fit.end same
               (stepped ∙ ap (λ o. jump (explicit p) x_frames run.core_after (on_by (around_in p graph) ops e t.way o)) i)
           way None i =
               let blocks : From (explicit_graph p graph).blocks (t.way + 1) (rest_block (around_in p graph) ops e (t.way + 2) ∷ behind (around_in p graph) (t.way + 2) ops e) =
               subst (λ o. From (explicit_graph p graph).blocks (t.way + 1) (rest_blocks (around_in p graph) ops e t.way (is_some o) (behind (around_in p graph) (t.way + 2) ops e))) i t.blocks.1 in
               let two : t.way + 1 + 1 ≡ t.way + 2 = omega arith in
-              rest_on graph frames x_frames core run.core_after s.of beside clear fit.fits (run.kept.size ∙ s.size) s.waiting (At x_ops x_exit x_frames x_core) (At [] x_exit x_frames run.core_after) run.count run.leads ops e t.way
+              rest_on graph frames x_frames core run.core_after s.of beside clear fit.fits (run.kept.size ∙ s.size) s.waiting (At x_ops x_exit x_frames x_core) (At [] x_exit x_frames run.core_after) run.count run.leads refl ops e t.way place
               blocks.0 (subst (λ n. From (explicit_graph p graph).blocks n (behind (around_in p graph) (t.way + 2) ops e)) two blocks.1) fit.left fit.end same ready s.leaving s.testing
               (stepped ∙ ap (λ o. jump (explicit p) x_frames run.core_after (on_by (around_in p graph) ops e t.way o)) i)
 
-  at_follows : (ops : List LlOp) (e : LlExit) (frames : List Frame) (core : Core) (x_ops : List LlOp) (x_exit : LlExit) (x_frames : List Frame) (x_core : Core) (graph : LlGraph) → StandsAt p ops e frames core x_ops x_exit x_frames x_core graph → AtFits p ops e frames core graph
-      → ReadyAt p ops e core → Follows p args (At x_ops x_exit x_frames x_core) (step p args (At ops e frames core))
-  at_follows ops e frames core x_ops x_exit x_frames x_core graph s fit ready = one s.left
+  at_follows : (ops : List LlOp) (e : LlExit) (frames : List Frame) (core : Core) (x_ops : List LlOp) (x_exit : LlExit) (x_frames : List Frame) (x_core : Core) (graph : LlGraph) → StandsAt p ops e frames core x_ops x_exit x_frames x_core graph → PlacedAt p core.function core.block core.at ops e
+      → PlacedAt (explicit p) x_core.function x_core.block x_core.at x_ops x_exit → AtFits p ops e frames core graph → ReadyAt p ops e core → Follows p args (At x_ops x_exit x_frames x_core) (step p args (At ops e frames core))
+  at_follows ops e frames core x_ops x_exit x_frames x_core graph s place x_place fit ready = one s.left
     where
-      one : PieceAt p graph ops e x_ops x_exit ⊎ TestAt p graph ops e x_ops x_exit → Follows p args (At x_ops x_exit x_frames x_core) (step p args (At ops e frames core))
+      one : PieceAt p graph ops e x_ops x_exit ⊎ (TestAt p graph ops e x_ops x_exit × SameHandled ops e core x_core) → Follows p args (At x_ops x_exit x_frames x_core) (step p args (At ops e frames core))
       one (inl t) =
           subst (λ l. Follows p args (At l x_exit x_frames x_core) (step p args (At ops e frames core))) (sym t.left)
           (subst (λ x. Follows p args (At (piece_ops (around_in p graph) ops e) x x_frames x_core) (step p args (At ops e frames core))) (sym t.end)
-          (piece_follows graph frames x_frames core x_core s.of s.beside s.clear fit.fits s.size s.waiting ops e t.way t.blocks fit.left fit.end s.vars ready s.leaving s.testing))
-      one (inr t) = test_follows ops e frames core x_ops x_exit x_frames x_core graph s t fit ready
+          (piece_follows graph frames x_frames core x_core s.of s.beside s.clear fit.fits s.size s.waiting ops e t.way place
+          (record { block = x_place.block; of = x_place.of; left = x_place.left ∙ t.left; end = x_place.end ∙ t.end }) t.blocks fit.left fit.end s.vars ready s.leaving s.testing))
+      one (inr t) = test_follows ops e frames core x_ops x_exit x_frames x_core graph s t.0 place fit ready
 
   -- ---- an exception comes to who waits
 
-  thrown_follows_on : (value : Value) (frame : Frame) (frames : List Frame) (core : Core) (t : LlType) (x_value : Value) (x_frame : Frame) (x_frames : List Frame) (x_core : Core) → StandsThrowing p value (frame ∷ frames) core (x_frame ∷ x_frames) x_core
+  thrown_follows_on : (value : Value) (frame : Frame) (frames : List Frame) (core : Core) (t : LlType) (x_value : Value) (x_frame : Frame) (x_frames : List Frame) (x_core : Core) → StandsThrowing p value (frame ∷ frames) core x_value (x_frame ∷ x_frames) x_core
       → LeavesFits p exception value (frame ∷ frames) core t → Follows p args (Returning x_value (x_frame ∷ x_frames) x_core) (thrown p value (frame ∷ frames) core)
   thrown_follows_on value frame frames core t x_value x_frame x_frames x_core s fit = to s.waiting fit.waiting
     where
@@ -638,11 +657,11 @@ module _ (p : LlProgram) (ok : IsWellTyped p) (raw : p.stage ≡ stage.Raw) (rai
               follows_later p raises closed args (Returning x_value (x_frame ∷ x_frames) x_core) (At (way_ops (exceptions_of p) graph.types frame.ops frame.exit) (way_exit graph.result frame.ops frame.exit) x_frames (passed run.core_after tests.test.way (handler_reads frame.ops frame.exit))) (1 + (run.count + 1)) (caught p value frame.ops frame.exit frames (resumed frame core))
               (then (explicit p) args (Returning x_value (x_frame ∷ x_frames) x_core) (At [] x_frame.exit x_frames run.core_after) (At (way_ops (exceptions_of p) graph.types frame.ops frame.exit) (way_exit graph.result frame.ops frame.exit) x_frames (passed run.core_after tests.test.way (handler_reads frame.ops frame.exit))) (run.count + 1) 1
               (then (explicit p) args (Returning x_value (x_frame ∷ x_frames) x_core) (At x_frame.ops x_frame.exit x_frames (record (resumed x_frame x_core) { vars = taken_by x_frame.vars x_frame.into x_value })) (At [] x_frame.exit x_frames run.core_after) 1 run.count
-              (one (explicit p) args (Returning x_value (x_frame ∷ x_frames) x_core) (At x_frame.ops x_frame.exit x_frames (record (resumed x_frame x_core) { vars = taken_by x_frame.vars x_frame.into x_value })) refl) run.leads)
-              (one (explicit p) args (At [] x_frame.exit x_frames run.core_after) (At (way_ops (exceptions_of p) graph.types frame.ops frame.exit) (way_exit graph.result frame.ops frame.exit) x_frames (passed run.core_after tests.test.way (handler_reads frame.ops frame.exit))) stepped))
+              (one (explicit p) args (Returning x_value (x_frame ∷ x_frames) x_core) (At x_frame.ops x_frame.exit x_frames (record (resumed x_frame x_core) { vars = taken_by x_frame.vars x_frame.into x_value })) refl refl) run.leads)
+              (one (explicit p) args (At [] x_frame.exit x_frames run.core_after) (At (way_ops (exceptions_of p) graph.types frame.ops frame.exit) (way_exit graph.result frame.ops frame.exit) x_frames (passed run.core_after tests.test.way (handler_reads frame.ops frame.exit))) stepped refl))
               (way_follows graph frame.ops frame.exit tests.test.way frames x_frames (resumed frame core) (passed run.core_after tests.test.way (handler_reads frame.ops frame.exit)) value w.of
               (record { function = run.kept.beside.function ∙ w.same; blocks = run.kept.beside.blocks ∙ s.beside.blocks; statics = run.kept.beside.statics ∙ s.beside.statics; steps = run.kept.beside.steps ∙ s.beside.steps }) count
-              (set_all_size (handler_reads frame.ops frame.exit) (operands run.core_after.vars (as_operands (handler_reads frame.ops frame.exit))) run.core_after.vars ∙ run.kept.size ∙ taken_size x_frame.vars x_frame.into x_value ∙ w.size) more s.set (run.value ∙ s.slot) (ap is_pointer run.kind ∙ s.kind)
+              (set_all_size (handler_reads frame.ops frame.exit) (operands run.core_after.vars (as_operands (handler_reads frame.ops frame.exit))) run.core_after.vars ∙ run.kept.size ∙ taken_size x_frame.vars x_frame.into x_value ∙ w.size) more s.set (run.value ∙ s.slot) (ap is_pointer run.kind ∙ s.kind) (λ apart b e. s.known apart b (sym run.kind ∙ e))
               (λ v i. own_values run.core_after.vars run.core_after.vars (handler_reads frame.ops frame.exit) (λ v. refl) v ∙ same v i) fine tests.out frame.ops frame.exit refl refl)
             where
               same : (v : ℕ) → among v (handler_reads frame.ops frame.exit) ≡ true → read run.core_after.vars v ≡ read frame.vars v
@@ -752,12 +771,12 @@ module _ (p : LlProgram) (ok : IsWellTyped p) (raw : p.stage ≡ stage.Raw) (rai
   same_one : (g h : LlGraph) (o : Option LlGraph) → o ≡ Some g → o ≡ Some h → g ≡ h
   same_one g h o e f = let i : Some g ≡ Some h = sym e ∙ f in cc
 
-  pub step_follows : (s x : State) → Stands p s x → StateFits p s → IsReady p s → Follows p args x (step p args s)
-  step_follows (Calling f values frames core) (Calling x_f x_values x_frames x_core) s (graph, fit) ready = calling_follows f values frames core x_f x_values x_frames x_core graph s fit
-  step_follows (At ops e frames core) (At x_ops x_exit x_frames x_core) (graph, s) (other, fit) ready =
-      at_follows ops e frames core x_ops x_exit x_frames x_core graph s (subst (AtFits p ops e frames core) (same_one other graph (slice_get p.graphs core.function) fit.of s.of) fit) ready
-  step_follows (Returning value frames core) (Returning x_value x_frames x_core) s (t, fit) ready = returned_follows value frames core t x_value x_frames x_core s fit
-  step_follows (Throwing value [] core) (Returning x_value x_frames x_core) s (t, fit) ready = absurd ready
-  step_follows (Throwing value (frame ∷ frames) core) (Returning x_value [] x_core) s (t, fit) ready = absurd s.waiting
-  step_follows (Throwing value (frame ∷ frames) core) (Returning x_value (x_frame ∷ x_frames) x_core) s (t, fit) ready = thrown_follows_on value frame frames core t x_value x_frame x_frames x_core s fit
-  step_follows s x stands fit ready = absurd stands
+  pub step_follows : (s x : State) → Stands p s x → IsPlaced p s → IsPlaced (explicit p) x → StateFits p s → IsReady p s → Follows p args x (step p args s)
+  step_follows (Calling f values frames core) (Calling x_f x_values x_frames x_core) s place x_place (graph, fit) ready = calling_follows f values frames core x_f x_values x_frames x_core graph s fit
+  step_follows (At ops e frames core) (At x_ops x_exit x_frames x_core) (graph, s) (place, behind) (x_place, x_behind) (other, fit) ready =
+      at_follows ops e frames core x_ops x_exit x_frames x_core graph s place x_place (subst (AtFits p ops e frames core) (same_one other graph (slice_get p.graphs core.function) fit.of s.of) fit) ready
+  step_follows (Returning value frames core) (Returning x_value x_frames x_core) s place x_place (t, fit) ready = returned_follows value frames core t x_value x_frames x_core s fit
+  step_follows (Throwing value [] core) (Returning x_value x_frames x_core) s place x_place (t, fit) ready = absurd ready
+  step_follows (Throwing value (frame ∷ frames) core) (Returning x_value [] x_core) s place x_place (t, fit) ready = absurd s.waiting
+  step_follows (Throwing value (frame ∷ frames) core) (Returning x_value (x_frame ∷ x_frames) x_core) s place x_place (t, fit) ready = thrown_follows_on value frame frames core t x_value x_frame x_frames x_core s fit
+  step_follows s x stands place x_place fit ready = absurd stands

@@ -18,7 +18,8 @@ use Rattle.ll_code.specs.declared.program.LlGraph.{LlGraph}
 use Rattle.ll_code.specs.declared.program.LlProgram.{LlProgram}
 use Rattle.ll_laws.proofs.Values.{and_left, and_right}
 use Rattle.exc_transform.specs.Raising.{may_raise}
-use Rattle.exc_transform.specs.Live.{among, variables_of, variables_in, reads, set_by, exit_variables, new_ones, handler_reads, exit_reads, and_this, live_from}
+use Rattle.ll_live.specs.Live.{among, variables_of, variables_in, reads, set_by, exit_variables}
+use Rattle.exc_transform.specs.Live.{new_ones, handler_reads, exit_reads, and_this, live_from}
 use Rattle.exc_laws.proofs.Tests.{and_both, equals}
 
 -- ---- variables that have a type

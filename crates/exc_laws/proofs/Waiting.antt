@@ -16,8 +16,9 @@ use Rattle.ll_code.specs.declared.program.LlOp.TheVariants as op
 use Rattle.ll_code.specs.declared.program.LlProgram.{LlProgram}
 use Rattle.ll_laws.proofs.Values.{and_left, and_right, is_same}
 use Rattle.ll_laws.proofs.Operations.{length_set, set_at}
-use Rattle.exc_transform.specs.Live.{among, set_by, as_operands}
-use Rattle.exc_laws.specs.Ready.{sets}
+use Rattle.ll_live.specs.Live.{among, set_by}
+use Rattle.exc_transform.specs.Live.{as_operands}
+use Rattle.ll_live.specs.Live.{sets}
 use Rattle.exc_laws.proofs.Tests.{or_first, or_second, equals}
 use Rattle.exc_laws.proofs.Slots.{set_here, set_elsewhere}
 use Rattle.exc_laws.proofs.Jumps.{not_same}

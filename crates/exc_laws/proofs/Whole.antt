@@ -1,5 +1,5 @@
 -- Whole runs of a program and of its explicit program.
-use Rattle.std.proofs.Common.{◌≡◌, ◌≤◌, ℕ, zero, suc, ◌+◌, ◌-◌, Bool, true, false, List, [], ◌∷◌, ◌++◌, Option, Some, None, refl, sym, ap, ◌∙◌, arith}
+use Rattle.std.proofs.Common.{◌≡◌, ◌≤◌, ℕ, zero, suc, ◌+◌, ◌-◌, Bool, true, false, List, [], ◌∷◌, ◌++◌, Option, Some, None, refl, sym, ap, ◌∙◌, subst, arith}
 use Rattle.csub_tree.specs.State.{Event}
 use Rattle.ll_code.specs.State.{State, Next, Goes, Puts, Tells, Ends, Sticks}
 use Rattle.ll_code.specs.Machine.{step, start}
@@ -13,6 +13,9 @@ use Rattle.ll_laws.proofs.Runs.{start_fits}
 use Rattle.exc_transform.specs.Explicit.{graphs_calm}
 use Rattle.exc_transform.specs.Pieces.{explicit}
 use Rattle.exc_laws.specs.Ready.{IsClosed, IsReady, IsReadyOn}
+use Rattle.ll_held.specs.Places.{IsPlaced}
+use Rattle.ll_held.specs.Quiet.{Calm, Stay, Go}
+use Rattle.ll_held.proofs.Placing.{NextPlaced, step_placed, start_placed}
 use Rattle.exc_laws.specs.Stands.{Stands}
 use Rattle.exc_laws.specs.Follows.{Does, Follows}
 use Rattle.exc_laws.specs.Alike.{Allows}
@@ -22,7 +25,7 @@ use Rattle.exc_laws.proofs.Without.{without_same}
 -- ---- a run that has ended has ended
 
 module _ (q : LlProgram) (args : List (List ℕ)) where
-  one_more : (k : ℕ) (s : State) (text : List ℕ) (events : List Event) → run q args (suc k) s text events ≡ follow (run q args k) text events (step q args s)
+  pub one_more : (k : ℕ) (s : State) (text : List ℕ) (events : List Event) → run q args (suc k) s text events ≡ follow (run q args k) text events (step q args s)
   unfolding run
   one_more k s text events = refl
 
@@ -49,7 +52,7 @@ module _ (p : LlProgram) (ok : IsWellTyped p) (raw : p.stage ≡ stage.Raw) (rai
   RanFollows k x text events (Ended ending left out told) = (m : ℕ) × (run (explicit p) args m x text events ≡ Ended ending left out told)
   RanFollows k x text events (Unfinished later out told) = (j : ℕ) × (last : State) × (run (explicit p) args j x text events ≡ Unfinished last out told) × (k ≤ j)
 
-  abbrev ReadyFrom : State → List ℕ → List Event → Type 0
+  abbrev pub ReadyFrom : State → List ℕ → List Event → Type 0
   ReadyFrom s text events = (j : ℕ) (t : State) (on : List ℕ) (more : List Event) → run p args j s text events ≡ Unfinished t on more → IsReady p t
 
   -- some steps before
@@ -64,35 +67,43 @@ module _ (p : LlProgram) (ok : IsWellTyped p) (raw : p.stage ≡ stage.Raw) (rai
       (let e : m + (1 + d.count) ≡ suc m + d.count = omega arith in ap (λ k. run (explicit p) args k x text events) e) ∙ d.leads.by (suc m) text events ∙ one_more (explicit p) args m d.later text events
       ∙ ap (follow (run (explicit p) args m) text events) d.does
 
-  later_ready : (s : State) (text : List ℕ) (events : List Event) → ReadyFrom s text events → (j : ℕ) (t : State) (on : List ℕ) (more : List Event) → follow (run p args j) text events (step p args s) ≡ Unfinished t on more → IsReady p t
+  pub later_ready : (s : State) (text : List ℕ) (events : List Event) → ReadyFrom s text events → (j : ℕ) (t : State) (on : List ℕ) (more : List Event) → follow (run p args j) text events (step p args s) ≡ Unfinished t on more → IsReady p t
   later_ready s text events r j t on more e = r (suc j) t on more (one_more p args j s text events ∙ e)
 
-  on_next : (k : ℕ) (s x : State) (text : List ℕ) (events : List Event) → ((t later : State) (on : List ℕ) (more : List Event) → Stands p t later → StateFits p t → ReadyFrom t on more → RanFollows k later on more (run p args k t on more))
-      → (next : Next) → step p args s ≡ next → Follows p args x next → NextFits p next → ReadyFrom s text events → RanFollows (suc k) x text events (follow (run p args k) text events next)
-  on_next k s x text events go (Goes t) is f fit r =
-      lift k f.count x f.later text text events events (λ m. f.leads.by m text events) f.some (run p args k t text events)
-      (go t f.later text events f.stands fit (λ j u on more e. later_ready s text events r j u on more (ap (follow (run p args j) text events) is ∙ e)))
-  on_next k s x text events go (Puts byte t) is (later, d, stands) fit r =
-      lift k (1 + d.count) x later text (text ++ byte ∷ []) events events (moved x (Puts byte later) d text events) (omega arith) (run p args k t (text ++ byte ∷ []) events)
-      (go t later (text ++ byte ∷ []) events stands fit (λ j u on more e. later_ready s text events r j u on more (ap (follow (run p args j) text events) is ∙ e)))
-  on_next k s x text events go (Tells event t) is (later, d, stands) fit r =
-      lift k (1 + d.count) x later text text events (events ++ event ∷ []) (moved x (Tells event later) d text events) (omega arith) (run p args k t text (events ++ event ∷ []))
-      (go t later text (events ++ event ∷ []) stands fit (λ j u on more e. later_ready s text events r j u on more (ap (follow (run p args j) text events) is ∙ e)))
-  on_next k s x text events go (Ends outcome core) is (x_core, d, e) fit r = (0 + (1 + d.count), moved x (Ends outcome x_core) d text events 0 ∙ ap (λ n. Ended (Came outcome) n text events) e)
-  on_next k s x text events go (Sticks reason) is d fit r = (0 + (1 + d.count), moved x (Sticks reason) d text events 0)
+  -- where the explicit program comes it stands in a block of its own
+  pub calm_placed : (x y : State) → Calm (explicit p) args x y → IsPlaced (explicit p) x → IsPlaced (explicit p) y
+  calm_placed x y (Stay s) h = h
+  calm_placed x y (Go s t u e q c) h = calm_placed t y c (subst (NextPlaced (explicit p)) e (step_placed (explicit p) args s h))
 
-  pub run_follows : (k : ℕ) (s x : State) (text : List ℕ) (events : List Event) → Stands p s x → StateFits p s → ReadyFrom s text events → RanFollows k x text events (run p args k s text events)
+  pub does_placed : (x : State) (next : Next) (d : Does p args x next) → IsPlaced (explicit p) x → NextPlaced (explicit p) next
+  does_placed x next d h = subst (NextPlaced (explicit p)) d.does (step_placed (explicit p) args d.later (calm_placed x d.later d.leads.calm h))
+
+  on_next : (k : ℕ) (s x : State) (text : List ℕ) (events : List Event) → ((t later : State) (on : List ℕ) (more : List Event) → Stands p t later → IsPlaced p t → IsPlaced (explicit p) later → StateFits p t → ReadyFrom t on more → RanFollows k later on more (run p args k t on more))
+      → (next : Next) → step p args s ≡ next → Follows p args x next → NextPlaced p next → IsPlaced (explicit p) x → NextFits p next → ReadyFrom s text events → RanFollows (suc k) x text events (follow (run p args k) text events next)
+  on_next k s x text events go (Goes t) is (later, d, stands) place x_place fit r =
+      lift k (1 + d.count) x later text text events events (moved x (Goes later) d text events) (omega arith) (run p args k t text events)
+      (go t later text events stands place (does_placed x (Goes later) d x_place) fit (λ j u on more e. later_ready s text events r j u on more (ap (follow (run p args j) text events) is ∙ e)))
+  on_next k s x text events go (Puts byte t) is (later, d, stands) place x_place fit r =
+      lift k (1 + d.count) x later text (text ++ byte ∷ []) events events (moved x (Puts byte later) d text events) (omega arith) (run p args k t (text ++ byte ∷ []) events)
+      (go t later (text ++ byte ∷ []) events stands place (does_placed x (Puts byte later) d x_place) fit (λ j u on more e. later_ready s text events r j u on more (ap (follow (run p args j) text events) is ∙ e)))
+  on_next k s x text events go (Tells event t) is (later, d, stands) place x_place fit r =
+      lift k (1 + d.count) x later text text events (events ++ event ∷ []) (moved x (Tells event later) d text events) (omega arith) (run p args k t text (events ++ event ∷ []))
+      (go t later text (events ++ event ∷ []) stands place (does_placed x (Tells event later) d x_place) fit (λ j u on more e. later_ready s text events r j u on more (ap (follow (run p args j) text events) is ∙ e)))
+  on_next k s x text events go (Ends outcome core) is (x_core, d, e) place x_place fit r = (0 + (1 + d.count), moved x (Ends outcome x_core) d text events 0 ∙ ap (λ n. Ended (Came outcome) n text events) e)
+  on_next k s x text events go (Sticks reason) is d place x_place fit r = (0 + (1 + d.count), moved x (Sticks reason) d text events 0)
+
+  pub run_follows : (k : ℕ) (s x : State) (text : List ℕ) (events : List Event) → Stands p s x → IsPlaced p s → IsPlaced (explicit p) x → StateFits p s → ReadyFrom s text events → RanFollows k x text events (run p args k s text events)
   unfolding run
-  run_follows zero s x text events stands fit r = (0, x, not_yet (explicit p) args x text events, omega arith)
-  run_follows (suc k) s x text events stands fit r =
-      on_next k s x text events (λ t later on more. run_follows k t later on more) (step p args s) refl (step_follows p ok raw raises closed args s x stands fit (r 0 s text events (not_yet p args s text events))) (step_fits p ok args s fit) r
+  run_follows zero s x text events stands place x_place fit r = (0, x, not_yet (explicit p) args x text events, omega arith)
+  run_follows (suc k) s x text events stands place x_place fit r =
+      on_next k s x text events (λ t later on more. run_follows k t later on more) (step p args s) refl (step_follows p ok raw raises closed args s x stands place x_place fit (r 0 s text events (not_yet p args s text events))) (step_placed p args s place) x_place (step_fits p ok args s fit) r
 
   module _ (steps : ℕ) (ready : IsReadyOn p args steps) where
     start_stands : Stands p (start p steps) (start (explicit p) steps)
     start_stands = record { called = refl; given = refl; beside = record { function = refl; blocks = refl; statics = refl; steps = refl }; clear = (refl, refl); waiting = tt }
 
     whole : (k : ℕ) → RanFollows k (start (explicit p) steps) [] [] (run p args k (start p steps) [] [])
-    whole k = run_follows k (start p steps) (start (explicit p) steps) [] [] start_stands (start_fits p ok steps) ready
+    whole k = run_follows k (start p steps) (start (explicit p) steps) [] [] start_stands (start_placed p args steps) (start_placed (explicit p) args steps) (start_fits p ok steps) ready
 
     pub forth : (meant : Meant) → LMeans p args steps meant → LMeans (explicit p) args steps meant
     forth meant (k, e) = on (run p args k (start p steps) [] []) (whole k) e

@@ -10,14 +10,14 @@ use Rattle.exc_transform.specs.Pieces.{explicit}
 use Rattle.exc_transform.proofs.Without.{explicit_same}
 
 module _ (p : LlProgram) (args : List (List ℕ)) where
-  step_same : (s : State) → step (restaged p) args s ≡ step p args s
+  pub step_same : (s : State) → step (restaged p) args s ≡ step p args s
   step_same (Calling f values frames core) = refl
   step_same (At [] exit frames core) = refl
   step_same (At (o ∷ ops) exit frames core) = refl
   step_same (Returning value frames core) = refl
   step_same (Throwing value frames core) = refl
 
-  run_same : (k : ℕ) (s : State) (text : List ℕ) (events : List Event) → run (restaged p) args k s text events ≡ run p args k s text events
+  pub run_same : (k : ℕ) (s : State) (text : List ℕ) (events : List Event) → run (restaged p) args k s text events ≡ run p args k s text events
   unfolding run
   run_same zero s text events = refl
   run_same (suc k) s text events = ap (follow (run (restaged p) args k) text events) (step_same s) ∙ on_next (run_same k) (step p args s)

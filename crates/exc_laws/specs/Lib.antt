@@ -1,4 +1,5 @@
 pub mod Alike
 pub mod Follows
+pub mod Holds
 pub mod Ready
 pub mod Stands

@@ -16,7 +16,8 @@ use Rattle.ll_code.specs.declared.program.LlGraph.{LlGraph}
 use Rattle.ll_code.specs.declared.program.LlProgram.{LlProgram}
 use Rattle.exc_transform.specs.declared.family.Family.{Family}
 use Rattle.exc_transform.specs.Raising.{any_marked, raising_graphs}
-use Rattle.exc_transform.specs.Live.{among, set_by, live, handler_reads}
+use Rattle.ll_live.specs.Live.{among, set_by, sets}
+use Rattle.exc_transform.specs.Live.{live, handler_reads}
 use Rattle.exc_transform.specs.Families.{family_of}
 
 -- ---- which graphs raise, and what
@@ -52,10 +53,6 @@ uses_slots other = false
 abbrev pub next_uses_slots : List LlOp → Bool
 next_uses_slots [] = false
 next_uses_slots (o ∷ ops) = uses_slots o
-
-abbrev pub sets : Option ℕ → ℕ → Bool
-sets None v = false
-sets (Some a) v = a == v
 
 -- what catches an exception of the next operation does not read the variable that it would have set
 abbrev pub is_apart : List LlOp → LlExit → ℕ → Bool

@@ -1,6 +1,6 @@
 -- When a state of the explicit program stands where one of the program does.
 use Rattle.std.specs.Prelude.{◌≡◌, ◌⊎◌, ℕ, ◌+◌, ◌&&◌, ◌||◌, not, Bool, true, false, List, [], ◌∷◌, length, slice_get, Some, is_some}
-use Rattle.csub_tree.specs.State.{Value, Null, Core}
+use Rattle.csub_tree.specs.State.{Value, Null, Ptr, Core}
 use Rattle.csub_tree.specs.Operation.{is_unset}
 use Rattle.csub_tree.specs.Statement.{read}
 use Rattle.ll_code.specs.State.{Frame, State, Calling, At, Returning, Throwing}
@@ -11,9 +11,14 @@ use Rattle.ll_code.specs.declared.program.LlGraph.{LlGraph}
 use Rattle.ll_code.specs.declared.program.LlProgram.{LlProgram}
 use Rattle.exc_transform.specs.Explicit.{is_marked, testing}
 use Rattle.exc_transform.specs.Raising.{may_raise, catches, is_last, ops_leave, exit_leaves, some_raises, raises_within}
-use Rattle.exc_transform.specs.Live.{among, reads, set_by, exit_reads, handler_reads}
-use Rattle.exc_transform.specs.Pieces.{Around, around_graph, graph_of, onward, way_block, rest_blocks, behind, piece_ops, piece_exit, test_exit}
-use Rattle.exc_laws.specs.Ready.{marks_of, any_of, exceptions_of, sets, is_pointer}
+use Rattle.ll_live.specs.Live.{among, reads, set_by}
+use Rattle.exc_transform.specs.Live.{exit_reads, handler_reads}
+use Rattle.exc_transform.specs.Pieces.{Around, explicit, around_graph, graph_of, onward, way_block, rest_blocks, behind, piece_ops, piece_exit, test_exit}
+use Rattle.ll_held.specs.Roots.{under_way, read_by}
+use Rattle.ll_held.specs.Held.{Held}
+use Rattle.ll_held.specs.Quiet.{StaticsAreApart}
+use Rattle.ll_live.specs.Live.{sets}
+use Rattle.exc_laws.specs.Ready.{marks_of, any_of, exceptions_of, is_pointer}
 
 -- ---- graphs
 
@@ -86,7 +91,7 @@ pub record Tests (p : LlProgram) (graph : LlGraph) (frame x_frame : Frame) : Typ
   pub handled : (v : ℕ) → among v (handler_reads frame.ops frame.exit) ≡ true → Handled frame x_frame v
   pub out : (is_last frame.ops && catches frame.exit) ≡ false → is_marked (marks_of p) frame.graph ≡ true
 
--- a call of graph f waits: it is tested, or the graph raises nothing
+-- a call of graph f waits: both read the same in it; it is tested, or the graph raises nothing
 pub record Waits (p : LlProgram) (f : ℕ) (graph : LlGraph) (frame x_frame : Frame) : Type 0 where
   pub of : slice_get p.graphs frame.graph ≡ Some graph
   pub same : x_frame.graph ≡ frame.graph
@@ -95,6 +100,7 @@ pub record Waits (p : LlProgram) (f : ℕ) (graph : LlGraph) (frame x_frame : Fr
   pub vars : (v : ℕ) → needs p false frame.ops frame.exit v ≡ true → sets frame.into v ≡ false → read x_frame.vars v ≡ read frame.vars v
   pub leaving : Leaving p frame.graph frame.ops frame.exit
   pub testing : Testing p graph frame.ops frame.exit
+  pub under : (v : ℕ) → read_by (under_way (explicit p) x_frame) v ≡ true → (read_by (under_way p frame) v ≡ true) × (read x_frame.vars v ≡ read frame.vars v)
   pub left : (PieceAt p graph frame.ops frame.exit x_frame.ops x_frame.exit × (is_marked (marks_of p) f ≡ false)) ⊎ Tests p graph frame x_frame
 
 abbrev pub Wait : LlProgram → ℕ → List Frame → List Frame → Type 0
@@ -111,6 +117,10 @@ pub record StandsCalling (p : LlProgram) (f : ℕ) (values : List Value) (frames
   pub clear : IsClear x_core
   pub waiting : Wait p f frames x_frames
 
+-- what would catch an exception finds the same
+abbrev pub SameHandled : List LlOp → LlExit → Core → Core → Type 0
+SameHandled ops e core x_core = (v : ℕ) → among v (handler_reads ops e) ≡ true → read x_core.vars v ≡ read core.vars v
+
 pub record StandsAt (p : LlProgram) (ops : List LlOp) (e : LlExit) (frames : List Frame) (core : Core) (x_ops : List LlOp) (x_exit : LlExit) (x_frames : List Frame) (x_core : Core) (graph : LlGraph) : Type 0 where
   pub of : slice_get p.graphs core.function ≡ Some graph
   pub beside : Beside core x_core
@@ -119,7 +129,7 @@ pub record StandsAt (p : LlProgram) (ops : List LlOp) (e : LlExit) (frames : Lis
   pub vars : (v : ℕ) → needs p false ops e v ≡ true → read x_core.vars v ≡ read core.vars v
   pub leaving : Leaving p core.function ops e
   pub testing : Testing p graph ops e
-  pub left : PieceAt p graph ops e x_ops x_exit ⊎ TestAt p graph ops e x_ops x_exit
+  pub left : PieceAt p graph ops e x_ops x_exit ⊎ (TestAt p graph ops e x_ops x_exit × SameHandled ops e core x_core)
   pub waiting : Wait p core.function frames x_frames
 
 pub record StandsReturning (p : LlProgram) (value : Value) (frames : List Frame) (core : Core) (x_value : Value) (x_frames : List Frame) (x_core : Core) : Type 0 where
@@ -128,12 +138,15 @@ pub record StandsReturning (p : LlProgram) (value : Value) (frames : List Frame)
   pub clear : IsClear x_core
   pub waiting : Wait p core.function frames x_frames
 
--- an exception leaves a graph: it stands in the slots, and the graph gives a value that nothing reads
-pub record StandsThrowing (p : LlProgram) (value : Value) (frames : List Frame) (core : Core) (x_frames : List Frame) (x_core : Core) : Type 0 where
+-- an exception leaves a graph: it stands in the slots, with what tells its class, which it names; and the graph gives a value that
+-- nothing reads, and that names no block
+pub record StandsThrowing (p : LlProgram) (value : Value) (frames : List Frame) (core : Core) (x_value : Value) (x_frames : List Frame) (x_core : Core) : Type 0 where
   pub beside : Beside core x_core
   pub set : is_unset value ≡ false
   pub slot : x_core.exc_value ≡ value
   pub kind : is_pointer x_core.exc_type ≡ true
+  pub known : StaticsAreApart core → (b : ℕ) → x_core.exc_type ≡ Ptr b → Held core.blocks (value ∷ []) b
+  pub gives : (b : ℕ) → x_value ≡ Ptr b → ⊥
   pub marked : is_marked (marks_of p) core.function ≡ true
   pub waiting : Wait p core.function frames x_frames
 
@@ -141,5 +154,5 @@ abbrev pub Stands : LlProgram → State → State → Type 0
 Stands p (Calling f values frames core) (Calling x_f x_values x_frames x_core) = StandsCalling p f values frames core x_f x_values x_frames x_core
 Stands p (At ops e frames core) (At x_ops x_exit x_frames x_core) = (graph : LlGraph) × StandsAt p ops e frames core x_ops x_exit x_frames x_core graph
 Stands p (Returning value frames core) (Returning x_value x_frames x_core) = StandsReturning p value frames core x_value x_frames x_core
-Stands p (Throwing value frames core) (Returning x_value x_frames x_core) = StandsThrowing p value frames core x_frames x_core
+Stands p (Throwing value frames core) (Returning x_value x_frames x_core) = StandsThrowing p value frames core x_value x_frames x_core
 Stands p s x = ⊥

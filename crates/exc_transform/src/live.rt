@@ -1,129 +1,14 @@
 // What the rest of a block reads before it sets it, each variable once.
 ghost use Rattle.std.specs.Prelude.{◌≡◌, [], ◌∷◌, ◌++◌, IfOk, OnOk};
+ghost use Rattle.ll_live.specs.Live as live;
 ghost use Rattle.exc_transform.specs.Live as spec;
 
 use crate::raising::{Raising, may_raise};
 use csub_tree::COperand;
 use ll_code::{LlExit, LlLink, LlOp, VarId};
+use ll_live::{among, push_exit_reads, push_operands, push_reads, set_by};
 use rpy_base::{NoMem, Seq};
 use std::alloc::Global;
-
-fn among(v: VarId, variables: &[VarId]) -> bool
-    ensures { result ≡ spec.among v variables.now }
-{
-    for w in variables {
-        if *w == v {
-            return true;
-        }
-    }
-    false
-}
-
-// ---- what is read
-
-fn push_operand(x: COperand, into: &mut Seq<VarId>) -> Result<(), NoMem>
-    ensures { OnOk result (into.new ≡ into.old ++ spec.variables_of x) }
-{
-    match x {
-        COperand::Var(v) => into.push(v),
-        COperand::Const(_) => Ok(()),
-    }
-}
-
-fn push_operands(xs: &[COperand], into: &mut Seq<VarId>) -> Result<(), NoMem>
-    ensures { OnOk result (into.new ≡ into.old ++ spec.variables_in xs.now) }
-{
-    for x in xs {
-        push_operand(*x, into)?;
-    }
-    Ok(())
-}
-
-fn push_two(x: COperand, y: COperand, into: &mut Seq<VarId>) -> Result<(), NoMem>
-    ensures { OnOk result (into.new ≡ into.old ++ spec.variables_of x ++ spec.variables_of y) }
-{
-    push_operand(x, into)?;
-    push_operand(y, into)
-}
-
-fn push_reads(op: &LlOp, into: &mut Seq<VarId>) -> Result<(), NoMem>
-    ensures { OnOk result (into.new ≡ into.old ++ spec.reads op.now) }
-{
-    match op {
-        LlOp::Set(_, x)
-        | LlOp::Unary(_, _, x)
-        | LlOp::NewArray(_, _, _, x)
-        | LlOp::Step(x)
-        | LlOp::ArgLen(_, x)
-        | LlOp::Put(x) => push_operand(*x, into),
-        LlOp::Binary(_, _, x, y) | LlOp::Arg(_, x, y) => push_two(*x, *y, into),
-        LlOp::GetField(_, _, b, _) | LlOp::Free(b) | LlOp::Raise(b) => into.push(*b),
-        LlOp::SetField(_, b, _, x) | LlOp::GetItem(_, _, b, x) => {
-            push_two(COperand::Var(*b), *x, into)
-        }
-        LlOp::SetItem(_, b, i, x) => {
-            into.push(*b)?;
-            push_two(*i, *x, into)
-        }
-        LlOp::Call(_, _, xs) => push_operands(xs.as_slice(), into),
-        LlOp::CallFn(_, _, _, b, xs) => {
-            into.push(*b)?;
-            push_operands(xs.as_slice(), into)
-        }
-        LlOp::ExcSet(a, b) => push_two(COperand::Var(*a), COperand::Var(*b), into),
-        LlOp::New(_, _, _)
-        | LlOp::ExcType(_, _)
-        | LlOp::ExcValue(_, _)
-        | LlOp::ExcClear
-        | LlOp::Argc(_) => Ok(()),
-    }
-}
-
-fn set_by(op: &LlOp) -> Option<VarId>
-    ensures { result ≡ spec.set_by op.now }
-{
-    match op {
-        LlOp::Set(a, _)
-        | LlOp::Unary(a, _, _)
-        | LlOp::Binary(a, _, _, _)
-        | LlOp::GetField(a, _, _, _)
-        | LlOp::GetItem(a, _, _, _)
-        | LlOp::New(a, _, _)
-        | LlOp::NewArray(a, _, _, _)
-        | LlOp::ExcType(a, _)
-        | LlOp::ExcValue(a, _)
-        | LlOp::Argc(a)
-        | LlOp::ArgLen(a, _)
-        | LlOp::Arg(a, _, _) => Some(*a),
-        LlOp::Call(into, _, _) | LlOp::CallFn(into, _, _, _, _) => *into,
-        LlOp::SetField(_, _, _, _)
-        | LlOp::SetItem(_, _, _, _)
-        | LlOp::Free(_)
-        | LlOp::Step(_)
-        | LlOp::ExcSet(_, _)
-        | LlOp::ExcClear
-        | LlOp::Put(_)
-        | LlOp::Raise(_) => None,
-    }
-}
-
-fn push_exit_reads(exit: &LlExit, into: &mut Seq<VarId>) -> Result<(), NoMem>
-    ensures { OnOk result (into.new ≡ into.old ++ spec.exit_variables exit.now) }
-{
-    match exit {
-        LlExit::Goto(link) | LlExit::OnRaise(_, _, link) => {
-            push_operands(link.args.as_slice(), into)
-        }
-        LlExit::If(w, there, elsewhere) => {
-            into.push(*w)?;
-            push_operands(there.args.as_slice(), into)?;
-            push_operands(elsewhere.args.as_slice(), into)
-        }
-        LlExit::Return(Some(x)) => push_operand(*x, into),
-        LlExit::Return(None) | LlExit::Fail(_) => Ok(()),
-        LlExit::Raise(w) | LlExit::Raised(w) => into.push(*w),
-    }
-}
 
 // ---- what is live
 
@@ -175,7 +60,7 @@ fn exit_reads(alloc: Global, raises: bool, exit: &LlExit) -> Result<Seq<VarId>, 
 
 // What an operation reads that is not set, behind what is read so far.
 fn push_live(alloc: Global, op: &LlOp, set: &[VarId], into: &mut Seq<VarId>) -> Result<(), NoMem>
-    ensures { OnOk result (into.new ≡ spec.new_ones (spec.reads op.now) set.now into.old) }
+    ensures { OnOk result (into.new ≡ spec.new_ones (live.reads op.now) set.now into.old) }
 {
     let mut reads = Seq::new(alloc);
     push_reads(op, &mut reads)?;
@@ -184,7 +69,7 @@ fn push_live(alloc: Global, op: &LlOp, set: &[VarId], into: &mut Seq<VarId>) -> 
 
 // The variable that an operation sets, behind those that are set.
 fn push_set(op: &LlOp, set: &mut Seq<VarId>) -> Result<(), NoMem>
-    ensures { OnOk result (set.new ≡ spec.and_this set.old (spec.set_by op.now)) }
+    ensures { OnOk result (set.new ≡ spec.and_this set.old (live.set_by op.now)) }
 {
     match set_by(op) {
         None => Ok(()),

@@ -1,0 +1,5 @@
+use Rattle.exc_laws.proofs.Small.{stay_small}
+use Rattle.exc_laws.proofs.laws.small_runs_stay_small.Goals as goal
+
+pub returns : goal.returns
+returns c p ok raw args steps allows apart most few small has = stay_small p ok raw args steps allows apart most few small has

@@ -1,6 +1,0 @@
-use Rattle.std.proofs.Common.{◌≡◌, ◌++◌, ◌+◌, drop}
-use Rattle.exc_transform.specs.Live.{variables_in}
-use Rattle.exc_transform.proofs.live.push_operands.Given as goal
-
-abbrev pub invariant-loop-x : goal.invariant-loop-x
-invariant-loop-x l = l.into ++ variables_in (drop l.x-index l.xs) ≡ l.initial.into ++ variables_in l.xs

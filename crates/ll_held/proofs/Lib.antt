@@ -1,0 +1,3 @@
+pub mod Calming
+pub mod Keeping
+pub mod Placing

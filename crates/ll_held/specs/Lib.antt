@@ -1,0 +1,4 @@
+pub mod Held
+pub mod Places
+pub mod Quiet
+pub mod Roots
