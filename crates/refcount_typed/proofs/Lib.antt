@@ -1,6 +1,10 @@
 pub mod Calls
+pub mod Changed
 pub mod Fields
 pub mod Heads
+pub mod Items
 pub mod Kept
+pub mod Operations
+pub mod Roots
 pub mod Structs
 pub mod Tests
