@@ -5,6 +5,8 @@ pub mod Fields
 pub mod Heads
 pub mod Items
 pub mod Kept
+pub mod Made
+pub mod Named
 pub mod Operations
 pub mod Roots
 pub mod Structs
