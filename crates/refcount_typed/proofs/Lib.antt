@@ -8,6 +8,7 @@ pub mod Kept
 pub mod Made
 pub mod Named
 pub mod Operations
+pub mod Released
 pub mod Roots
 pub mod Structs
 pub mod Tests
