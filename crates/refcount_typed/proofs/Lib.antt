@@ -10,5 +10,7 @@ pub mod Named
 pub mod Operations
 pub mod Released
 pub mod Roots
+pub mod Statics
 pub mod Structs
 pub mod Tests
+pub mod Whole

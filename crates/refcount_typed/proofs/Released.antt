@@ -95,7 +95,7 @@ module _ (p : LlProgram) (ok : IsWellTyped p) (leads : leads_to_roots p ≡ true
   abbrev plan : Plan
   plan = plan_of p
 
-  abbrev AllInside : List Held → Type 0
+  abbrev pub AllInside : List Held → Type 0
   AllInside [] = Unit {0}
   AllInside (h ∷ held) = Inside (counted p) h.to × AllInside held
 
