@@ -1,6 +1,6 @@
 -- The blocks of a graph that keeps the rules keep them with their changes of counts.
-use Rattle.std.proofs.Common.{◌≡◌, ◌<◌, ◌≤◌, ℕ, zero, suc, ◌+◌, Bool, true, false, ◌&&◌, ◌||◌, ◌==◌, List, [], ◌∷◌, ◌++◌, length, map, Option, Some, None, refl, sym, ap, ◌∙◌, subst, arith}
-use Rattle.std.specs.Prelude.{slice_get, nat_le}
+use Rattle.std.proofs.Common.{◌≡◌, ◌<◌, ℕ, zero, suc, ◌+◌, Bool, true, false, ◌&&◌, ◌||◌, List, [], ◌∷◌, ◌++◌, length, Option, Some, None, refl, sym, ap, ◌∙◌, arith}
+use Rattle.std.specs.Prelude.{slice_get}
 use Rattle.csub_tree.specs.declared.tree.COperand.{COperand}
 use Rattle.ll_code.specs.declared.program.LlStage.TheVariants as stage
 use Rattle.ll_code.specs.declared.program.LlType.{LlType}
@@ -16,20 +16,20 @@ use Rattle.ll_code.specs.Typed as rules
 use Rattle.ll_code.specs.Typed.{IsWellTyped, items_of, is_char, are_kinds, is_kind, params_ok, is_type_given, is_void, has_type, takes, all_given, enters, link_ok, return_ok, names_chars, exit_ok, operation_ok, operations_ok, block_ok, blocks_ok, graph_ok, graphs_ok}
 use Rattle.ll_laws.proofs.Values.{and_left, and_right}
 use Rattle.ll_live.specs.Live.{variables_in}
-use Rattle.refcount_transform.specs.Plan.{Plan, plan_of, made_by, has_root, ops_make, blocks_make, graphs_make, referred, reference_given}
-use Rattle.refcount_transform.specs.Made.{link_to, block_with}
-use Rattle.refcount_transform.specs.Changes.{Around, around_of, dead, touched, given, leaving, changed, ops_of}
+use Rattle.refcount_transform.specs.Plan.{Plan, plan_of, made_by, has_root, ops_make, blocks_make, graphs_make, referred}
+use Rattle.refcount_transform.specs.Made.{block_with}
+use Rattle.refcount_transform.specs.Changes.{Around, around_of, dead, touched, leaving, ops_of}
 use Rattle.refcount_transform.specs.Blocks.{left, way_ops, way_link, way_block, exit_of, behind_exit, block_of, firsts, others, blocks_of, graph_of}
 use Rattle.refcount_transform.specs.Counted.{counted}
 use Rattle.refcount_laws.specs.Made.{is_root_given, all_lead, leads_to_roots}
 use Rattle.refcount_laws.proofs.Numbers.{length_two, get_left, get_right}
-use Rattle.refcount_typed.specs.Leads.{op_leads, ops_lead, blocks_lead, graph_leads, graphs_lead}
+use Rattle.refcount_typed.specs.Leads.{op_leads, ops_lead, blocks_lead, graphs_lead}
 use Rattle.refcount_typed.proofs.Tests.{and_both}
 use Rattle.refcount_typed.proofs.Structs.{items_same}
-use Rattle.refcount_typed.proofs.Kept.{type_same, kind_same, kinds_same, taken_kept, all_given_kept}
+use Rattle.refcount_typed.proofs.Kept.{taken_kept, all_given_kept}
 use Rattle.refcount_typed.proofs.Roots.{inside}
 use Rattle.refcount_typed.proofs.Calls.{AllReady, taken_ready, all_given_ready, dead_fine, left_fine, given_fine}
-use Rattle.refcount_typed.proofs.Changed.{Mine, changed_fine}
+use Rattle.refcount_typed.proofs.Changed.{changed_fine}
 
 or_first : (a b : Bool) → a ≡ true → (a || b) ≡ true
 or_first true b e = refl
@@ -112,9 +112,10 @@ module _ (p : LlProgram) (ok : IsWellTyped p) (explicit : p.stage ≡ stage.Expl
         ap (λ b. enters (counted p) g.types b []) (ap (slice_get (blocks_of around g.blocks)) (let z : next ≡ next + 0 = omega arith in z) ∙ at 0 (omega arith))
 
     ways_split : (next : ℕ) (xs ys : List LlBlock) → Stand next (xs ++ ys) → Stand next xs × Stand (next + length xs) ys
-    ways_split next xs ys at =
-        (λ i lt. at i (omega (arith, lt, length_two xs ys)) ∙ get_left xs ys i lt,
-         λ i lt. ap (slice_get (blocks_of around g.blocks)) (let z : next + length xs + i ≡ next + (length xs + i) = omega arith in z) ∙ at (length xs + i) (omega (arith, lt, length_two xs ys)) ∙ get_right xs ys i)
+    ways_split next xs ys at = (
+      λ i lt. at i (omega (arith, lt, length_two xs ys)) ∙ get_left xs ys i lt,
+      λ i lt. ap (slice_get (blocks_of around g.blocks)) (let z : next + length xs + i ≡ next + (length xs + i) = omega arith in z) ∙ at (length xs + i) (omega (arith, lt, length_two xs ys)) ∙ get_right xs ys i,
+    )
 
     pub exit_kept : (next : ℕ) (e : LlExit) → exit_ok p g e ≡ true → Stand next (behind_exit around e) → exit_ok (counted p) New (exit_of around next e) ≡ true
     exit_kept next (exit.Goto l) h at = link_kept l h
@@ -122,7 +123,7 @@ module _ (p : LlProgram) (ok : IsWellTyped p) (explicit : p.stage ≡ stage.Expl
         let there_ok : link_ok p g there ≡ true = and_right (has_type type.Bool (slice_get g.types a)) _ (and_left _ _ h) in
         let elsewhere_ok : link_ok p g elsewhere ≡ true = and_right (has_type type.Bool (slice_get g.types a) && link_ok p g there) _ h in
         let w : Stand next (way_block there (way_ops around there elsewhere)) × Stand (next + length (way_block there (way_ops around there elsewhere))) (way_block elsewhere (way_ops around elsewhere there)) =
-          ways_split next (way_block there (way_ops around there elsewhere)) (way_block elsewhere (way_ops around elsewhere there)) at in
+        ways_split next (way_block there (way_ops around there elsewhere)) (way_block elsewhere (way_ops around elsewhere there)) at in
         and_both (has_type type.Bool (slice_get g.types a) && link_ok (counted p) New (way_link there next (way_ops around there elsewhere)))
         (link_ok (counted p) New (way_link elsewhere (next + length (way_block there (way_ops around there elsewhere))) (way_ops around elsewhere there)))
         (and_both (has_type type.Bool (slice_get g.types a)) (link_ok (counted p) New (way_link there next (way_ops around there elsewhere))) (and_left _ _ (and_left _ _ h)) (way_kept there next (way_ops around there elsewhere) there_ok w.0))

@@ -1,22 +1,20 @@
 -- Calls of graphs that are made keep the rules.
-use Rattle.std.proofs.Common.{◌≡◌, ◌<◌, ◌≤◌, ℕ, zero, suc, ◌+◌, Bool, true, false, ◌&&◌, ◌||◌, ◌==◌, List, [], ◌∷◌, ◌++◌, length, map, Option, Some, None, refl, sym, ap, ◌∙◌, subst, arith}
-use Rattle.std.specs.Prelude.{slice_get, is_some}
-use Rattle.csub_tree.specs.declared.tree.CConst.{CConst}
+use Rattle.std.proofs.Common.{◌≡◌, ℕ, zero, suc, Bool, true, false, ◌||◌, List, [], ◌∷◌, Option, Some, None, refl, ap, ◌∙◌, subst}
+use Rattle.std.specs.Prelude.{slice_get}
 use Rattle.csub_tree.specs.declared.tree.CConst.TheVariants as constant
 use Rattle.csub_tree.specs.declared.tree.COperand.{COperand}
 use Rattle.csub_tree.specs.declared.tree.COperand.TheVariants.{Var, Const}
 use Rattle.ll_code.specs.declared.program.LlType.{LlType}
 use Rattle.ll_code.specs.declared.program.LlType.TheVariants as type
 use Rattle.ll_code.specs.declared.program.LlOp.{LlOp}
-use Rattle.ll_code.specs.declared.program.LlOp.TheVariants as op
 use Rattle.ll_code.specs.declared.program.LlExit.{LlExit}
 use Rattle.ll_code.specs.declared.program.LlBlock.{LlBlock}
 use Rattle.ll_code.specs.declared.program.LlGraph.{LlGraph}
 use Rattle.ll_code.specs.declared.program.LlProgram.{LlProgram}
-use Rattle.ll_code.specs.Typed.{IsWellTyped, same_type, has_type, takes, given_takes, all_given, all_taken, call_ok, operation_ok, operations_ok}
+use Rattle.ll_code.specs.Typed.{IsWellTyped, has_type, takes, given_takes, all_given, all_taken, call_ok, operation_ok, operations_ok}
 use Rattle.ll_laws.proofs.Values.{and_left, and_right, is_same}
 use Rattle.ll_live.specs.Live.{among, variables_in, live}
-use Rattle.refcount_transform.specs.Plan.{Plan, plan_of, reference_given, referred, counts_at, is_marked, where_marked}
+use Rattle.refcount_transform.specs.Plan.{Plan, plan_of, reference_given, referred, counts_at}
 use Rattle.refcount_transform.specs.Made.{call}
 use Rattle.refcount_transform.specs.Changes.{Around, around_of, var_referred, operand_referred, up_by, up, down_by, down, ups, down_unless, dead, is_given_later, up_if, given}
 use Rattle.refcount_transform.specs.Blocks.{left}
@@ -92,9 +90,9 @@ module _ (p : LlProgram) (ok : IsWellTyped p) (leads : leads_to_roots p ≡ true
           let r2 : is_root_given plan (referred plan (type.Ptr s)) ≡ true = subst (λ n. is_root_given plan (referred plan (type.Ptr n)) ≡ true) f r in
           record {
             by = λ m e. (
-              let k : Some (type.Ptr s) ≡ Some (type.Ptr m) = given_is plan.counted (Some (type.Ptr s)) m e in
-              let l : s ≡ m = cc in
-              ((given_marked plan.counted (Some (type.Ptr s)) m e, given_root plan (referred plan (type.Ptr s)) m e r2), subst (λ m. takes (counted p) types (type.Ptr m) (Const (constant.Static s g)) ≡ true) l (taken_kept p types (type.Ptr s) (Const (constant.Static s g)) h2)));
+                let k : Some (type.Ptr s) ≡ Some (type.Ptr m) = given_is plan.counted (Some (type.Ptr s)) m e in
+                let l : s ≡ m = cc in
+                ((given_marked plan.counted (Some (type.Ptr s)) m e, given_root plan (referred plan (type.Ptr s)) m e r2), subst (λ m. takes (counted p) types (type.Ptr m) (Const (constant.Static s g)) ≡ true) l (taken_kept p types (type.Ptr s) (Const (constant.Static s g)) h2)));
           }
 
       pub taken_ready : (t : LlType) (x : COperand) → takes p types t x ≡ true → is_root_given plan (referred plan t) ≡ true → Ready x

@@ -1,11 +1,10 @@
 -- Each operation that keeps the rules becomes operations that keep them.
-use Rattle.std.proofs.Common.{◌≡◌, ◌<◌, ℕ, zero, suc, ◌+◌, Bool, true, false, ◌&&◌, ◌||◌, ◌==◌, List, [], ◌∷◌, ◌++◌, length, map, Option, Some, None, refl, sym, ap, ◌∙◌}
+use Rattle.std.proofs.Common.{◌≡◌, ◌<◌, ℕ, zero, suc, Bool, true, false, ◌&&◌, List, [], ◌∷◌, length, Option, Some, None, refl, sym, ap, ◌∙◌}
 use Rattle.std.specs.Prelude.{slice_get, is_none, is_some, nat_lt}
 use Rattle.csub_tree.specs.declared.tree.CBinary.{CBinary}
 use Rattle.csub_tree.specs.declared.tree.CBinary.TheVariants as two
 use Rattle.csub_tree.specs.declared.tree.COperand.{COperand}
-use Rattle.csub_tree.specs.declared.tree.COperand.TheVariants.{Var, Const}
-use Rattle.ll_code.specs.declared.program.LlStage.{LlStage}
+use Rattle.csub_tree.specs.declared.tree.COperand.TheVariants.{Var}
 use Rattle.ll_code.specs.declared.program.LlStage.TheVariants as stage
 use Rattle.ll_code.specs.declared.program.LlType.{LlType}
 use Rattle.ll_code.specs.declared.program.LlType.TheVariants as type
@@ -18,8 +17,7 @@ use Rattle.ll_code.specs.Typed as rules
 use Rattle.ll_code.specs.Typed.{IsWellTyped, items_of, field_of, begins, is_kind, are_types, has_type, has_given, takes, given_takes, all_given, all_taken, points, pointed, same_pointers, both_taken, unary_takes, unary_gives, binary_gives, result_ok, call_ok, operation_ok, operations_ok}
 use Rattle.ll_laws.proofs.Values.{and_left, and_right, is_less}
 use Rattle.refcount_transform.specs.Plan.{Plan, plan_of, made_by, has_root, graphs_make, root, is_counted, shifted}
-use Rattle.refcount_transform.specs.Changes.{Around, around_of, up, ups, header, cleared, set_field, set_item, exc_clear, emptied, changed}
-use Rattle.refcount_transform.specs.Blocks.{graph_of}
+use Rattle.refcount_transform.specs.Changes.{Around, around_of, up, header, cleared, set_field, set_item, exc_clear, emptied, changed}
 use Rattle.refcount_transform.specs.Counted.{counted}
 use Rattle.refcount_laws.specs.Made.{all_lead, leads_to_roots}
 use Rattle.refcount_typed.specs.Leads.{op_leads, graph_leads, graphs_lead}
@@ -28,7 +26,7 @@ use Rattle.refcount_typed.proofs.Structs.{structs_many, items_same}
 use Rattle.refcount_typed.proofs.Kept.{types_same, kind_same, begins_same, taken_kept, given_kept, all_given_kept, all_taken_kept, pointed_same}
 use Rattle.refcount_typed.proofs.Fields.{field_kept}
 use Rattle.refcount_typed.proofs.Roots.{inside, made_counted}
-use Rattle.refcount_typed.proofs.Calls.{lead_at, Ready, AllReady, var_ready, given_ready, all_given_ready, all_taken_ready, up_fine, ups_fine, one_more}
+use Rattle.refcount_typed.proofs.Calls.{lead_at, AllReady, var_ready, given_ready, all_given_ready, all_taken_ready, up_fine, ups_fine, one_more}
 use Rattle.refcount_typed.proofs.Operations.{based, graph_there, header_fine, cleared_fine, set_field_fine, set_item_fine, exc_clear_fine, emptied_fine}
 
 points_of : (t : Option LlType) (n : ℕ) → has_type (type.Ptr n) t ≡ true → points t ≡ true
@@ -118,7 +116,7 @@ module _ (p : LlProgram) (ok : IsWellTyped p) (explicit : p.stage ≡ stage.Expl
         ap (λ b. ((has_type (type.Ptr m) (slice_get types a) && b) && is_some (items_of (slice_get (counted p).structs n))) && takes (counted p) types type.Signed x) (begins_same p n m)
         ∙ ap (λ o. ((has_type (type.Ptr m) (slice_get types a) && begins p.structs n m) && is_some o) && takes (counted p) types type.Signed x) (items_same p n)
         ∙ and_both ((has_type (type.Ptr m) (slice_get types a) && begins p.structs n m) && is_some (items_of (slice_get p.structs n))) (takes (counted p) types type.Signed x) (and_left _ _ h)
-          (taken_kept p types type.Signed x (and_right ((has_type (type.Ptr m) (slice_get types a) && begins p.structs n m) && is_some (items_of (slice_get p.structs n))) _ h))
+        (taken_kept p types type.Signed x (and_right ((has_type (type.Ptr m) (slice_get types a) && begins p.structs n m) && is_some (items_of (slice_get p.structs n))) _ h))
 
     slot_kept : (a n : ℕ) → (nat_lt n (length p.structs) && has_type (type.Ptr n) (slice_get types a)) ≡ true → (nat_lt n (length (counted p).structs) && has_type (type.Ptr n) (slice_get types a)) ≡ true
     slot_kept a n h = ap (λ l. nat_lt n l && has_type (type.Ptr n) (slice_get types a)) (structs_many p) ∙ h
@@ -130,17 +128,18 @@ module _ (p : LlProgram) (ok : IsWellTyped p) (explicit : p.stage ≡ stage.Expl
       where
         by : (o : Option LlGraph) → slice_get p.graphs f ≡ o → call_ok p types into o xs ≡ true → Good (op.Call into f xs) × AllReady p ok leads types lead xs
         by None e h = absurd (cc)
-        by (Some g) e h =
-            (ap (λ o. call_ok (counted p) types into o xs) (graph_there p ok explicit leads f g e)
-             ∙ and_both (result_ok types into g.result) (all_given (counted p) types g.types g.params xs) (and_left _ _ h) (all_given_kept p types g.types g.params xs (and_right (result_ok types into g.result) _ h)),
-             all_given_ready p ok leads types lead g.types (and_left _ _ (and_left _ _ (graph_lead p.graphs f g graphs_do e))) g.params xs (and_right (result_ok types into g.result) _ h))
+        by (Some g) e h = (
+          ap (λ o. call_ok (counted p) types into o xs) (graph_there p ok explicit leads f g e)
+              ∙ and_both (result_ok types into g.result) (all_given (counted p) types g.types g.params xs) (and_left _ _ h) (all_given_kept p types g.types g.params xs (and_right (result_ok types into g.result) _ h)),
+          all_given_ready p ok leads types lead g.types (and_left _ _ (and_left _ _ (graph_lead p.graphs f g graphs_do e))) g.params xs (and_right (result_ok types into g.result) _ h),
+        )
 
     call_fn_kept : (into : Option ℕ) (result : LlType) (params : List LlType) (b : ℕ) (xs : List COperand) → operation_ok p types (op.CallFn into result params b xs) ≡ true → Good (op.CallFn into result params b xs)
     call_fn_kept into result params b xs h =
         ap (λ k. (((has_type type.Fn (slice_get types b) && k) && are_types (counted p).structs params) && result_ok types into result) && all_taken (counted p) types params xs) (kind_same p result)
         ∙ ap (λ k. (((has_type type.Fn (slice_get types b) && is_kind p.structs result) && k) && result_ok types into result) && all_taken (counted p) types params xs) (types_same p params)
         ∙ and_both (((has_type type.Fn (slice_get types b) && is_kind p.structs result) && are_types p.structs params) && result_ok types into result) (all_taken (counted p) types params xs) (and_left _ _ h)
-          (all_taken_kept p types params xs (and_right (((has_type type.Fn (slice_get types b) && is_kind p.structs result) && are_types p.structs params) && result_ok types into result) _ h))
+        (all_taken_kept p types params xs (and_right (((has_type type.Fn (slice_get types b) && is_kind p.structs result) && are_types p.structs params) && result_ok types into result) _ h))
 
     taken_result : (a : ℕ) (rest : List LlOp) → Fine rest → Fine (up around (Var a) rest)
     taken_result a rest k = up_fine p ok leads types lead (Var a) rest (var_ready p ok leads types lead a) k

@@ -1,5 +1,5 @@
 -- Fields keep their types, behind the count and the graph that releases.
-use Rattle.std.proofs.Common.{◌≡◌, ℕ, zero, suc, ◌+◌, Bool, true, false, ◌&&◌, ◌==◌, List, [], ◌∷◌, ◌++◌, Option, Some, None, refl, sym, ap, ◌∙◌, subst, arith}
+use Rattle.std.proofs.Common.{◌≡◌, ℕ, zero, suc, ◌+◌, Bool, true, false, List, [], ◌∷◌, ◌++◌, Option, Some, None, refl, sym, ap, ◌∙◌, subst, arith}
 use Rattle.std.specs.Prelude.{slice_get, option_map, is_none}
 use Rattle.ll_code.specs.declared.program.LlType.{LlType}
 use Rattle.ll_code.specs.declared.program.LlType.TheVariants as type
@@ -93,11 +93,13 @@ module _ (p : LlProgram) where
     where
       by : (o : Option ℕ) → referred plan t ≡ o → AllRight (held_from plan n (suc place) ts) → AllRight (held_if n (field_number plan n place) o (held_from plan n (suc place) ts))
       by None e rest = rest
-      by (Some m) e rest =
-          (record {
-            field = placed n place ∙ ap (slice_get (fields_of plan n)) (let f : place ≡ place + 0 = omega arith in f) ∙ same 0 ∙ ap Some (reference_is plan.counted t m e);
-            root = (reference_marked plan.counted t m e, given_root plan (referred plan t) m e (and_left _ _ lead));
-          }, rest)
+      by (Some m) e rest = (
+        record {
+          field = placed n place ∙ ap (slice_get (fields_of plan n)) (let f : place ≡ place + 0 = omega arith in f) ∙ same 0 ∙ ap Some (reference_is plan.counted t m e);
+          root = (reference_marked plan.counted t m e, given_root plan (referred plan t) m e (and_left _ _ lead));
+        },
+        rest,
+      )
 
   lead_at : (ss : List LlStruct) (n : ℕ) → structs_lead plan ss ≡ true → all_lead plan (fields_given (slice_get ss n)) ≡ true
   lead_at [] n h = refl

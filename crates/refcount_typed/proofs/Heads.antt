@@ -1,5 +1,5 @@
 -- Graphs keep their heads, and those that are made stand behind.
-use Rattle.std.proofs.Common.{◌≡◌, ℕ, suc, Bool, true, false, ◌==◌, List, [], ◌∷◌, ◌++◌, map, Option, Some, None, refl, sym, ap, ◌∙◌}
+use Rattle.std.proofs.Common.{◌≡◌, ℕ, suc, Bool, true, false, ◌==◌, List, [], ◌∷◌, ◌++◌, map, Option, Some, None, refl, ap, ◌∙◌}
 use Rattle.ll_code.specs.declared.program.LlStruct.{LlStruct}
 use Rattle.ll_code.specs.declared.program.LlGraph.{LlGraph}
 use Rattle.ll_code.specs.declared.program.LlProgram.{LlProgram}
@@ -8,7 +8,7 @@ use Rattle.refcount_transform.specs.Plan.{Plan, plan_of, root_of, own_held, held
 use Rattle.refcount_transform.specs.Made.{put_graph, release_by, slots_made, items_made, references_made, made_for, made_if, made_from, all_made}
 use Rattle.refcount_transform.specs.Blocks.{graph_of}
 use Rattle.refcount_transform.specs.Counted.{counted}
-use Rattle.refcount_typed.specs.Heads.{Head, head_of, head, put_head, item_heads, reference_heads, heads_for, heads_if, heads_from, slots_heads, made_heads}
+use Rattle.refcount_typed.specs.Heads.{Head, head_of, put_head, item_heads, reference_heads, heads_for, heads_if, heads_from, slots_heads, made_heads}
 
 map_both : {A B : Type 0} (f : A → B) (xs ys : List A) → map f (xs ++ ys) ≡ map f xs ++ map f ys
 map_both f [] ys = refl
@@ -39,11 +39,11 @@ module _ (plan : Plan) where
   for_same n =
       release_same n (items_referred plan n) (map head_of ((map (put_graph plan) (own_held plan n) ++ items_made plan n (items_referred plan n)) ++ references_made n (root_of plan n == n)))
       ∙ ap (λ l. head_of (release_by plan n (held_of plan n) None) ∷ l)
-        (map_both head_of (map (put_graph plan) (own_held plan n) ++ items_made plan n (items_referred plan n)) (references_made n (root_of plan n == n))
-        ∙ ap (λ l. l ++ map head_of (references_made n (root_of plan n == n))) (map_both head_of (map (put_graph plan) (own_held plan n)) (items_made plan n (items_referred plan n)))
-        ∙ ap (λ l. (l ++ map head_of (items_made plan n (items_referred plan n))) ++ map head_of (references_made n (root_of plan n == n))) (puts_same (own_held plan n))
-        ∙ ap (λ l. (map put_head (own_held plan n) ++ l) ++ map head_of (references_made n (root_of plan n == n))) (items_same n (items_referred plan n))
-        ∙ ap (λ l. (map put_head (own_held plan n) ++ item_heads n (items_referred plan n)) ++ l) (references_same n (root_of plan n == n)))
+      (map_both head_of (map (put_graph plan) (own_held plan n) ++ items_made plan n (items_referred plan n)) (references_made n (root_of plan n == n))
+      ∙ ap (λ l. l ++ map head_of (references_made n (root_of plan n == n))) (map_both head_of (map (put_graph plan) (own_held plan n)) (items_made plan n (items_referred plan n)))
+      ∙ ap (λ l. (l ++ map head_of (items_made plan n (items_referred plan n))) ++ map head_of (references_made n (root_of plan n == n))) (puts_same (own_held plan n))
+      ∙ ap (λ l. (map put_head (own_held plan n) ++ l) ++ map head_of (references_made n (root_of plan n == n))) (items_same n (items_referred plan n))
+      ∙ ap (λ l. (map put_head (own_held plan n) ++ item_heads n (items_referred plan n)) ++ l) (references_same n (root_of plan n == n)))
 
   if_same : (n : ℕ) (b : Bool) → map head_of (made_if plan n b) ≡ heads_if plan n b
   if_same n true = for_same n

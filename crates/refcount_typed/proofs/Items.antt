@@ -1,19 +1,16 @@
 -- The graphs that set an item and clear items, and the one that empties the exception slots, stand at their numbers.
-use Rattle.std.proofs.Common.{◌≡◌, ◌<◌, ◌≤◌, ℕ, zero, suc, ◌+◌, Bool, true, false, ◌&&◌, ◌||◌, ◌==◌, List, [], ◌∷◌, ◌++◌, length, map, Option, Some, None, refl, sym, ap, ◌∙◌, subst, arith}
-use Rattle.std.specs.Prelude.{slice_get, is_some}
+use Rattle.std.proofs.Common.{◌≡◌, ◌<◌, ℕ, suc, ◌+◌, Bool, true, ◌==◌, List, [], ◌∷◌, ◌++◌, length, map, Option, Some, None, refl, ap, ◌∙◌, arith}
+use Rattle.std.specs.Prelude.{slice_get}
 use Rattle.ll_code.specs.declared.program.LlType.{LlType}
 use Rattle.ll_code.specs.declared.program.LlStruct.{LlStruct}
 use Rattle.ll_code.specs.declared.program.LlGraph.{LlGraph}
 use Rattle.ll_code.specs.declared.program.LlProgram.{LlProgram}
-use Rattle.refcount_transform.specs.declared.plan.Held.{Held}
-use Rattle.refcount_transform.specs.declared.plan.Counts.{Counts}
-use Rattle.refcount_transform.specs.declared.slots.Slots.{Slots}
-use Rattle.refcount_transform.specs.Plan.{Plan, plan_of, counted_structs, slots_of, or_slots, set_by_blocks, own_some, behind, reference_to, one_if, references_in, fields_given, fields_of, field_number, held_if, held_from, own_held, items_referred, is_counted, counts_at, root_of}
-use Rattle.refcount_transform.specs.Made.{put_graph, put_item_graph, clear_graph, slots_graph, slots_made, items_made, references_made, made_for, made_from, all_made}
+use Rattle.refcount_transform.specs.Plan.{Plan, plan_of, counted_structs, slots_of, or_slots, set_by_blocks, own_some, reference_to, one_if, references_in, fields_given, fields_of, field_number, held_if, held_from, own_held, items_referred, is_counted, counts_at, root_of}
+use Rattle.refcount_transform.specs.Made.{put_graph, put_item_graph, clear_graph, slots_graph, slots_made, items_made, references_made, made_from, all_made}
 use Rattle.refcount_transform.specs.Blocks.{graph_of}
 use Rattle.refcount_transform.specs.Counted.{counted}
 use Rattle.refcount_laws.proofs.Numbers.{length_two, length_mapped, get_left, get_right, Based}
-use Rattle.refcount_laws.proofs.Standing.{StructAt, at_struct, place, first_number, made_there}
+use Rattle.refcount_laws.proofs.Standing.{at_struct, place, first_number, made_there}
 
 held_long : (plan : Plan) (n place : ℕ) (ts : List LlType) → length (held_from plan n place ts) ≡ references_in plan.counted ts
 held_long plan n place [] = refl

@@ -10,6 +10,7 @@ pub mod Named
 pub mod Operations
 pub mod Released
 pub mod Roots
+pub mod Rows
 pub mod Statics
 pub mod Structs
 pub mod Tests

@@ -1,10 +1,8 @@
 -- The graphs that are made keep the rules.
-use Rattle.std.proofs.Common.{◌≡◌, ◌<◌, ◌≤◌, ℕ, zero, suc, ◌+◌, Bool, true, false, ◌&&◌, ◌==◌, List, [], ◌∷◌, ◌++◌, length, map, Option, Some, None, refl, sym, ap, ◌∙◌, subst, arith, codes}
+use Rattle.std.proofs.Common.{◌≡◌, ◌<◌, ℕ, suc, ◌+◌, true, ◌&&◌, ◌==◌, List, [], ◌∷◌, ◌++◌, length, Option, Some, None, refl, sym, ap, ◌∙◌, subst, arith, codes}
 use Rattle.std.specs.Prelude.{slice_get, nat_lt}
 use Rattle.std.specs.Fmt.{decimal}
 use Rattle.csub_tree.specs.Checked.{is_name}
-use Rattle.csub_tree.specs.declared.tree.CBinary.TheVariants.{Add, Lt}
-use Rattle.csub_tree.specs.declared.tree.COperand.{COperand}
 use Rattle.csub_tree.specs.declared.tree.COperand.TheVariants.{Var}
 use Rattle.ll_code.specs.declared.program.LlType.{LlType}
 use Rattle.ll_code.specs.declared.program.LlType.TheVariants as type
@@ -14,16 +12,13 @@ use Rattle.ll_code.specs.declared.program.LlExit.TheVariants as exit
 use Rattle.ll_code.specs.declared.program.LlBlock.{LlBlock}
 use Rattle.ll_code.specs.declared.program.LlGraph.{LlGraph}
 use Rattle.ll_code.specs.declared.program.LlProgram.{LlProgram}
-use Rattle.ll_code.specs.Typed.{IsWellTyped, field_of, items_of, are_kinds, is_kind, params_ok, same_type, has_type, has_given, takes, given_takes, all_given, points, exit_ok, operation_ok, operations_ok, block_ok, blocks_ok, graph_ok, graphs_ok}
-use Rattle.ll_laws.proofs.Values.{and_left, and_right}
+use Rattle.ll_code.specs.Typed.{IsWellTyped, field_of, items_of, are_kinds, is_kind, params_ok, has_type, has_given, given_takes, points, exit_ok, operation_ok, operations_ok, block_ok, blocks_ok, graph_ok}
 use Rattle.refcount_transform.specs.declared.plan.Held.{Held}
-use Rattle.refcount_transform.specs.declared.slots.Slots.{Slots}
-use Rattle.refcount_transform.specs.Plan.{Plan, plan_of, counts_at, root_of, field_number}
-use Rattle.refcount_transform.specs.Made.{call, null, word, link_to, block_with, numbers_from, first_variables, first_operands, up_graph, down_graph, put_body, put_graph, put_item_body, put_item_graph, clear_graph, gets, drops, held_types, freed, plain_body, release_plain, release_items, loop_behind, loop_types, release_start, release_test, release_one, release_end, kind_read, value_read, slot_drop, slot_type, slots_body, slots_graph}
+use Rattle.refcount_transform.specs.Plan.{Plan, plan_of, counts_at, root_of}
+use Rattle.refcount_transform.specs.Made.{call, block_with, up_graph, down_graph, put_body, put_graph, put_item_body, put_item_graph, clear_graph, gets, drops, held_types, kind_read, value_read, slot_drop, slot_type, slots_graph}
 use Rattle.refcount_transform.specs.Counted.{counted}
 use Rattle.refcount_laws.specs.Graphs.{IsRoot}
 use Rattle.refcount_laws.specs.Made.{counts_of, leads_to_roots}
-use Rattle.refcount_laws.proofs.Numbers.{length_mapped, length_two, get_left, get_right}
 use Rattle.refcount_typed.proofs.Tests.{and_both, equals}
 use Rattle.refcount_typed.proofs.Named.{decimal_named, both_named}
 use Rattle.refcount_typed.proofs.Fields.{Right, AllRight}

@@ -1,8 +1,6 @@
 -- What operations that keep the rules become keeps them.
-use Rattle.std.proofs.Common.{◌≡◌, ◌<◌, ◌≤◌, ℕ, zero, suc, ◌+◌, Bool, true, false, ◌&&◌, ◌||◌, ◌==◌, List, [], ◌∷◌, ◌++◌, length, map, Option, Some, None, refl, sym, ap, ◌∙◌, subst, arith}
-use Rattle.std.specs.Prelude.{slice_get, is_none, is_some, nat_lt, option_map}
-use Rattle.csub_tree.specs.declared.tree.CBinary.{CBinary}
-use Rattle.csub_tree.specs.declared.tree.CBinary.TheVariants as two
+use Rattle.std.proofs.Common.{◌≡◌, ℕ, zero, suc, ◌+◌, Bool, true, false, ◌&&◌, List, [], ◌∷◌, length, map, Option, Some, None, refl, sym, ap, ◌∙◌, subst, arith}
+use Rattle.std.specs.Prelude.{slice_get, option_map}
 use Rattle.csub_tree.specs.declared.tree.CConst.TheVariants as constant
 use Rattle.csub_tree.specs.declared.tree.COperand.{COperand}
 use Rattle.csub_tree.specs.declared.tree.COperand.TheVariants.{Var, Const}
@@ -12,29 +10,27 @@ use Rattle.ll_code.specs.declared.program.LlType.TheVariants as type
 use Rattle.ll_code.specs.declared.program.LlStruct.{LlStruct}
 use Rattle.ll_code.specs.declared.program.LlOp.{LlOp}
 use Rattle.ll_code.specs.declared.program.LlOp.TheVariants as op
-use Rattle.ll_code.specs.declared.program.LlExit.{LlExit}
 use Rattle.ll_code.specs.declared.program.LlGraph.{LlGraph}
 use Rattle.ll_code.specs.declared.program.LlProgram.{LlProgram}
-use Rattle.ll_code.specs.Typed as typed
-use Rattle.ll_code.specs.Typed.{IsWellTyped, structs_ok, base_of, items_of, field_of, own_field, begins, begins_within, is_kind, are_types, same_type, has_type, has_given, takes, given_takes, all_given, all_taken, points, pointed, same_pointers, both_taken, unary_takes, unary_gives, binary_gives, result_ok, call_ok, operation_ok, operations_ok}
-use Rattle.ll_laws.proofs.Values.{and_left, and_right, is_less}
+use Rattle.ll_code.specs.Typed.{IsWellTyped, base_of, items_of, field_of, own_field, has_type, takes, given_takes, points, operation_ok, operations_ok}
+use Rattle.ll_laws.proofs.Values.{and_left}
 use Rattle.refcount_transform.specs.declared.plan.Held.{Held}
-use Rattle.refcount_transform.specs.Plan.{Plan, plan_of, made_by, has_root, ops_make, graphs_make, root, reference_given, referred, fields_given, fields_of, place_behind, place_of, base_at, field_referred, items_referred, put_of, held_of, is_counted, counts_at, root_of, shifted, own_some}
+use Rattle.refcount_transform.specs.Plan.{Plan, plan_of, reference_given, fields_given, fields_of, place_behind, place_of, field_referred, items_referred, put_of, held_of, is_counted, counts_at, root_of, shifted, own_some}
 use Rattle.refcount_transform.specs.Made.{call, null, word, put_item_graph, clear_graph, slots_graph}
-use Rattle.refcount_transform.specs.Changes.{Around, around_of, up, ups, nulls, header, header_by, cleared, cleared_by, set_field, set_field_by, set_item, set_item_by, exc_clear, exc_clear_by, emptied, emptied_by, changed, dead, touched}
+use Rattle.refcount_transform.specs.Changes.{Around, around_of, nulls, header, header_by, cleared, cleared_by, set_field, set_field_by, set_item, set_item_by, exc_clear, exc_clear_by, emptied, emptied_by}
 use Rattle.refcount_transform.specs.Counted.{counted}
-use Rattle.refcount_laws.specs.Graphs.{IsRoot, StandsWith, Stands}
-use Rattle.refcount_laws.specs.Made.{counts_of, all_lead, leads_to_roots}
+use Rattle.refcount_laws.specs.Graphs.{StandsWith, Stands}
+use Rattle.refcount_laws.specs.Made.{all_lead, leads_to_roots}
 use Rattle.refcount_laws.proofs.Numbers.{Based, all_based}
 use Rattle.refcount_laws.proofs.Putting.{counted_puts}
-use Rattle.refcount_typed.specs.Leads.{stands_in_root, op_leads}
-use Rattle.refcount_typed.proofs.Tests.{and_both, equals, is_below, get_map, length_map}
-use Rattle.refcount_typed.proofs.Structs.{structs_many, items_same}
-use Rattle.refcount_typed.proofs.Kept.{type_same, types_same, kind_same, begins_same, taken_kept, given_kept, all_given_kept, all_taken_kept, pointed_same}
-use Rattle.refcount_typed.proofs.Fields.{given_is, field_kept, Right, AllRight, held_right}
-use Rattle.refcount_typed.proofs.Roots.{inside, made_counted, count_field, release_field}
+use Rattle.refcount_typed.specs.Leads.{stands_in_root}
+use Rattle.refcount_typed.proofs.Tests.{and_both, is_below, get_map, length_map}
+use Rattle.refcount_typed.proofs.Structs.{items_same}
+use Rattle.refcount_typed.proofs.Kept.{taken_kept, given_kept}
+use Rattle.refcount_typed.proofs.Fields.{given_is, field_kept, AllRight, held_right}
+use Rattle.refcount_typed.proofs.Roots.{inside, count_field, release_field}
 use Rattle.refcount_typed.proofs.Items.{put_item_there, clear_there, slots_there}
-use Rattle.refcount_typed.proofs.Calls.{counting, call_given, one_more, Ready, AllReady, var_ready, given_ready, all_given_ready, all_taken_ready, lead_at, up_fine, ups_fine}
+use Rattle.refcount_typed.proofs.Calls.{counting, call_given, one_more}
 use Rattle.refcount_transform.specs.Blocks.{graph_of}
 use Rattle.refcount_transform.specs.Made.{all_made}
 use Rattle.refcount_laws.proofs.Numbers.{get_left}

@@ -1,6 +1,6 @@
 -- The graphs that release a block keep the rules.
-use Rattle.std.proofs.Common.{◌≡◌, ◌<◌, ◌≤◌, ℕ, zero, suc, ◌+◌, Bool, true, false, ◌&&◌, ◌==◌, List, [], ◌∷◌, ◌++◌, length, map, Option, Some, None, refl, sym, ap, ◌∙◌, arith, codes}
-use Rattle.std.specs.Prelude.{slice_get, nat_lt}
+use Rattle.std.proofs.Common.{◌≡◌, ◌<◌, ◌≤◌, ℕ, zero, suc, ◌+◌, Bool, true, false, ◌&&◌, List, [], ◌∷◌, ◌++◌, length, map, Option, Some, None, refl, sym, ap, ◌∙◌, arith, codes}
+use Rattle.std.specs.Prelude.{slice_get}
 use Rattle.std.specs.Fmt.{decimal}
 use Rattle.csub_tree.specs.Checked.{is_name}
 use Rattle.csub_tree.specs.declared.tree.CBinary.TheVariants.{Add, Lt}
@@ -10,16 +10,14 @@ use Rattle.ll_code.specs.declared.program.LlType.{LlType}
 use Rattle.ll_code.specs.declared.program.LlType.TheVariants as type
 use Rattle.ll_code.specs.declared.program.LlOp.{LlOp}
 use Rattle.ll_code.specs.declared.program.LlOp.TheVariants as op
-use Rattle.ll_code.specs.declared.program.LlExit.TheVariants as exit
-use Rattle.ll_code.specs.declared.program.LlBlock.{LlBlock}
 use Rattle.ll_code.specs.declared.program.LlGraph.{LlGraph}
 use Rattle.ll_code.specs.declared.program.LlProgram.{LlProgram}
-use Rattle.ll_code.specs.Typed.{IsWellTyped, field_of, items_of, is_kind, are_kinds, same_type, has_type, has_given, takes, given_takes, all_given, points, exit_ok, operations_ok, block_ok, blocks_ok, graph_ok}
+use Rattle.ll_code.specs.Typed.{IsWellTyped, field_of, items_of, is_kind, are_kinds, same_type, has_type, has_given, takes, given_takes, all_given, exit_ok, operations_ok, block_ok, graph_ok}
 use Rattle.ll_laws.proofs.Values.{and_left, and_right}
 use Rattle.refcount_transform.specs.declared.plan.Held.{Held}
 use Rattle.refcount_transform.specs.declared.made.Loop.{Loop}
 use Rattle.refcount_transform.specs.Plan.{Plan, plan_of, counts_at, root_of, field_number}
-use Rattle.refcount_transform.specs.Made.{call, word, numbers_from, first_variables, first_operands, gets, drops, held_types, freed, plain_body, release_plain, release_items, loop_behind, loop_types, release_start, release_test, release_one, release_end, release_blocks}
+use Rattle.refcount_transform.specs.Made.{call, word, numbers_from, first_variables, first_operands, drops, held_types, freed, plain_body, release_plain, release_items, loop_behind, loop_types, release_start, release_test, release_one, release_end}
 use Rattle.refcount_transform.specs.Counted.{counted}
 use Rattle.refcount_laws.specs.Graphs.{IsRoot}
 use Rattle.refcount_laws.specs.Made.{counts_of, leads_to_roots}
@@ -162,7 +160,7 @@ module _ (p : LlProgram) (ok : IsWellTyped p) (leads : leads_to_roots p ≡ true
     on x h =
         ap (λ j. all_given (counted p) types types (numbers_from 0 j) (first_operands (k + 2) ++ x ∷ [])) (let z : k + 2 + 1 ≡ suc (k + 2) = omega arith in z)
         ∙ pass_more (counted p) types there 0 (k + 2) x (omega (arith, long))
-          (ap (λ j. given_takes (counted p) types (slice_get types j) x) (let z : 0 + (k + 2) ≡ k + 2 = omega arith in z) ∙ ap (λ o. given_takes (counted p) types o x) at_is ∙ h)
+        (ap (λ j. given_takes (counted p) types (slice_get types j) x) (let z : 0 + (k + 2) ≡ k + 2 = omega arith in z) ∙ ap (λ o. given_takes (counted p) types o x) at_is ∙ h)
 
     at_signed : takes (counted p) types type.Signed (Var (k + 2)) ≡ true
     at_signed = ap (has_type type.Signed) at_is

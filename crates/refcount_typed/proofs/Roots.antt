@@ -1,17 +1,16 @@
 -- Structs of which blocks are made or written are counted, and their roots begin with the count and the graph that releases.
-use Rattle.std.proofs.Common.{◌≡◌, ◌<◌, ◌≤◌, ℕ, zero, suc, ◌+◌, Bool, true, false, ◌&&◌, ◌||◌, ◌==◌, List, [], ◌∷◌, length, Option, Some, None, refl, sym, ap, ◌∙◌, subst, arith}
+use Rattle.std.proofs.Common.{◌≡◌, ◌<◌, ◌≤◌, ℕ, zero, suc, ◌+◌, true, List, [], ◌∷◌, length, Option, Some, None, refl, sym, ap, ◌∙◌, arith}
 use Rattle.std.specs.Prelude.{slice_get, option_map, is_none, nat_lt}
 use Rattle.ll_code.specs.declared.program.LlType.TheVariants as type
 use Rattle.ll_code.specs.declared.program.LlStruct.{LlStruct}
 use Rattle.ll_code.specs.declared.program.LlGraph.{LlGraph}
 use Rattle.ll_code.specs.declared.program.LlProgram.{LlProgram}
 use Rattle.ll_code.specs.Typed.{base_of, field_of, own_field}
-use Rattle.ll_laws.proofs.Values.{is_same, is_less}
+use Rattle.ll_laws.proofs.Values.{is_same}
 use Rattle.refcount_transform.specs.Plan.{Plan, plan_of, base_in, above, root_within, root, graphs_make, is_made, counted_from, is_marked, is_counted, root_of, base_at, has_count}
 use Rattle.refcount_transform.specs.Counted.{struct_by, struct_at, counted}
 use Rattle.refcount_laws.proofs.Numbers.{Based, root_low, is_own_root}
 use Rattle.refcount_laws.proofs.Standing.{StructAt, marked_there}
-use Rattle.refcount_laws.proofs.Places.{base_of_struct}
 use Rattle.refcount_typed.proofs.Tests.{and_both, is_below}
 use Rattle.refcount_typed.proofs.Structs.{get_struct}
 

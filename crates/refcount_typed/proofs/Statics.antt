@@ -14,7 +14,7 @@ use Rattle.csub_tree.specs.declared.tree.CCell.TheFolds.{fold-roll-CCell, ind-CC
 use Rattle.ll_code.specs.declared.program.LlType.{LlType}
 use Rattle.ll_code.specs.declared.program.LlStruct.{LlStruct}
 use Rattle.ll_code.specs.declared.program.LlProgram.{LlProgram}
-use Rattle.ll_code.specs.Typed.{is_of, is_plain, all_plain, items_ok, fields_ok, based_ok, shaped_ok, cells_within, static_ok, statics_ok, base_of}
+use Rattle.ll_code.specs.Typed.{is_plain, all_plain, items_ok, fields_ok, based_ok, shaped_ok, cells_within, static_ok, statics_ok, base_of}
 use Rattle.ll_laws.proofs.Values.{and_left, and_right}
 use Rattle.refcount_transform.specs.Plan.{Plan, plan_of, has_count, is_counted, base_at}
 use Rattle.refcount_transform.specs.Counted as spec

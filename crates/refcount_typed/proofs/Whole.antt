@@ -1,6 +1,6 @@
 -- The counted program of a well-typed one is well typed.
-use Rattle.std.proofs.Common.{◌≡◌, ◌<◌, ◌≤◌, ℕ, zero, suc, ◌+◌, Bool, true, false, ◌&&◌, ◌||◌, ◌==◌, List, [], ◌∷◌, ◌++◌, length, map, Option, Some, None, refl, sym, ap, ◌∙◌, subst, arith}
-use Rattle.std.specs.Prelude.{slice_get, nat_lt, is_none, is_some, option_map}
+use Rattle.std.proofs.Common.{◌≡◌, ◌<◌, ℕ, zero, suc, ◌+◌, Bool, true, false, ◌&&◌, ◌||◌, ◌==◌, List, [], ◌∷◌, ◌++◌, length, map, Option, Some, None, refl, sym, ap, ◌∙◌, subst, arith}
+use Rattle.std.specs.Prelude.{slice_get, nat_lt, is_none}
 use Rattle.csub_tree.specs.Checked.{is_name}
 use Rattle.ll_code.specs.declared.program.LlStage.TheVariants as stage
 use Rattle.ll_code.specs.declared.program.LlType.{LlType}
@@ -9,26 +9,24 @@ use Rattle.ll_code.specs.declared.program.LlStruct.{LlStruct}
 use Rattle.ll_code.specs.declared.program.LlBlock.{LlBlock}
 use Rattle.ll_code.specs.declared.program.LlGraph.{LlGraph}
 use Rattle.ll_code.specs.declared.program.LlProgram.{LlProgram}
-use Rattle.ll_code.specs.Typed as rules
-use Rattle.ll_code.specs.Typed.{IsWellTyped, is_type, are_types, is_type_if_any, is_base, items_of, field_of, struct_ok, structs_ok, are_kinds, is_kind, is_type_given, params_ok, has_type, blocks_ok, graph_ok, graphs_ok, statics_ok, begins_run}
+use Rattle.ll_code.specs.Typed.{IsWellTyped, are_types, is_type_if_any, is_base, items_of, field_of, struct_ok, structs_ok, are_kinds, is_kind, is_type_given, params_ok, has_type, blocks_ok, graph_ok, graphs_ok, statics_ok, begins_run}
 use Rattle.ll_laws.proofs.Values.{and_left, and_right, is_same, is_less}
 use Rattle.refcount_transform.specs.declared.plan.Held.{Held}
-use Rattle.refcount_transform.specs.declared.slots.Slots.{Slots}
-use Rattle.refcount_transform.specs.Plan.{Plan, plan_of, blocks_make, graphs_make, counted_structs, set_by_blocks, referred_by, or_slots, slots_of, own_some, is_counted, root_of, reference_given, referred, items_referred, fields_given, fields_of, field_number, held_if, held_from, own_held, held_of}
+use Rattle.refcount_transform.specs.Plan.{Plan, plan_of, blocks_make, graphs_make, set_by_blocks, referred_by, or_slots, slots_of, own_some, is_counted, root_of, reference_given, referred, items_referred, fields_given, fields_of, field_number, held_if, held_from, own_held, held_of}
 use Rattle.refcount_transform.specs.Made.{put_graph, release_by, release_graph, slots_graph, slots_made, items_made, references_made, made_for, made_if, made_from, all_made}
-use Rattle.refcount_transform.specs.Blocks.{firsts, others, blocks_of, behind_exit, graph_of}
+use Rattle.refcount_transform.specs.Blocks.{blocks_of, graph_of}
 use Rattle.refcount_transform.specs.Changes.{around_of}
-use Rattle.refcount_transform.specs.Counted.{struct_by, struct_at, structs_from, structs_of, static_of, counted}
+use Rattle.refcount_transform.specs.Counted.{struct_by, struct_at, structs_from, counted}
 use Rattle.refcount_laws.specs.Graphs.{IsRoot}
 use Rattle.refcount_laws.specs.Made.{counts_of, is_root_given, all_lead, structs_lead, leads_to_roots}
-use Rattle.refcount_laws.proofs.Numbers.{Based, length_two}
+use Rattle.refcount_laws.proofs.Numbers.{Based}
 use Rattle.refcount_laws.proofs.Places.{given_marked}
-use Rattle.refcount_typed.specs.Leads.{graph_leads, graphs_lead, blocks_lead, LeadsToRoots}
+use Rattle.refcount_typed.specs.Leads.{graph_leads, graphs_lead, LeadsToRoots}
 use Rattle.refcount_typed.specs.Numbered.{number_first, structs_numbered, HasNumbers}
-use Rattle.refcount_typed.proofs.Tests.{and_both, is_below, get_map}
-use Rattle.refcount_typed.proofs.Structs.{structs_many, get_struct, items_same}
+use Rattle.refcount_typed.proofs.Tests.{and_both, is_below}
+use Rattle.refcount_typed.proofs.Structs.{structs_many, items_same}
 use Rattle.refcount_typed.proofs.Kept.{type_same, types_same, kind_same, kinds_same}
-use Rattle.refcount_typed.proofs.Fields.{given_is, given_root, placed, Right, AllRight, own_all_right, held_right}
+use Rattle.refcount_typed.proofs.Fields.{given_is, given_root, placed, AllRight, own_all_right, held_right}
 use Rattle.refcount_typed.proofs.Calls.{lead_at}
 use Rattle.refcount_typed.proofs.Roots.{counted_inside, root_counted, count_field, release_field}
 use Rattle.refcount_typed.proofs.Operations.{based, graph_there}
@@ -115,8 +113,8 @@ module _ (p : LlProgram) (ok : IsWellTyped p) (explicit : p.stage ≡ stage.Expl
       and_both ((((is_name g.name && are_kinds (counted p).structs g.types) && is_kind (counted p).structs g.result) && params_ok (counted p) g.types 0 g.params) && nat_lt 0 (length (graph_of plan g).blocks)) (blocks_ok (counted p) (graph_of plan g) (graph_of plan g).blocks)
       (and_both (((is_name g.name && are_kinds (counted p).structs g.types) && is_kind (counted p).structs g.result) && params_ok (counted p) g.types 0 g.params) (nat_lt 0 (length (graph_of plan g).blocks))
       (ap (λ b. ((is_name g.name && b) && is_kind (counted p).structs g.result) && params_ok (counted p) g.types 0 g.params) (kinds_same p g.types)
-       ∙ ap (λ b. ((is_name g.name && are_kinds p.structs g.types) && b) && params_ok (counted p) g.types 0 g.params) (kind_same p g.result)
-       ∙ ap (λ b. ((is_name g.name && are_kinds p.structs g.types) && is_kind p.structs g.result) && b) (params_same g.types 0 g.params) ∙ four)
+      ∙ ap (λ b. ((is_name g.name && are_kinds p.structs g.types) && b) && params_ok (counted p) g.types 0 g.params) (kind_same p g.result)
+      ∙ ap (λ b. ((is_name g.name && are_kinds p.structs g.types) && is_kind p.structs g.result) && b) (params_same g.types 0 g.params) ∙ four)
       (some_block g (and_right (((is_name g.name && are_kinds p.structs g.types) && is_kind p.structs g.result) && params_ok p g.types 0 g.params) _ five)))
       (blocks_fine p ok explicit leads graphs_do g (and_left _ _ (and_left _ _ l)) (and_right (all_lead plan g.types) _ (and_left _ _ l))
       (and_right ((((is_name g.name && are_kinds p.structs g.types) && is_kind p.structs g.result) && params_ok p g.types 0 g.params) && nat_lt 0 (length g.blocks)) _ h)
@@ -244,8 +242,8 @@ module _ (p : LlProgram) (ok : IsWellTyped p) (explicit : p.stage ≡ stage.Expl
   var_slot : (g : LlGraph) (v : ℕ) → graph_leads plan g ≡ true → Slot (referred_by plan.counted g.types v)
   var_slot g v l = record {
     by = λ n e. (
-      let r : IsRoot (counts_of plan) n = (given_marked plan.counted (slice_get g.types v) n e, given_root plan (reference_given plan.counted (slice_get g.types v)) n e (lead_at plan g.types v (and_left _ _ (and_left _ _ l)))) in
-      (r, inside_of n r.0));
+        let r : IsRoot (counts_of plan) n = (given_marked plan.counted (slice_get g.types v) n e, given_root plan (reference_given plan.counted (slice_get g.types v)) n e (lead_at plan g.types v (and_left _ _ (and_left _ _ l)))) in
+        (r, inside_of n r.0));
   }
 
   both_slots : (gs : List LlGraph) (k : ℕ) → graphs_lead plan gs ≡ true → Slot (slots_of plan.counted gs k).kind × Slot (slots_of plan.counted gs k).value

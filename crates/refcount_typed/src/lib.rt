@@ -4,4 +4,6 @@
 
 mod laws;
 
-pub use laws::{counted_programs_keep_names, counted_programs_keep_structs};
+pub use laws::{
+    counted_programs_are_well_typed, counted_programs_keep_names, counted_programs_keep_structs,
+};
