@@ -1,13 +1,18 @@
 // The operations of a block with their changes of counts.
+ghost use Rattle.std.specs.Prelude.{◌≡◌, ◌∷◌, [], ◌++◌, None, IfOk, OnOk};
+ghost use Rattle.refcount_transform.specs.Changes as c;
+ghost use Rattle.refcount_transform.specs.Made as made;
+ghost use Rattle.refcount_transform.specs.Seen.{the_plan, the_graph};
+
 use crate::copies::{copy_operands, copy_types};
-use crate::live::{among, is_live, push_reads, set_by};
 use crate::plan::{
-    Plan, add, counts_at, field_number, field_referred, fields_of, items_referred, put_of,
-    referred, root_of, shifted,
+    Held, Plan, add, counts_at, field_referred, held_of, is_counted, items_referred, put_of,
+    reference_given, referred, root_of, shifted,
 };
 use crate::slots::{Slots, own_some};
 use csub_tree::{CConst, COperand};
 use ll_code::{LlExit, LlOp, LlType, VarId};
+use ll_live::{among, among_operands, is_live, push_reads, set_by};
 use rpy_base::{NoMem, Seq};
 use std::alloc::Global;
 
@@ -18,15 +23,19 @@ pub struct Around<'a> {
     pub types: &'a [LlType],
 }
 
-fn var_referred(around: Around<'_>, v: VarId) -> Option<u64> {
+fn var_referred(around: Around<'_>, v: VarId) -> Option<u64>
+    ensures { result ≡ c.var_referred (the_graph around.entry) v }
+{
     match around.types.get(v as usize) {
         None => None,
-        Some(kind) => referred(around.plan, *kind),
+        Some(kind) => reference_given(around.plan.counted, Some(*kind)),
     }
 }
 
 // What an operand refers to. NULL refers to nothing.
-fn operand_referred(around: Around<'_>, x: COperand) -> Option<u64> {
+fn operand_referred(around: Around<'_>, x: COperand) -> Option<u64>
+    ensures { result ≡ c.operand_referred (the_graph around.entry) x }
+{
     match x {
         COperand::Var(v) => var_referred(around, v),
         COperand::Const(CConst::Static(n, _)) => referred(around.plan, LlType::Ptr(n)),
@@ -34,8 +43,10 @@ fn operand_referred(around: Around<'_>, x: COperand) -> Option<u64> {
     }
 }
 
-fn push_call(alloc: Global, graph: u64, x: COperand, into: &mut Seq<LlOp>) -> Result<(), NoMem> {
-    into.push(LlOp::Call(None, graph, copy_operands(alloc, &[x])?))
+fn push_call(alloc: Global, graph: u64, xs: &[COperand], into: &mut Seq<LlOp>) -> Result<(), NoMem>
+    ensures { OnOk result (into.new ≡ into.old ++ made.call graph xs.now ∷ []) }
+{
+    into.push(LlOp::Call(None, graph, copy_operands(alloc, xs)?))
 }
 
 /// One more reference, where the operand is one.
@@ -44,10 +55,12 @@ pub fn push_up(
     around: Around<'_>,
     x: COperand,
     into: &mut Seq<LlOp>,
-) -> Result<(), NoMem> {
+) -> Result<(), NoMem>
+    ensures { OnOk result (into.new ≡ into.old ++ c.up (the_graph around.entry) x []) }
+{
     match operand_referred(around, x) {
         None => Ok(()),
-        Some(n) => push_call(alloc, counts_at(around.plan, n).up, x, into),
+        Some(n) => push_call(alloc, counts_at(around.plan, n).up, &[x], into),
     }
 }
 
@@ -57,24 +70,29 @@ pub fn push_down(
     around: Around<'_>,
     v: VarId,
     into: &mut Seq<LlOp>,
-) -> Result<(), NoMem> {
+) -> Result<(), NoMem>
+    ensures { OnOk result (into.new ≡ into.old ++ c.down (the_graph around.entry) v []) }
+{
     match var_referred(around, v) {
         None => Ok(()),
         Some(n) => push_call(
             alloc,
             counts_at(around.plan, n).down,
-            COperand::Var(v),
+            &[COperand::Var(v)],
             into,
         ),
     }
 }
 
+#[tactic(auto, using(crate::proofs::Emitted::up_first))]
 fn push_ups(
     alloc: Global,
     around: Around<'_>,
     xs: &[COperand],
     into: &mut Seq<LlOp>,
-) -> Result<(), NoMem> {
+) -> Result<(), NoMem>
+    ensures { OnOk result (into.new ≡ into.old ++ c.ups (the_graph around.entry) xs.now []) }
+{
     for x in xs {
         push_up(alloc, around, *x, into)?;
     }
@@ -84,45 +102,35 @@ fn push_ups(
 // ---- new blocks
 
 // The fields that are references are NULL.
-fn push_nulls(plan: Plan<'_>, v: VarId, n: u64, into: &mut Seq<LlOp>) -> Result<(), NoMem> {
-    let kinds = fields_of(plan, n);
-    for place in 0..kinds.len() {
-        if referred(plan, kinds[place]).is_some() {
-            let number = field_number(plan, n, place as u64);
-            into.push(LlOp::SetField(n, v, number, COperand::Const(CConst::Null)))?;
-        }
-    }
-    Ok(())
-}
-
-// Those of the struct and of all its bases.
-fn push_all_nulls(plan: Plan<'_>, v: VarId, n: u64, into: &mut Seq<LlOp>) -> Result<(), NoMem> {
-    let mut at = Some(n);
-    for _ in 0..plan.structs.len() {
-        match at {
-            None => return Ok(()),
-            Some(m) => {
-                push_nulls(plan, v, m, into)?;
-                at = match plan.structs.get(m as usize) {
-                    None => None,
-                    Some(s) => s.base,
-                };
-            }
-        }
+fn push_nulls(v: VarId, held: &[Held], into: &mut Seq<LlOp>) -> Result<(), NoMem>
+    ensures { OnOk result (into.new ≡ into.old ++ c.nulls v held.now []) }
+{
+    for field in held {
+        let null = COperand::Const(CConst::Null);
+        into.push(LlOp::SetField(field.owner, v, field.number, null))?;
     }
     Ok(())
 }
 
 // A new block has one reference, is released by the graph of its struct, and refers to nothing.
-fn push_header(plan: Plan<'_>, v: VarId, n: u64, into: &mut Seq<LlOp>) -> Result<(), NoMem> {
-    if referred(plan, LlType::Ptr(n)).is_none() {
+fn push_header(
+    alloc: Global,
+    plan: Plan<'_>,
+    v: VarId,
+    n: u64,
+    into: &mut Seq<LlOp>,
+) -> Result<(), NoMem>
+    ensures { OnOk result (into.new ≡ into.old ++ c.header (the_plan plan.entry) v n []) }
+{
+    if !is_counted(plan, n) {
         return Ok(());
     }
     let first = root_of(plan, n);
     let release = CConst::Fun(counts_at(plan, n).release);
     into.push(LlOp::SetField(first, v, 0, COperand::Const(CConst::Word(1))))?;
     into.push(LlOp::SetField(first, v, 1, COperand::Const(release)))?;
-    push_all_nulls(plan, v, n, into)
+    let held = held_of(alloc, plan, n)?;
+    push_nulls(v, held.as_slice(), into)
 }
 
 fn push_cleared(
@@ -132,48 +140,55 @@ fn push_cleared(
     n: u64,
     count: COperand,
     into: &mut Seq<LlOp>,
-) -> Result<(), NoMem> {
-    if items_referred(plan, n).is_none() {
-        return Ok(());
+) -> Result<(), NoMem>
+    ensures { OnOk result (into.new ≡ into.old ++ c.cleared (the_plan plan.entry) v n count []) }
+{
+    match items_referred(plan, n) {
+        None => Ok(()),
+        Some(_) => {
+            let clear = add(counts_at(plan, n).items, 1)?;
+            push_call(alloc, clear, &[COperand::Var(v), count], into)
+        }
     }
-    let clear = add(counts_at(plan, n).items, 1)?;
-    let xs = copy_operands(alloc, &[COperand::Var(v), count])?;
-    into.push(LlOp::Call(None, clear, xs))
 }
 
 // ---- operations
 
-fn push_set_field(
+fn set_field(
     alloc: Global,
     plan: Plan<'_>,
     n: u64,
     b: VarId,
     k: u64,
     x: COperand,
-    into: &mut Seq<LlOp>,
-) -> Result<(), NoMem> {
-    if field_referred(plan, n, k).is_some() {
-        let xs = copy_operands(alloc, &[COperand::Var(b), x])?;
-        into.push(LlOp::Call(None, put_of(plan, n, k)?, xs))
-    } else {
-        into.push(LlOp::SetField(n, b, shifted(plan, n, k), x))
+) -> Result<LlOp, NoMem>
+    ensures { IfOk result (λ op. op ≡ c.set_field (the_plan plan.entry) n b k x) }
+{
+    match field_referred(plan, n, k) {
+        None => Ok(LlOp::SetField(n, b, shifted(plan, n, k)?, x)),
+        Some(_) => {
+            let xs = copy_operands(alloc, &[COperand::Var(b), x])?;
+            Ok(LlOp::Call(None, put_of(plan, n, k)?, xs))
+        }
     }
 }
 
-fn push_set_item(
+fn set_item(
     alloc: Global,
     plan: Plan<'_>,
     n: u64,
     b: VarId,
     i: COperand,
     x: COperand,
-    into: &mut Seq<LlOp>,
-) -> Result<(), NoMem> {
-    if items_referred(plan, n).is_some() {
-        let xs = copy_operands(alloc, &[COperand::Var(b), i, x])?;
-        into.push(LlOp::Call(None, counts_at(plan, n).items, xs))
-    } else {
-        into.push(LlOp::SetItem(n, b, i, x))
+) -> Result<LlOp, NoMem>
+    ensures { IfOk result (λ op. op ≡ c.set_item (the_plan plan.entry) n b i x) }
+{
+    match items_referred(plan, n) {
+        None => Ok(LlOp::SetItem(n, b, i, x)),
+        Some(_) => {
+            let xs = copy_operands(alloc, &[COperand::Var(b), i, x])?;
+            Ok(LlOp::Call(None, counts_at(plan, n).items, xs))
+        }
     }
 }
 
@@ -184,20 +199,40 @@ fn push_taken(
     a: VarId,
     op: LlOp,
     into: &mut Seq<LlOp>,
-) -> Result<(), NoMem> {
+) -> Result<(), NoMem>
+    ensures { OnOk result (into.new ≡ into.old ++ op ∷ c.up (the_graph around.entry) (COperand.Var a) []) }
+{
     into.push(op)?;
     push_up(alloc, around, COperand::Var(a), into)
 }
 
+#[tactic(auto, using(crate::proofs::Emitted::up_first))]
 fn push_assigned(
     alloc: Global,
     around: Around<'_>,
     a: VarId,
     x: COperand,
     into: &mut Seq<LlOp>,
-) -> Result<(), NoMem> {
+) -> Result<(), NoMem>
+    ensures { OnOk result (into.new ≡ into.old ++ c.changed (the_graph around.entry) (LlOp.Set a x) []) }
+{
     push_up(alloc, around, x, into)?;
     into.push(LlOp::Set(a, x))
+}
+
+// A call is given references of its own.
+fn push_call_with(
+    alloc: Global,
+    around: Around<'_>,
+    xs: &[COperand],
+    call: LlOp,
+    into: &mut Seq<LlOp>,
+) -> Result<(), NoMem>
+    ensures { OnOk result (into.new ≡ into.old ++ c.ups (the_graph around.entry) xs.now (call ∷ [])) }
+{
+    push_ups(alloc, around, xs, into)?;
+    into.push(call)?;
+    Ok(())
 }
 
 fn push_call_of(
@@ -207,57 +242,119 @@ fn push_call_of(
     graph: u64,
     xs: &[COperand],
     into: &mut Seq<LlOp>,
-) -> Result<(), NoMem> {
-    push_ups(alloc, around, xs, into)?;
-    into.push(LlOp::Call(to, graph, copy_operands(alloc, xs)?))
+) -> Result<(), NoMem>
+    ensures { OnOk result (into.new ≡ into.old ++ c.ups (the_graph around.entry) xs.now (LlOp.Call to graph xs.now ∷ [])) }
+{
+    let call = LlOp::Call(to, graph, copy_operands(alloc, xs)?);
+    push_call_with(alloc, around, xs, call, into)
 }
 
 fn push_call_fn(
     alloc: Global,
     around: Around<'_>,
-    op: &LlOp,
+    to: Option<VarId>,
+    gives: LlType,
+    params: &[LlType],
+    b: VarId,
+    xs: &[COperand],
     into: &mut Seq<LlOp>,
-) -> Result<(), NoMem> {
-    if let LlOp::CallFn(to, gives, params, b, xs) = op {
-        push_ups(alloc, around, xs.as_slice(), into)?;
-        let params = copy_types(alloc, params.as_slice())?;
-        let xs = copy_operands(alloc, xs.as_slice())?;
-        into.push(LlOp::CallFn(*to, *gives, params, *b, xs))?;
-    }
+) -> Result<(), NoMem>
+    ensures { OnOk result (into.new ≡ into.old ++ c.ups (the_graph around.entry) xs.now (LlOp.CallFn to gives params.now b xs.now ∷ [])) }
+{
+    let params = copy_types(alloc, params)?;
+    let call = LlOp::CallFn(to, gives, params, b, copy_operands(alloc, xs)?);
+    push_call_with(alloc, around, xs, call, into)
+}
+
+fn push_new(
+    alloc: Global,
+    around: Around<'_>,
+    a: VarId,
+    m: u64,
+    n: u64,
+    into: &mut Seq<LlOp>,
+) -> Result<(), NoMem>
+    ensures { OnOk result (into.new ≡ into.old ++ c.changed (the_graph around.entry) (LlOp.New a m n) []) }
+{
+    into.push(LlOp::New(a, m, n))?;
+    push_header(alloc, around.plan, a, n, into)
+}
+
+fn push_array_header(
+    alloc: Global,
+    plan: Plan<'_>,
+    a: VarId,
+    n: u64,
+    x: COperand,
+    into: &mut Seq<LlOp>,
+) -> Result<(), NoMem>
+    ensures { OnOk result (into.new ≡ into.old ++ c.header (the_plan plan.entry) a n (c.cleared (the_plan plan.entry) a n x [])) }
+{
+    push_header(alloc, plan, a, n, into)?;
+    push_cleared(alloc, plan, a, n, x, into)?;
     Ok(())
+}
+
+fn push_new_array(
+    alloc: Global,
+    around: Around<'_>,
+    a: VarId,
+    m: u64,
+    n: u64,
+    x: COperand,
+    into: &mut Seq<LlOp>,
+) -> Result<(), NoMem>
+    ensures { OnOk result (into.new ≡ into.old ++ c.changed (the_graph around.entry) (LlOp.NewArray a m n x) []) }
+{
+    into.push(LlOp::NewArray(a, m, n, x))?;
+    push_array_header(alloc, around.plan, a, n, x, into)
 }
 
 // ---- exception slots
 
 // What the slots hold is dropped.
-fn push_exc_clear(alloc: Global, slots: Slots, into: &mut Seq<LlOp>) -> Result<(), NoMem> {
+fn exc_clear(alloc: Global, slots: Slots) -> LlOp
+    ensures { result ≡ c.exc_clear slots }
+{
     if own_some(slots) {
-        into.push(LlOp::Call(None, slots.clear, Seq::new(alloc)))
+        LlOp::Call(None, slots.clear, Seq::new(alloc))
     } else {
-        into.push(LlOp::ExcClear)
+        LlOp::ExcClear
     }
 }
 
+fn push_emptied(alloc: Global, slots: Slots, into: &mut Seq<LlOp>) -> Result<(), NoMem>
+    ensures { OnOk result (into.new ≡ into.old ++ c.emptied slots []) }
+{
+    if own_some(slots) {
+        into.push(LlOp::Call(None, slots.clear, Seq::new(alloc)))?;
+    }
+    Ok(())
+}
+
 // The slots take a reference each, and drop those that they held.
+#[tactic(auto, using(crate::proofs::Emitted::up_first, crate::proofs::Emitted::emptied_first))]
 fn push_exc_set(
     alloc: Global,
     around: Around<'_>,
     a: VarId,
     b: VarId,
     into: &mut Seq<LlOp>,
-) -> Result<(), NoMem> {
+) -> Result<(), NoMem>
+    ensures { OnOk result (into.new ≡ into.old ++ c.changed (the_graph around.entry) (LlOp.ExcSet a b) []) }
+{
     push_up(alloc, around, COperand::Var(a), into)?;
     push_up(alloc, around, COperand::Var(b), into)?;
-    if own_some(around.plan.slots) {
-        push_exc_clear(alloc, around.plan.slots, into)?;
-    }
+    push_emptied(alloc, around.plan.slots, into)?;
     into.push(LlOp::ExcSet(a, b))
 }
 
 // ---- all operations
 
 // An operation that changes no count.
-fn push_plain(op: &LlOp, into: &mut Seq<LlOp>) -> Result<(), NoMem> {
+fn push_plain(op: &LlOp, into: &mut Seq<LlOp>) -> Result<(), NoMem>
+    ensures { OnOk result (into.new ≡ into.old ++ c.plain op.now) }
+{
     match op {
         LlOp::Unary(a, o, x) => into.push(LlOp::Unary(*a, *o, *x)),
         LlOp::Binary(a, o, x, y) => into.push(LlOp::Binary(*a, *o, *x, *y)),
@@ -273,41 +370,39 @@ fn push_plain(op: &LlOp, into: &mut Seq<LlOp>) -> Result<(), NoMem> {
 }
 
 // Of operations on blocks; the others are left.
-fn push_counted(
+fn push_changed(
     alloc: Global,
     around: Around<'_>,
     op: &LlOp,
     into: &mut Seq<LlOp>,
-) -> Result<(), NoMem> {
+) -> Result<(), NoMem>
+    ensures { OnOk result (into.new ≡ into.old ++ c.changed (the_graph around.entry) op.now []) }
+{
     let plan = around.plan;
     match op {
         LlOp::Set(a, x) => push_assigned(alloc, around, *a, *x, into),
         LlOp::GetField(a, n, b, k) => {
-            let op = LlOp::GetField(*a, *n, *b, shifted(plan, *n, *k));
+            let op = LlOp::GetField(*a, *n, *b, shifted(plan, *n, *k)?);
             push_taken(alloc, around, *a, op, into)
         }
         LlOp::GetItem(a, n, b, i) => {
             push_taken(alloc, around, *a, LlOp::GetItem(*a, *n, *b, *i), into)
         }
-        LlOp::SetField(n, b, k, x) => push_set_field(alloc, plan, *n, *b, *k, *x, into),
-        LlOp::SetItem(n, b, i, x) => push_set_item(alloc, plan, *n, *b, *i, *x, into),
-        LlOp::New(a, m, n) => {
-            into.push(LlOp::New(*a, *m, *n))?;
-            push_header(plan, *a, *n, into)
-        }
-        LlOp::NewArray(a, m, n, x) => {
-            into.push(LlOp::NewArray(*a, *m, *n, *x))?;
-            push_header(plan, *a, *n, into)?;
-            push_cleared(alloc, plan, *a, *n, *x, into)
-        }
+        LlOp::SetField(n, b, k, x) => into.push(set_field(alloc, plan, *n, *b, *k, *x)?),
+        LlOp::SetItem(n, b, i, x) => into.push(set_item(alloc, plan, *n, *b, *i, *x)?),
+        LlOp::New(a, m, n) => push_new(alloc, around, *a, *m, *n, into),
+        LlOp::NewArray(a, m, n, x) => push_new_array(alloc, around, *a, *m, *n, *x, into),
         LlOp::Call(to, graph, xs) => {
             push_call_of(alloc, around, *to, *graph, xs.as_slice(), into)
         }
-        LlOp::CallFn(_, _, _, _, _) => push_call_fn(alloc, around, op, into),
+        LlOp::CallFn(to, gives, params, b, xs) => {
+            let (params, xs) = (params.as_slice(), xs.as_slice());
+            push_call_fn(alloc, around, *to, *gives, params, *b, xs, into)
+        }
         LlOp::ExcType(a, n) => push_taken(alloc, around, *a, LlOp::ExcType(*a, *n), into),
         LlOp::ExcValue(a, n) => push_taken(alloc, around, *a, LlOp::ExcValue(*a, *n), into),
         LlOp::ExcSet(a, b) => push_exc_set(alloc, around, *a, *b, into),
-        LlOp::ExcClear => push_exc_clear(alloc, plan.slots, into),
+        LlOp::ExcClear => into.push(exc_clear(alloc, plan.slots)),
         _ => push_plain(op, into),
     }
 }
@@ -315,6 +410,7 @@ fn push_counted(
 // ---- what is dropped
 
 /// Drops each of these variables once that is not live in the rest of the block.
+#[tactic(auto, using(crate::proofs::Emitted::down_first))]
 pub fn push_dead(
     alloc: Global,
     around: Around<'_>,
@@ -322,7 +418,9 @@ pub fn push_dead(
     ops: &[LlOp],
     exit: &LlExit,
     into: &mut Seq<LlOp>,
-) -> Result<(), NoMem> {
+) -> Result<(), NoMem>
+    ensures { OnOk result (into.new ≡ into.old ++ c.dead (the_graph around.entry) variables.now ops.now exit.now []) }
+{
     let mut rest = variables;
     while let [v, others @ ..] = rest {
         if !among(*v, others) && !is_live(*v, ops, exit) {
@@ -334,7 +432,9 @@ pub fn push_dead(
 }
 
 // The variables that an operation reads, and the one that it sets.
-fn touched(alloc: Global, op: &LlOp) -> Result<Seq<VarId>, NoMem> {
+fn touched(alloc: Global, op: &LlOp) -> Result<Seq<VarId>, NoMem>
+    ensures { IfOk result (λ variables. variables ≡ c.touched op.now) }
+{
     let mut variables = Seq::new(alloc);
     push_reads(op, &mut variables)?;
     if let Some(a) = set_by(op) {
@@ -351,10 +451,62 @@ fn push_op(
     rest: &[LlOp],
     exit: &LlExit,
     into: &mut Seq<LlOp>,
-) -> Result<(), NoMem> {
-    push_counted(alloc, around, op, into)?;
+) -> Result<(), NoMem>
+    ensures { OnOk result (into.new ++ c.ops_of (the_graph around.entry) rest.now exit.now ≡ into.old ++ c.ops_of (the_graph around.entry) (op.now ∷ rest.now) exit.now) }
+{
+    push_changed(alloc, around, op, into)?;
     let variables = touched(alloc, op)?;
-    push_dead(alloc, around, variables.as_slice(), rest, exit, into)
+    push_dead(alloc, around, variables.as_slice(), rest, exit, into)?;
+    Ok(())
+}
+
+// ---- what an exit gives on
+
+fn is_given_later(x: COperand, others: &[COperand]) -> bool
+    ensures { result ≡ c.is_given_later x others.now }
+{
+    match x {
+        COperand::Var(v) => among_operands(v, others),
+        COperand::Const(_) => true,
+    }
+}
+
+/// One more reference for each operand but the last occurrence of a variable.
+#[tactic(auto, using(crate::proofs::Emitted::up_first))]
+pub fn push_given(
+    alloc: Global,
+    around: Around<'_>,
+    xs: &[COperand],
+    into: &mut Seq<LlOp>,
+) -> Result<(), NoMem>
+    ensures { OnOk result (into.new ≡ into.old ++ c.given (the_graph around.entry) xs.now []) }
+{
+    let mut rest = xs;
+    while let [x, others @ ..] = rest {
+        if is_given_later(*x, others) {
+            push_up(alloc, around, *x, into)?;
+        }
+        rest = others;
+    }
+    Ok(())
+}
+
+// Before an exit that is no test.
+fn push_leaving(
+    alloc: Global,
+    around: Around<'_>,
+    exit: &LlExit,
+    into: &mut Seq<LlOp>,
+) -> Result<(), NoMem>
+    ensures { OnOk result (into.new ≡ into.old ++ c.leaving (the_graph around.entry) exit.now) }
+{
+    match exit {
+        LlExit::Goto(link) | LlExit::OnRaise(_, _, link) => {
+            push_given(alloc, around, link.args.as_slice(), into)
+        }
+        LlExit::Return(Some(x)) => push_given(alloc, around, &[*x], into),
+        _ => Ok(()),
+    }
 }
 
 /// The operations of a block.
@@ -364,11 +516,13 @@ pub fn push_ops(
     ops: &[LlOp],
     exit: &LlExit,
     into: &mut Seq<LlOp>,
-) -> Result<(), NoMem> {
+) -> Result<(), NoMem>
+    ensures { OnOk result (into.new ≡ into.old ++ c.ops_of (the_graph around.entry) ops.now exit.now) }
+{
     let mut rest = ops;
     while let [op, others @ ..] = rest {
         push_op(alloc, around, op, others, exit, into)?;
         rest = others;
     }
-    Ok(())
+    push_leaving(alloc, around, exit, into)
 }

@@ -12,7 +12,6 @@
 mod changes;
 mod copies;
 mod counted;
-mod live;
 mod made;
 mod plan;
 mod releases;

@@ -1,8 +1,14 @@
 // The graphs that are made for a struct which is counted. They only borrow the references that they are
 // given, and pay no step.
-use crate::copies::copy_types;
+ghost use Rattle.std.specs.Prelude.{◌≡◌, ◌+◌, ◌∷◌, [], ◌++◌, map, None, pos, IfOk, OnOk};
+ghost use Rattle.std.specs.Fmt.{decimal};
+ghost use Rattle.refcount_transform.specs.Made as spec;
+ghost use Rattle.refcount_transform.specs.Plan as p;
+ghost use Rattle.refcount_transform.specs.Seen.{the_plan};
+
 use crate::plan::{
-    Plan, add, counts_at, field_number, fields_of, is_counted, items_referred, referred, root_of,
+    Held, Plan, add, counts_at, field_number, held_of, is_counted, items_referred, push_held,
+    root_of,
 };
 use crate::slots::{Slots, own_some};
 use csub_tree::{CBinary, CConst, COperand};
@@ -10,23 +16,61 @@ use ll_code::{LlBlock, LlExit, LlGraph, LlLink, LlOp, LlType, VarId};
 use rpy_base::{NoMem, Seq, Text, udecimal};
 use std::alloc::Global;
 
-const NULL: COperand = COperand::Const(CConst::Null);
-
 // ---- graphs, written down
 
-fn list<T: Drop, const N: usize>(alloc: Global, items: [T; N]) -> Result<Seq<T>, NoMem> {
+fn operands<const N: usize>(alloc: Global, items: [COperand; N]) -> Result<Seq<COperand>, NoMem>
+    ensures { IfOk result (λ list. list ≡ items.entry) }
+{
     let items = Vec::from_array(alloc, items)?;
     Ok(Seq::from_vec(items))
 }
 
-fn word(n: i64) -> COperand {
-    COperand::Const(CConst::Word(n))
+fn variables<const N: usize>(alloc: Global, items: [VarId; N]) -> Result<Seq<VarId>, NoMem>
+    ensures { IfOk result (λ list. list ≡ items.entry) }
+{
+    let items = Vec::from_array(alloc, items)?;
+    Ok(Seq::from_vec(items))
 }
 
-fn to<const N: usize>(alloc: Global, block: u64, args: [COperand; N]) -> Result<LlLink, NoMem> {
+fn operations<const N: usize>(alloc: Global, items: [LlOp; N]) -> Result<Seq<LlOp>, NoMem>
+    ensures { IfOk result (λ list. list ≡ items.entry) }
+{
+    let items = Vec::from_array(alloc, items)?;
+    Ok(Seq::from_vec(items))
+}
+
+fn types_of<const N: usize>(alloc: Global, items: [LlType; N]) -> Result<Seq<LlType>, NoMem>
+    ensures { IfOk result (λ list. list ≡ items.entry) }
+{
+    let items = Vec::from_array(alloc, items)?;
+    Ok(Seq::from_vec(items))
+}
+
+fn blocks_of<const N: usize>(alloc: Global, items: [LlBlock; N]) -> Result<Seq<LlBlock>, NoMem>
+    ensures { IfOk result (λ list. list ≡ items.entry) }
+{
+    let items = Vec::from_array(alloc, items)?;
+    Ok(Seq::from_vec(items))
+}
+
+fn null() -> COperand
+    ensures { result ≡ spec.null }
+{
+    COperand::Const(CConst::Null)
+}
+
+fn word(n: u8) -> COperand
+    ensures { result ≡ spec.word n }
+{
+    COperand::Const(CConst::Word(i64::from(n)))
+}
+
+fn to<const N: usize>(alloc: Global, block: u64, args: [COperand; N]) -> Result<LlLink, NoMem>
+    ensures { IfOk result (λ link. link ≡ spec.link_to block args.entry) }
+{
     Ok(LlLink {
         to: block,
-        args: list(alloc, args)?,
+        args: operands(alloc, args)?,
     })
 }
 
@@ -35,31 +79,55 @@ fn block<const I: usize, const N: usize>(
     inputs: [VarId; I],
     ops: [LlOp; N],
     exit: LlExit,
-) -> Result<LlBlock, NoMem> {
+) -> Result<LlBlock, NoMem>
+    ensures { IfOk result (λ block. block ≡ spec.block_with inputs.entry ops.entry exit) }
+{
     Ok(LlBlock {
-        inputs: list(alloc, inputs)?,
-        ops: list(alloc, ops)?,
+        inputs: variables(alloc, inputs)?,
+        ops: operations(alloc, ops)?,
         exit,
     })
 }
 
-fn call_of<const N: usize>(alloc: Global, graph: u64, xs: [COperand; N]) -> Result<LlOp, NoMem> {
-    Ok(LlOp::Call(None, graph, list(alloc, xs)?))
+fn call_of(alloc: Global, graph: u64, v: VarId) -> Result<LlOp, NoMem>
+    ensures { IfOk result (λ op. op ≡ spec.call graph (COperand.Var v ∷ [])) }
+{
+    Ok(LlOp::Call(None, graph, operands(alloc, [COperand::Var(v)])?))
 }
 
 // The word, and the number of the struct.
-fn named(alloc: Global, word: &[u8], n: u64) -> Result<Text, NoMem> {
+fn named(alloc: Global, word: &[u8], n: u64) -> Result<Text, NoMem>
+    ensures { IfOk result (λ name. name ≡ word.now ++ decimal n) }
+{
     let mut name = Text::from_bytes(alloc, word)?;
     name.append(udecimal(alloc, n)?.bytes())?;
     Ok(name)
 }
 
-fn first_variables(alloc: Global, count: u64) -> Result<Seq<VarId>, NoMem> {
+#[tactic(auto, using(crate::proofs::Numbers::number_pushed, crate::proofs::Numbers::numbers_done))]
+fn first_variables(alloc: Global, count: u64) -> Result<Seq<VarId>, NoMem>
+    ensures { IfOk result (λ variables. variables ≡ spec.first_variables count) }
+{
     let mut variables = Seq::new(alloc);
-    for v in 0..count {
+    let mut v: u64 = 0;
+    let mut left = count;
+    while left > 0 {
         variables.push(v)?;
+        v = add(v, 1)?;
+        left -= 1;
     }
     Ok(variables)
+}
+
+fn first_operands(alloc: Global, count: u64) -> Result<Seq<COperand>, NoMem>
+    ensures { IfOk result (λ xs. xs ≡ spec.first_operands count) }
+{
+    let variables = first_variables(alloc, count)?;
+    let mut xs = Seq::new(alloc);
+    for v in variables.as_slice() {
+        xs.push(COperand::Var(*v))?;
+    }
+    Ok(xs)
 }
 
 fn graph(
@@ -68,7 +136,9 @@ fn graph(
     params: u64,
     types: Seq<LlType>,
     blocks: Seq<LlBlock>,
-) -> Result<LlGraph, NoMem> {
+) -> Result<LlGraph, NoMem>
+    ensures { IfOk result (λ graph. graph ≡ spec.graph_with name params types blocks) }
+{
     Ok(LlGraph {
         name,
         params: first_variables(alloc, params)?,
@@ -79,20 +149,26 @@ fn graph(
 }
 
 // Where variable 0 is NULL the graph ends, else it goes on with block 1. Block 2 ends it.
-fn unless_null(alloc: Global) -> Result<LlBlock, NoMem> {
-    let test = LlOp::Binary(1, CBinary::Peq, COperand::Var(0), NULL);
+fn unless_null(alloc: Global) -> Result<LlBlock, NoMem>
+    ensures { IfOk result (λ block. block ≡ spec.unless_null) }
+{
+    let test = LlOp::Binary(1, CBinary::Peq, COperand::Var(0), null());
     let exit = LlExit::If(1, to(alloc, 2, [])?, to(alloc, 1, [COperand::Var(0)])?);
     block(alloc, [0], [test], exit)
 }
 
-fn ended(alloc: Global) -> Result<LlBlock, NoMem> {
+fn ended(alloc: Global) -> Result<LlBlock, NoMem>
+    ensures { IfOk result (λ block. block ≡ spec.ended) }
+{
     block(alloc, [], [], LlExit::Return(None))
 }
 
 // ---- references
 
-fn up_graph(alloc: Global, n: u64) -> Result<LlGraph, NoMem> {
-    let more = block(
+fn more(alloc: Global, n: u64) -> Result<LlBlock, NoMem>
+    ensures { IfOk result (λ block. block ≡ spec.more n) }
+{
+    block(
         alloc,
         [0],
         [
@@ -101,14 +177,21 @@ fn up_graph(alloc: Global, n: u64) -> Result<LlGraph, NoMem> {
             LlOp::SetField(n, 0, 0, COperand::Var(2)),
         ],
         LlExit::Return(None),
-    )?;
-    let types = list(alloc, [LlType::Ptr(n), LlType::Bool, LlType::Signed])?;
-    let blocks = list(alloc, [unless_null(alloc)?, more, ended(alloc)?])?;
+    )
+}
+
+fn up_graph(alloc: Global, n: u64) -> Result<LlGraph, NoMem>
+    ensures { IfOk result (λ graph. graph ≡ spec.up_graph n) }
+{
+    let types = types_of(alloc, [LlType::Ptr(n), LlType::Bool, LlType::Signed])?;
+    let blocks = blocks_of(alloc, [unless_null(alloc)?, more(alloc, n)?, ended(alloc)?])?;
     graph(alloc, named(alloc, b"count_s", n)?, 1, types, blocks)
 }
 
 // The count falls; where none is left the block is released by the graph that it names.
-fn less(alloc: Global, n: u64) -> Result<LlBlock, NoMem> {
+fn less(alloc: Global, n: u64) -> Result<LlBlock, NoMem>
+    ensures { IfOk result (λ block. block ≡ spec.less n) }
+{
     let exit = LlExit::If(3, to(alloc, 3, [COperand::Var(0)])?, to(alloc, 2, [])?);
     block(
         alloc,
@@ -123,9 +206,11 @@ fn less(alloc: Global, n: u64) -> Result<LlBlock, NoMem> {
     )
 }
 
-fn released(alloc: Global, n: u64) -> Result<LlBlock, NoMem> {
-    let params = list(alloc, [LlType::Ptr(n)])?;
-    let xs = list(alloc, [COperand::Var(0)])?;
+fn released(alloc: Global, n: u64) -> Result<LlBlock, NoMem>
+    ensures { IfOk result (λ block. block ≡ spec.released n) }
+{
+    let params = types_of(alloc, [LlType::Ptr(n)])?;
+    let xs = operands(alloc, [COperand::Var(0)])?;
     let call = LlOp::CallFn(None, LlType::Void, params, 4, xs);
     block(
         alloc,
@@ -135,8 +220,10 @@ fn released(alloc: Global, n: u64) -> Result<LlBlock, NoMem> {
     )
 }
 
-fn down_graph(alloc: Global, n: u64) -> Result<LlGraph, NoMem> {
-    let types = list(
+fn down_graph(alloc: Global, n: u64) -> Result<LlGraph, NoMem>
+    ensures { IfOk result (λ graph. graph ≡ spec.down_graph n) }
+{
+    let types = types_of(
         alloc,
         [
             LlType::Ptr(n),
@@ -146,7 +233,7 @@ fn down_graph(alloc: Global, n: u64) -> Result<LlGraph, NoMem> {
             LlType::Fn,
         ],
     )?;
-    let blocks = list(
+    let blocks = blocks_of(
         alloc,
         [
             unless_null(alloc)?,
@@ -160,54 +247,69 @@ fn down_graph(alloc: Global, n: u64) -> Result<LlGraph, NoMem> {
 
 // ---- fields and items that are references
 
-// Sets field `number` of struct n, which refers to struct m.
-fn put_graph(alloc: Global, plan: Plan<'_>, n: u64, number: u64, m: u64) -> Result<LlGraph, NoMem> {
-    let counts = counts_at(plan, m);
-    let body = block(
+// Takes a reference to the new value, sets the field, and drops the one that it held.
+fn put_body(alloc: Global, plan: Plan<'_>, held: Held) -> Result<LlBlock, NoMem>
+    ensures { IfOk result (λ block. block ≡ spec.put_body (the_plan plan.entry) held) }
+{
+    let counts = counts_at(plan, held.to);
+    block(
         alloc,
         [0, 1],
         [
-            call_of(alloc, counts.up, [COperand::Var(1)])?,
-            LlOp::GetField(2, n, 0, number),
-            LlOp::SetField(n, 0, number, COperand::Var(1)),
-            call_of(alloc, counts.down, [COperand::Var(2)])?,
+            call_of(alloc, counts.up, 1)?,
+            LlOp::GetField(2, held.owner, 0, held.number),
+            LlOp::SetField(held.owner, 0, held.number, COperand::Var(1)),
+            call_of(alloc, counts.down, 2)?,
         ],
         LlExit::Return(None),
-    )?;
-    let first = LlType::Ptr(root_of(plan, n));
-    let types = list(alloc, [first, LlType::Ptr(m), LlType::Ptr(m)])?;
-    let mut name = named(alloc, b"put_s", n)?;
-    name.append(b"_")?;
-    name.append(udecimal(alloc, number)?.bytes())?;
-    graph(alloc, name, 2, types, list(alloc, [body])?)
+    )
 }
 
-fn push_puts(alloc: Global, plan: Plan<'_>, n: u64, into: &mut Seq<LlGraph>) -> Result<(), NoMem> {
-    let kinds = fields_of(plan, n);
-    for place in 0..kinds.len() {
-        if let Some(m) = referred(plan, kinds[place]) {
-            let number = field_number(plan, n, place as u64);
-            into.push(put_graph(alloc, plan, n, number, m)?)?;
-        }
+fn put_graph(alloc: Global, plan: Plan<'_>, held: Held) -> Result<LlGraph, NoMem>
+    ensures { IfOk result (λ graph. graph ≡ spec.put_graph (the_plan plan.entry) held) }
+{
+    let first = LlType::Ptr(root_of(plan, held.owner));
+    let types = types_of(alloc, [first, LlType::Ptr(held.to), LlType::Ptr(held.to)])?;
+    let mut name = named(alloc, b"put_s", held.owner)?;
+    name.append(b"_")?;
+    name.append(udecimal(alloc, held.number)?.bytes())?;
+    let blocks = blocks_of(alloc, [put_body(alloc, plan, held)?])?;
+    graph(alloc, name, 2, types, blocks)
+}
+
+fn push_puts(alloc: Global, plan: Plan<'_>, n: u64, into: &mut Seq<LlGraph>) -> Result<(), NoMem>
+    ensures { OnOk result (into.new ≡ into.old ++ map (spec.put_graph (the_plan plan.entry)) (p.own_held (the_plan plan.entry) n)) }
+{
+    let mut held = Seq::new(alloc);
+    push_held(plan, n, &mut held)?;
+    for field in held.as_slice() {
+        into.push(put_graph(alloc, plan, *field)?)?;
     }
     Ok(())
 }
 
-// Sets an item of struct n, whose items refer to struct m.
-fn put_item_graph(alloc: Global, plan: Plan<'_>, n: u64, m: u64) -> Result<LlGraph, NoMem> {
+fn put_item_body(alloc: Global, plan: Plan<'_>, n: u64, m: u64) -> Result<LlBlock, NoMem>
+    ensures { IfOk result (λ block. block ≡ spec.put_item_body (the_plan plan.entry) n m) }
+{
     let counts = counts_at(plan, m);
-    let body = block(
+    block(
         alloc,
         [0, 1, 2],
         [
-            call_of(alloc, counts.up, [COperand::Var(2)])?,
+            call_of(alloc, counts.up, 2)?,
             LlOp::GetItem(3, n, 0, COperand::Var(1)),
             LlOp::SetItem(n, 0, COperand::Var(1), COperand::Var(2)),
-            call_of(alloc, counts.down, [COperand::Var(3)])?,
+            call_of(alloc, counts.down, 3)?,
         ],
         LlExit::Return(None),
-    )?;
-    let types = list(
+    )
+}
+
+// Sets an item of struct n, whose items refer to struct m.
+fn put_item_graph(alloc: Global, plan: Plan<'_>, n: u64, m: u64) -> Result<LlGraph, NoMem>
+    ensures { IfOk result (λ graph. graph ≡ spec.put_item_graph (the_plan plan.entry) n m) }
+{
+    let types = types_of(
         alloc,
         [
             LlType::Ptr(root_of(plan, n)),
@@ -217,28 +319,20 @@ fn put_item_graph(alloc: Global, plan: Plan<'_>, n: u64, m: u64) -> Result<LlGra
         ],
     )?;
     let name = named(alloc, b"put_item_s", n)?;
-    graph(alloc, name, 3, types, list(alloc, [body])?)
+    let blocks = blocks_of(alloc, [put_item_body(alloc, plan, n, m)?])?;
+    graph(alloc, name, 3, types, blocks)
 }
 
-// One item is NULL, and the next one follows.
-fn clear_one(alloc: Global, n: u64) -> Result<LlBlock, NoMem> {
-    let exit = LlExit::Goto(to(
-        alloc,
-        1,
-        [COperand::Var(0), COperand::Var(1), COperand::Var(2)],
-    )?);
-    block(
-        alloc,
-        [0, 1, 2],
-        [
-            LlOp::SetItem(n, 0, COperand::Var(2), NULL),
-            LlOp::Binary(2, CBinary::Add, COperand::Var(2), word(1)),
-        ],
-        exit,
-    )
+fn clear_start(alloc: Global) -> Result<LlBlock, NoMem>
+    ensures { IfOk result (λ block. block ≡ spec.clear_start) }
+{
+    let start = to(alloc, 1, [COperand::Var(0), COperand::Var(1), word(0)])?;
+    block(alloc, [0, 1], [], LlExit::Goto(start))
 }
 
-fn clear_test(alloc: Global) -> Result<LlBlock, NoMem> {
+fn clear_test(alloc: Global) -> Result<LlBlock, NoMem>
+    ensures { IfOk result (λ block. block ≡ spec.clear_test) }
+{
     let on = to(
         alloc,
         2,
@@ -252,10 +346,31 @@ fn clear_test(alloc: Global) -> Result<LlBlock, NoMem> {
     )
 }
 
+// One item is NULL, and the next one follows.
+fn clear_one(alloc: Global, n: u64) -> Result<LlBlock, NoMem>
+    ensures { IfOk result (λ block. block ≡ spec.clear_one n) }
+{
+    let exit = LlExit::Goto(to(
+        alloc,
+        1,
+        [COperand::Var(0), COperand::Var(1), COperand::Var(2)],
+    )?);
+    block(
+        alloc,
+        [0, 1, 2],
+        [
+            LlOp::SetItem(n, 0, COperand::Var(2), null()),
+            LlOp::Binary(2, CBinary::Add, COperand::Var(2), word(1)),
+        ],
+        exit,
+    )
+}
+
 // So many items of a new block are NULL.
-fn clear_graph(alloc: Global, plan: Plan<'_>, n: u64) -> Result<LlGraph, NoMem> {
-    let start = to(alloc, 1, [COperand::Var(0), COperand::Var(1), word(0)])?;
-    let types = list(
+fn clear_graph(alloc: Global, plan: Plan<'_>, n: u64) -> Result<LlGraph, NoMem>
+    ensures { IfOk result (λ graph. graph ≡ spec.clear_graph (the_plan plan.entry) n) }
+{
+    let types = types_of(
         alloc,
         [
             LlType::Ptr(root_of(plan, n)),
@@ -264,10 +379,10 @@ fn clear_graph(alloc: Global, plan: Plan<'_>, n: u64) -> Result<LlGraph, NoMem> 
             LlType::Bool,
         ],
     )?;
-    let blocks = list(
+    let blocks = blocks_of(
         alloc,
         [
-            block(alloc, [0, 1], [], LlExit::Goto(start))?,
+            clear_start(alloc)?,
             clear_test(alloc)?,
             clear_one(alloc, n)?,
             ended(alloc)?,
@@ -278,189 +393,150 @@ fn clear_graph(alloc: Global, plan: Plan<'_>, n: u64) -> Result<LlGraph, NoMem> 
 
 // ---- release
 
-// A field that is a reference: its struct, its number there, and what it refers to.
-#[derive(Clone, Copy)]
-struct Held {
-    owner: u64,
-    number: u64,
-    to: u64,
-}
-
-fn push_held_of(plan: Plan<'_>, n: u64, into: &mut Seq<Held>) -> Result<(), NoMem> {
-    let kinds = fields_of(plan, n);
-    for place in 0..kinds.len() {
-        if let Some(to) = referred(plan, kinds[place]) {
-            into.push(Held {
-                owner: n,
-                number: field_number(plan, n, place as u64),
-                to,
-            })?;
-        }
-    }
-    Ok(())
-}
-
-// The fields of a struct and of its bases.
-fn held_of(alloc: Global, plan: Plan<'_>, n: u64) -> Result<Seq<Held>, NoMem> {
-    let mut held = Seq::new(alloc);
-    let mut at = Some(n);
-    for _ in 0..plan.structs.len() {
-        match at {
-            None => return Ok(held),
-            Some(m) => {
-                push_held_of(plan, m, &mut held)?;
-                at = match plan.structs.get(m as usize) {
-                    None => None,
-                    Some(s) => s.base,
-                };
-            }
-        }
-    }
-    Ok(held)
-}
-
 // What is read of the fields stands in variables 1, 2 and so on.
-fn push_gets(held: &[Held], into: &mut Seq<LlOp>) -> Result<(), NoMem> {
+fn push_gets(held: &[Held], into: &mut Seq<LlOp>) -> Result<(), NoMem>
+    ensures { OnOk result (into.new ≡ into.old ++ spec.gets 1 held.now []) }
+{
     let mut v: u64 = 1;
-    for field in held {
+    let mut rest = held;
+    while let [field, others @ ..] = rest {
         into.push(LlOp::GetField(v, field.owner, 0, field.number))?;
         v = add(v, 1)?;
+        rest = others;
     }
     Ok(())
 }
 
+// They are dropped.
 fn push_drops(
     alloc: Global,
     plan: Plan<'_>,
     held: &[Held],
     into: &mut Seq<LlOp>,
-) -> Result<(), NoMem> {
+) -> Result<(), NoMem>
+    ensures { OnOk result (into.new ≡ into.old ++ spec.drops (the_plan plan.entry) 1 held.now []) }
+{
     let mut v: u64 = 1;
-    for field in held {
-        let down = counts_at(plan, field.to).down;
-        into.push(call_of(alloc, down, [COperand::Var(v)])?)?;
+    let mut rest = held;
+    while let [field, others @ ..] = rest {
+        into.push(call_of(alloc, counts_at(plan, field.to).down, v)?)?;
         v = add(v, 1)?;
-    }
-    Ok(())
-}
-
-fn push_held_types(held: &[Held], into: &mut Seq<LlType>) -> Result<(), NoMem> {
-    for field in held {
-        into.push(LlType::Ptr(field.to))?;
+        rest = others;
     }
     Ok(())
 }
 
 // The block is freed, and then what it held is dropped.
-fn freed(
+fn push_freed(
     alloc: Global,
     plan: Plan<'_>,
-    inputs: Seq<VarId>,
-    before: Seq<LlOp>,
     held: &[Held],
-) -> Result<LlBlock, NoMem> {
-    let mut ops = before;
-    ops.push(LlOp::Free(0))?;
-    push_drops(alloc, plan, held, &mut ops)?;
+    into: &mut Seq<LlOp>,
+) -> Result<(), NoMem>
+    ensures { OnOk result (into.new ≡ into.old ++ spec.freed (the_plan plan.entry) held.now) }
+{
+    into.push(LlOp::Free(0))?;
+    push_drops(alloc, plan, held, into)
+}
+
+// The root of the struct, and what the fields refer to.
+fn held_types(alloc: Global, plan: Plan<'_>, n: u64, held: &[Held]) -> Result<Seq<LlType>, NoMem>
+    ensures { IfOk result (λ types. types ≡ LlType.Ptr (p.root_of (the_plan plan.entry) n) ∷ spec.held_types held.now) }
+{
+    let mut types = types_of(alloc, [LlType::Ptr(root_of(plan, n))])?;
+    for field in held {
+        types.push(LlType::Ptr(field.to))?;
+    }
+    Ok(types)
+}
+
+#[tactic(auto, using(crate::proofs::Emitted::gets_first))]
+fn plain_body(alloc: Global, plan: Plan<'_>, held: &[Held]) -> Result<LlBlock, NoMem>
+    ensures { IfOk result (λ block. block ≡ spec.plain_body (the_plan plan.entry) held.now) }
+{
+    let mut ops = Seq::new(alloc);
+    push_gets(held, &mut ops)?;
+    push_freed(alloc, plan, held, &mut ops)?;
     Ok(LlBlock {
-        inputs,
+        inputs: first_variables(alloc, 1)?,
         ops,
         exit: LlExit::Return(None),
     })
 }
 
-fn first_type(alloc: Global, plan: Plan<'_>, n: u64) -> Result<Seq<LlType>, NoMem> {
-    list(alloc, [LlType::Ptr(root_of(plan, n))])
-}
-
-fn release_plain(alloc: Global, plan: Plan<'_>, n: u64, held: &[Held]) -> Result<LlGraph, NoMem> {
-    let mut types = first_type(alloc, plan, n)?;
-    push_held_types(held, &mut types)?;
-    let mut gets = Seq::new(alloc);
-    push_gets(held, &mut gets)?;
-    let inputs = first_variables(alloc, 1)?;
-    let body = freed(alloc, plan, inputs, gets, held)?;
-    let blocks = list(alloc, [body])?;
+fn release_plain(alloc: Global, plan: Plan<'_>, n: u64, held: &[Held]) -> Result<LlGraph, NoMem>
+    ensures { IfOk result (λ graph. graph ≡ spec.release_plain (the_plan plan.entry) n held.now) }
+{
+    let types = held_types(alloc, plan, n, held)?;
+    let blocks = blocks_of(alloc, [plain_body(alloc, plan, held)?])?;
     graph(alloc, named(alloc, b"release_s", n)?, 1, types, blocks)
 }
 
-fn push_vars(from: u64, upto: u64, into: &mut Seq<COperand>) -> Result<(), NoMem> {
-    for v in from..upto {
-        into.push(COperand::Var(v))?;
-    }
-    Ok(())
-}
-
-// To a block, with the first variables and a word behind them.
-fn first_to(
-    alloc: Global,
-    block: u64,
-    count: u64,
-    last: Option<COperand>,
-) -> Result<LlLink, NoMem> {
-    let mut args = Seq::new(alloc);
-    push_vars(0, count, &mut args)?;
-    if let Some(x) = last {
-        args.push(x)?;
-    }
+// To a block, with the first variables and an operand behind them.
+fn first_to(alloc: Global, block: u64, count: u64, last: COperand) -> Result<LlLink, NoMem>
+    ensures { IfOk result (λ link. link ≡ spec.link_to block (spec.first_operands count ++ last ∷ [])) }
+{
+    let mut args = first_operands(alloc, count)?;
+    args.push(last)?;
     Ok(LlLink { to: block, args })
 }
 
-// The variables of a release with items, behind the first one and the fields: the place, the number of
-// items, whether one is left, and an item.
+/// The variables of a release with items, behind the first one and the fields: the number of
+/// items, the place, whether one is left, and an item.
 #[derive(Clone, Copy)]
-struct Loop {
-    length: u64,
-    at: u64,
-    test: u64,
-    item: u64,
+pub struct Loop {
+    pub length: u64,
+    pub at: u64,
+    pub test: u64,
+    pub item: u64,
 }
 
-fn loop_behind(fields: u64) -> Result<Loop, NoMem> {
-    let length = add(fields, 1)?;
-    let at = add(length, 1)?;
-    let test = add(at, 1)?;
+fn loop_behind(fields: u64) -> Result<Loop, NoMem>
+    ensures { IfOk result (λ places. places ≡ spec.loop_behind fields) }
+{
     Ok(Loop {
-        length,
-        at,
-        test,
-        item: add(test, 1)?,
+        length: add(fields, 1)?,
+        at: add(fields, 2)?,
+        test: add(fields, 3)?,
+        item: add(fields, 4)?,
     })
 }
 
-fn push_loop_types(to: u64, types: &mut Seq<LlType>) -> Result<(), NoMem> {
-    types.push(LlType::Signed)?;
-    types.push(LlType::Signed)?;
-    types.push(LlType::Bool)?;
-    types.push(LlType::Ptr(to))
-}
-
 // The fields are read, and the number of items.
+#[tactic(auto, using(crate::proofs::Emitted::gets_first))]
 fn release_start(
     alloc: Global,
     plan: Plan<'_>,
     n: u64,
     held: &[Held],
     places: Loop,
-) -> Result<LlBlock, NoMem> {
+) -> Result<LlBlock, NoMem>
+    ensures { IfOk result (λ block. block ≡ spec.release_start (the_plan plan.entry) n held.now places) }
+{
     let mut ops = Seq::new(alloc);
     push_gets(held, &mut ops)?;
-    ops.push(LlOp::GetField(places.length, n, 0, field_number(plan, n, 0)))?;
+    let number = field_number(plan, n, 0)?;
+    ops.push(LlOp::GetField(places.length, n, 0, number))?;
     Ok(LlBlock {
         inputs: first_variables(alloc, 1)?,
         ops,
-        exit: LlExit::Goto(first_to(alloc, 1, places.at, Some(word(0)))?),
+        exit: LlExit::Goto(first_to(alloc, 1, places.at, word(0))?),
     })
 }
 
-fn release_test(alloc: Global, places: Loop) -> Result<LlBlock, NoMem> {
+fn release_test(alloc: Global, places: Loop) -> Result<LlBlock, NoMem>
+    ensures { IfOk result (λ block. block ≡ spec.release_test places) }
+{
     let at = COperand::Var(places.at);
     let test = LlOp::Binary(places.test, CBinary::Lt, at, COperand::Var(places.length));
-    let on = first_to(alloc, 2, places.at, Some(at))?;
-    let done = first_to(alloc, 3, places.length, None)?;
+    let on = first_to(alloc, 2, places.at, at)?;
+    let done = LlLink {
+        to: 3,
+        args: first_operands(alloc, places.length)?,
+    };
     Ok(LlBlock {
         inputs: first_variables(alloc, add(places.at, 1)?)?,
-        ops: list(alloc, [test])?,
+        ops: operations(alloc, [test])?,
         exit: LlExit::If(places.test, on, done),
     })
 }
@@ -472,21 +548,44 @@ fn release_one(
     n: u64,
     m: u64,
     places: Loop,
-) -> Result<LlBlock, NoMem> {
+) -> Result<LlBlock, NoMem>
+    ensures { IfOk result (λ block. block ≡ spec.release_one (the_plan plan.entry) n m places) }
+{
     let at = COperand::Var(places.at);
-    let ops = list(
+    let ops = operations(
         alloc,
         [
             LlOp::GetItem(places.item, n, 0, at),
-            call_of(alloc, counts_at(plan, m).down, [COperand::Var(places.item)])?,
+            call_of(alloc, counts_at(plan, m).down, places.item)?,
             LlOp::Binary(places.at, CBinary::Add, at, word(1)),
         ],
     )?;
     Ok(LlBlock {
         inputs: first_variables(alloc, add(places.at, 1)?)?,
         ops,
-        exit: LlExit::Goto(first_to(alloc, 1, places.at, Some(at))?),
+        exit: LlExit::Goto(first_to(alloc, 1, places.at, at)?),
     })
+}
+
+fn release_end(alloc: Global, plan: Plan<'_>, held: &[Held], places: Loop) -> Result<LlBlock, NoMem>
+    ensures { IfOk result (λ block. block ≡ spec.release_end (the_plan plan.entry) held.now places) }
+{
+    let mut ops = Seq::new(alloc);
+    push_freed(alloc, plan, held, &mut ops)?;
+    Ok(LlBlock {
+        inputs: first_variables(alloc, places.length)?,
+        ops,
+        exit: LlExit::Return(None),
+    })
+}
+
+fn push_loop_types(to: u64, types: &mut Seq<LlType>) -> Result<(), NoMem>
+    ensures { OnOk result (types.new ≡ types.old ++ spec.loop_types to) }
+{
+    types.push(LlType::Signed)?;
+    types.push(LlType::Signed)?;
+    types.push(LlType::Bool)?;
+    types.push(LlType::Ptr(to))
 }
 
 fn release_items(
@@ -495,25 +594,27 @@ fn release_items(
     n: u64,
     m: u64,
     held: &[Held],
-) -> Result<LlGraph, NoMem> {
+) -> Result<LlGraph, NoMem>
+    ensures { IfOk result (λ graph. graph ≡ spec.release_items (the_plan plan.entry) n m held.now) }
+{
     let places = loop_behind(held.len() as u64)?;
-    let mut types = first_type(alloc, plan, n)?;
-    push_held_types(held, &mut types)?;
+    let mut types = held_types(alloc, plan, n, held)?;
     push_loop_types(m, &mut types)?;
-    let inputs = first_variables(alloc, places.length)?;
-    let blocks = list(
+    let blocks = blocks_of(
         alloc,
         [
             release_start(alloc, plan, n, held, places)?,
             release_test(alloc, places)?,
             release_one(alloc, plan, n, m, places)?,
-            freed(alloc, plan, inputs, Seq::new(alloc), held)?,
+            release_end(alloc, plan, held, places)?,
         ],
     )?;
     graph(alloc, named(alloc, b"release_s", n)?, 1, types, blocks)
 }
 
-fn release_graph(alloc: Global, plan: Plan<'_>, n: u64) -> Result<LlGraph, NoMem> {
+fn release_graph(alloc: Global, plan: Plan<'_>, n: u64) -> Result<LlGraph, NoMem>
+    ensures { IfOk result (λ graph. graph ≡ spec.release_graph (the_plan plan.entry) n) }
+{
     let held = held_of(alloc, plan, n)?;
     match items_referred(plan, n) {
         None => release_plain(alloc, plan, n, held.as_slice()),
@@ -523,14 +624,18 @@ fn release_graph(alloc: Global, plan: Plan<'_>, n: u64) -> Result<LlGraph, NoMem
 
 // ---- exception slots
 
-fn push_kind_read(held: Option<u64>, into: &mut Seq<LlOp>) -> Result<(), NoMem> {
+fn push_kind_read(held: Option<u64>, into: &mut Seq<LlOp>) -> Result<(), NoMem>
+    ensures { OnOk result (into.new ≡ into.old ++ spec.kind_read held []) }
+{
     match held {
         None => Ok(()),
         Some(n) => into.push(LlOp::ExcType(0, n)),
     }
 }
 
-fn push_value_read(held: Option<u64>, into: &mut Seq<LlOp>) -> Result<(), NoMem> {
+fn push_value_read(held: Option<u64>, into: &mut Seq<LlOp>) -> Result<(), NoMem>
+    ensures { OnOk result (into.new ≡ into.old ++ spec.value_read held []) }
+{
     match held {
         None => Ok(()),
         Some(n) => into.push(LlOp::ExcValue(1, n)),
@@ -543,22 +648,28 @@ fn push_slot_drop(
     v: VarId,
     held: Option<u64>,
     into: &mut Seq<LlOp>,
-) -> Result<(), NoMem> {
+) -> Result<(), NoMem>
+    ensures { OnOk result (into.new ≡ into.old ++ spec.slot_drop (the_plan plan.entry) v held []) }
+{
     match held {
         None => Ok(()),
-        Some(n) => into.push(call_of(alloc, counts_at(plan, n).down, [COperand::Var(v)])?),
+        Some(n) => into.push(call_of(alloc, counts_at(plan, n).down, v)?),
     }
 }
 
-fn slot_type(held: Option<u64>) -> LlType {
+fn slot_type(held: Option<u64>) -> LlType
+    ensures { result ≡ spec.slot_type held }
+{
     match held {
         None => LlType::Void,
         Some(n) => LlType::Ptr(n),
     }
 }
 
-// Empties the exception slots, and then drops what they held.
-fn slots_graph(alloc: Global, plan: Plan<'_>) -> Result<LlGraph, NoMem> {
+#[tactic(auto, using(crate::proofs::Emitted::kind_first, crate::proofs::Emitted::value_first, crate::proofs::Emitted::drop_first))]
+fn slots_body(alloc: Global, plan: Plan<'_>) -> Result<LlBlock, NoMem>
+    ensures { IfOk result (λ block. block ≡ spec.slots_body (the_plan plan.entry) plan.entry.slots) }
+{
     let Slots { kind, value, .. } = plan.slots;
     let mut ops = Seq::new(alloc);
     push_kind_read(kind, &mut ops)?;
@@ -566,18 +677,28 @@ fn slots_graph(alloc: Global, plan: Plan<'_>) -> Result<LlGraph, NoMem> {
     ops.push(LlOp::ExcClear)?;
     push_slot_drop(alloc, plan, 0, kind, &mut ops)?;
     push_slot_drop(alloc, plan, 1, value, &mut ops)?;
-    let body = LlBlock {
+    Ok(LlBlock {
         inputs: Seq::new(alloc),
         ops,
         exit: LlExit::Return(None),
-    };
-    let types = list(alloc, [slot_type(kind), slot_type(value)])?;
-    let name = Text::from_bytes(alloc, b"clear_exception")?;
-    graph(alloc, name, 0, types, list(alloc, [body])?)
+    })
 }
 
-/// The graph that empties the exception slots, where they own something.
-pub fn push_slots(alloc: Global, plan: Plan<'_>, into: &mut Seq<LlGraph>) -> Result<(), NoMem> {
+// Empties the exception slots, and then drops what they held.
+fn slots_graph(alloc: Global, plan: Plan<'_>) -> Result<LlGraph, NoMem>
+    ensures { IfOk result (λ graph. graph ≡ spec.slots_graph (the_plan plan.entry)) }
+{
+    let Slots { kind, value, .. } = plan.slots;
+    let types = types_of(alloc, [slot_type(kind), slot_type(value)])?;
+    let name = Text::from_bytes(alloc, b"clear_exception")?;
+    let blocks = blocks_of(alloc, [slots_body(alloc, plan)?])?;
+    graph(alloc, name, 0, types, blocks)
+}
+
+// That graph, where the slots own something.
+fn push_slots(alloc: Global, plan: Plan<'_>, into: &mut Seq<LlGraph>) -> Result<(), NoMem>
+    ensures { OnOk result (into.new ≡ into.old ++ spec.slots_made (the_plan plan.entry) (p.own_some plan.entry.slots)) }
+{
     if own_some(plan.slots) {
         into.push(slots_graph(alloc, plan)?)?;
     }
@@ -586,40 +707,74 @@ pub fn push_slots(alloc: Global, plan: Plan<'_>, into: &mut Seq<LlGraph>) -> Res
 
 // ---- all of them
 
-fn push_items(alloc: Global, plan: Plan<'_>, n: u64, into: &mut Seq<LlGraph>) -> Result<(), NoMem> {
-    if let Some(m) = items_referred(plan, n) {
-        into.push(put_item_graph(alloc, plan, n, m)?)?;
-        into.push(clear_graph(alloc, plan, n)?)?;
+fn push_two(one: LlGraph, other: LlGraph, into: &mut Seq<LlGraph>) -> Result<(), NoMem>
+    ensures { OnOk result (into.new ≡ into.old ++ one ∷ other ∷ []) }
+{
+    into.push(one)?;
+    into.push(other)
+}
+
+fn push_items(
+    alloc: Global,
+    plan: Plan<'_>,
+    n: u64,
+    held: Option<u64>,
+    into: &mut Seq<LlGraph>,
+) -> Result<(), NoMem>
+    ensures { OnOk result (into.new ≡ into.old ++ spec.items_made (the_plan plan.entry) n held) }
+{
+    match held {
+        None => Ok(()),
+        Some(m) => {
+            let put = put_item_graph(alloc, plan, n, m)?;
+            push_two(put, clear_graph(alloc, plan, n)?, into)
+        }
     }
-    Ok(())
 }
 
 fn push_references(
     alloc: Global,
-    plan: Plan<'_>,
+    is_root: bool,
     n: u64,
     into: &mut Seq<LlGraph>,
-) -> Result<(), NoMem> {
-    if root_of(plan, n) == n {
+) -> Result<(), NoMem>
+    ensures { OnOk result (into.new ≡ into.old ++ spec.references_made n is_root) }
+{
+    if is_root {
         into.push(up_graph(alloc, n)?)?;
         into.push(down_graph(alloc, n)?)?;
     }
     Ok(())
 }
 
-fn push_made(alloc: Global, plan: Plan<'_>, n: u64, into: &mut Seq<LlGraph>) -> Result<(), NoMem> {
+fn push_made(alloc: Global, plan: Plan<'_>, n: u64, into: &mut Seq<LlGraph>) -> Result<(), NoMem>
+    ensures { OnOk result (into.new ≡ into.old ++ spec.made_for (the_plan plan.entry) n) }
+{
     into.push(release_graph(alloc, plan, n)?)?;
     push_puts(alloc, plan, n, into)?;
-    push_items(alloc, plan, n, into)?;
-    push_references(alloc, plan, n, into)
+    push_items(alloc, plan, n, items_referred(plan, n), into)?;
+    push_references(alloc, root_of(plan, n) == n, n, into)
 }
 
-/// The graphs of all structs that are counted.
-pub fn push_all_made(alloc: Global, plan: Plan<'_>, into: &mut Seq<LlGraph>) -> Result<(), NoMem> {
-    for n in 0..plan.structs.len() {
-        if is_counted(plan, n as u64) {
-            push_made(alloc, plan, n as u64, into)?;
+fn push_structs(alloc: Global, plan: Plan<'_>, into: &mut Seq<LlGraph>) -> Result<(), NoMem>
+    ensures { OnOk result (into.new ≡ into.old ++ spec.made_from (the_plan plan.entry) 0 (the_plan plan.entry).structs) }
+{
+    let mut n: u64 = 0;
+    let mut rest = plan.structs;
+    while let [_, others @ ..] = rest {
+        if is_counted(plan, n) {
+            push_made(alloc, plan, n, into)?;
         }
+        n = add(n, 1)?;
+        rest = others;
     }
     Ok(())
+}
+
+/// The graph for the slots, and the graphs of all structs that are counted.
+pub fn push_all_made(alloc: Global, plan: Plan<'_>, into: &mut Seq<LlGraph>) -> Result<(), NoMem>
+    ensures { OnOk result (into.new ≡ into.old ++ spec.all_made (the_plan plan.entry)) }
+{
+    push_slots(alloc, plan, into)?;
+    push_structs(alloc, plan, into)
 }
