@@ -1,0 +1,7 @@
+pub mod Ghost
+pub mod Graphs
+pub mod Made
+pub mod Owned
+pub mod Reach
+pub mod Runs
+pub mod Touched

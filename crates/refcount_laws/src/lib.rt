@@ -1,0 +1,9 @@
+//! Laws of counted programs: references are counted, and blocks are released, as the counts say.
+#![tactic(auto)]
+
+mod laws;
+
+pub use laws::{
+    counted_programs_have_their_graphs, dropped_references_release, references_are_counted,
+    references_are_written,
+};
