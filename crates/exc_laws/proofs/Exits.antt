@@ -1,5 +1,5 @@
 -- The machine of the explicit program follows the exits of blocks.
-use Rattle.std.proofs.Common.{◌∷◌, ◌≡◌, ◌<◌, ◌≤◌, ℕ, ◌+◌, Bool, true, false, ◌==◌, List, [], length, Option, Some, None, Result, Ok, Err, refl, sym, ap, ◌∙◌, subst, arith}
+use Rattle.std.proofs.Common.{◌∷◌, ◌≡◌, ◌<◌, ℕ, ◌+◌, Bool, true, false, ◌==◌, List, [], length, Option, Some, None, Result, Ok, Err, refl, sym, ap, ◌∙◌, subst}
 use Rattle.std.specs.Prelude.{slice_get, cond, option_map}
 use Rattle.std.proofs.lemmas.Option.{slice_get_within}
 use Rattle.rpy_base.specs.declared.outcome.FailName.{FailName}
@@ -34,7 +34,7 @@ use Rattle.exc_laws.specs.Follows.{Leads, Does, Follows}
 use Rattle.exc_laws.proofs.Tests.{or_first, or_second, equals, get_left}
 use Rattle.exc_laws.proofs.Lives.{among_left, among_right, among_own, needed_live}
 use Rattle.exc_laws.proofs.Operations.{SameOn, operand_same, reached_same}
-use Rattle.exc_laws.proofs.Slots.{nothing, one, then, Raised, raising_end}
+use Rattle.exc_laws.proofs.Slots.{nothing, then, Raised, raising_end}
 use Rattle.exc_laws.proofs.Jumps.{graph_made, jump_follows}
 
 module _ (p : LlProgram) (raises : graphs_calm p.graphs ≡ false) (closed : IsClosed p) (args : List (List ℕ)) where

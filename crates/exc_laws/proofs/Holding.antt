@@ -1,8 +1,7 @@
 -- What the explicit program reads on, the program does too.
-use Rattle.std.proofs.Common.{◌≡◌, ℕ, ◌+◌, Bool, true, false, ◌&&◌, ◌||◌, ◌==◌, List, [], ◌∷◌, ◌++◌, length, map, Option, Some, None, refl, sym, ap, ◌∙◌, subst, ◌⊎◌, inl, inr}
+use Rattle.std.proofs.Common.{◌≡◌, ℕ, Bool, true, false, ◌&&◌, ◌||◌, ◌==◌, List, [], ◌∷◌, ◌++◌, Option, Some, None, refl, sym, ap, ◌∙◌, subst, ◌⊎◌, inl, inr}
 use Rattle.std.specs.Prelude.{not, cond}
-use Rattle.csub_tree.specs.declared.tree.COperand.{COperand}
-use Rattle.csub_tree.specs.declared.tree.COperand.TheVariants.{Var, Const}
+use Rattle.csub_tree.specs.declared.tree.COperand.TheVariants.{Var}
 use Rattle.ll_code.specs.declared.program.LlType.{LlType}
 use Rattle.ll_code.specs.declared.program.LlType.TheVariants as type
 use Rattle.ll_code.specs.declared.program.LlLink.{LlLink}
@@ -12,20 +11,19 @@ use Rattle.ll_code.specs.declared.program.LlExit.{LlExit}
 use Rattle.ll_code.specs.declared.program.LlExit.TheVariants as exit
 use Rattle.ll_code.specs.declared.program.LlGraph.{LlGraph}
 use Rattle.ll_code.specs.declared.program.LlProgram.{LlProgram}
-use Rattle.ll_laws.proofs.Values.{and_left, and_right}
-use Rattle.ll_live.specs.Live.{among, variables_in, variables_given, reads, set_by, sets, exit_variables, handler_variable, live as reads_on}
+use Rattle.ll_live.specs.Live.{among, variables_in, reads, set_by, sets, exit_variables, live as reads_on}
 use Rattle.ll_held.proofs.Keeping.{or_left, or_right, or_one}
 use Rattle.exc_transform.specs.declared.family.Family.{Family}
 use Rattle.exc_transform.specs.declared.pieces.Ending.{Ending}
 use Rattle.exc_transform.specs.declared.pieces.Ending.TheVariants.{Leaves, Raises, Tested}
-use Rattle.exc_transform.specs.Explicit.{is_tested, default_of, led_to, same_led, or_else, raising, raising_by, testing, taking, giving, left_ops, left_exit, way_ops, way_exit, raised_ops}
+use Rattle.exc_transform.specs.Explicit.{is_tested, default_of, led_to, same_led, raising, raising_by, testing, taking, way_ops, way_exit, raised_ops}
 use Rattle.exc_transform.specs.Raising.{may_raise}
-use Rattle.exc_transform.specs.Live.{read_behind, handler_reads, exit_reads, as_operands, live}
+use Rattle.exc_transform.specs.Live.{read_behind, handler_reads, as_operands, live}
 use Rattle.exc_transform.specs.Pieces.{Around, onward, on_by, on, test_exit, ending_in, ops_by, exit_by, piece_ops, piece_exit}
 use Rattle.exc_transform.proofs.Without.{raises_is, tested_calm}
 use Rattle.exc_laws.specs.Ready.{marks_of, any_of}
 use Rattle.exc_laws.specs.Stands.{around_in, needs, PieceAt, TestAt}
-use Rattle.exc_laws.proofs.Lives.{among_left, among_right, new_in, needed_live, live_needed, behind_reads, more_needed, handled_needed, among_either}
+use Rattle.exc_laws.proofs.Lives.{new_in, live_needed, behind_reads, more_needed, handled_needed, among_either}
 
 -- ---- truth values
 

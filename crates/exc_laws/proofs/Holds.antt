@@ -1,39 +1,38 @@
 -- Whole runs: the explicit program holds no more than the program, and its small runs stay small.
-use Rattle.std.proofs.Common.{◌≡◌, ◌<◌, ◌≤◌, ℕ, zero, suc, ◌+◌, ◌^◌, Bool, true, false, List, [], ◌∷◌, ◌++◌, length, Option, Some, None, refl, sym, ap, ◌∙◌, subst, arith}
+use Rattle.std.proofs.Common.{◌≡◌, ◌≤◌, ℕ, zero, suc, Bool, true, false, List, [], ◌∷◌, ◌++◌, refl, sym, ap, ◌∙◌, subst, arith}
 use Rattle.std.specs.Prelude.{slice_get}
 use Rattle.rpy_base.specs.declared.outcome.Outcome.{Outcome}
-use Rattle.csub_tree.specs.State.{Value, Core, Event}
+use Rattle.csub_tree.specs.State.{Core, Event}
 use Rattle.ll_code.specs.State.{Frame, State, Calling, At, Returning, Throwing, Next, Goes, Puts, Tells, Ends, Sticks}
 use Rattle.ll_code.specs.Machine.{step, start}
-use Rattle.ll_code.specs.Meaning.{Ran, Ended, Unfinished, follow, run}
+use Rattle.ll_code.specs.Meaning.{Unfinished, follow, run}
 use Rattle.ll_code.specs.Typed.{IsWellTyped}
 use Rattle.ll_code.specs.declared.program.LlStage.TheVariants as stage
-use Rattle.ll_code.specs.declared.program.LlGraph.{LlGraph}
 use Rattle.ll_code.specs.declared.program.LlProgram.{LlProgram}
 use Rattle.ll_laws.specs.States.{StateFits, NextFits}
 use Rattle.ll_laws.proofs.Steps.{step_fits}
 use Rattle.ll_laws.proofs.Runs.{start_fits}
 use Rattle.ll_live.specs.Live.{live as reads_on}
 use Rattle.ll_held.specs.Roots.{kept, waits_for, waiting_roots, slots, roots, core_of}
-use Rattle.ll_held.specs.Held.{is_reference, references, references_in, cells_at, are_distinct, AllHeld, Held, IsBelow}
+use Rattle.ll_held.specs.Held.{references, Held}
 use Rattle.ll_held.specs.Places.{IsPlaced}
 use Rattle.ll_held.specs.Quiet.{Calm, Stay, Go, StaticsAreApart, frames_of, Near}
-use Rattle.ll_held.proofs.Keeping.{references_append, held_on}
+use Rattle.ll_held.proofs.Keeping.{held_on}
 use Rattle.ll_held.proofs.Placing.{NextPlaced, step_placed, start_placed}
 use Rattle.ll_held.proofs.Calming.{near_self, near_then, quiet_near}
 use Rattle.exc_transform.specs.Explicit.{graphs_calm, restaged}
 use Rattle.exc_transform.specs.Pieces.{explicit}
 use Rattle.exc_transform.proofs.Without.{explicit_same}
-use Rattle.exc_laws.specs.Ready.{IsClosed, IsReady}
-use Rattle.exc_laws.specs.Stands.{Stands, Wait}
-use Rattle.exc_laws.specs.Follows.{Does, Follows}
+use Rattle.exc_laws.specs.Ready.{IsClosed}
+use Rattle.exc_laws.specs.Stands.{Stands}
+use Rattle.exc_laws.specs.Follows.{Follows}
 use Rattle.exc_laws.specs.Alike.{Allows}
 use Rattle.exc_laws.specs.Holds.{HoldsNoMore, Found, AreApartOn}
 use Rattle.exc_laws.proofs.Without.{step_same, run_same}
 use Rattle.exc_laws.proofs.WellTyped.{explicit_typed}
 use Rattle.exc_laws.proofs.Steps.{step_follows}
 use Rattle.exc_laws.proofs.Roots.{stands_held, waiting_fewer, explicit_reads}
-use Rattle.exc_laws.proofs.Whole.{ReadyFrom, later_ready, calm_placed, does_placed, one_more}
+use Rattle.exc_laws.proofs.Whole.{ReadyFrom, does_placed, one_more}
 
 module _ (p : LlProgram) (ok : IsWellTyped p) (raw : p.stage ≡ stage.Raw) (raises : graphs_calm p.graphs ≡ false) (closed : IsClosed p) (args : List (List ℕ)) where
   -- ---- a state some quiet steps behind one that stands

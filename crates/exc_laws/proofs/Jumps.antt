@@ -22,13 +22,13 @@ use Rattle.ll_live.specs.Live.{among, variables_in}
 use Rattle.exc_transform.specs.Pieces.{test_types, explicit, graph_of, graphs_of, piece, piece_ops, piece_exit, behind}
 use Rattle.exc_laws.specs.Ready.{marks_of, any_of, exceptions_of, IsClosed}
 use Rattle.exc_laws.specs.Stands.{explicit_graph, around_in, From, Beside, IsClear, Wait}
-use Rattle.exc_laws.specs.Follows.{Leads, Does, Follows}
+use Rattle.exc_laws.specs.Follows.{Leads, Follows}
 use Rattle.exc_laws.proofs.Tests.{length_map, length_both, get_map, get_left}
 use Rattle.exc_laws.proofs.Places.{block_placed}
 use Rattle.exc_laws.proofs.Lives.{needed_live}
 use Rattle.exc_laws.proofs.Marks.{block_leaving, block_testing}
 use Rattle.exc_laws.proofs.Operations.{SameOn, operands_same}
-use Rattle.exc_laws.proofs.Slots.{set_here, set_elsewhere, one, then}
+use Rattle.exc_laws.proofs.Slots.{set_here, set_elsewhere}
 
 -- ---- inputs that take their values
 

@@ -1,7 +1,7 @@
 -- The roots of a state of the explicit program are held where it stands for one of the program.
-use Rattle.std.proofs.Common.{◌≡◌, ◌<◌, ◌≤◌, ℕ, zero, suc, ◌+◌, Bool, true, false, ◌&&◌, ◌||◌, ◌==◌, List, [], ◌∷◌, ◌++◌, length, map, Option, Some, None, refl, sym, ap, ◌∙◌, subst, arith, ◌⊎◌, inl, inr}
+use Rattle.std.proofs.Common.{◌≡◌, ◌<◌, ◌≤◌, ℕ, zero, suc, ◌+◌, Bool, true, false, ◌&&◌, List, [], ◌∷◌, ◌++◌, length, Option, Some, None, refl, sym, ap, ◌∙◌, subst, arith, ◌⊎◌, inl, inr}
 use Rattle.std.specs.Prelude.{not, cond, slice_get, is_some}
-use Rattle.csub_tree.specs.State.{Value, Null, Ptr, Static, Core}
+use Rattle.csub_tree.specs.State.{Null, Ptr, Core}
 use Rattle.csub_tree.specs.Statement.{read}
 use Rattle.ll_code.specs.State.{Frame, State, Calling, At, Returning, Throwing}
 use Rattle.ll_code.specs.declared.program.LlOp.{LlOp}
@@ -11,16 +11,16 @@ use Rattle.ll_code.specs.declared.program.LlGraph.{LlGraph}
 use Rattle.ll_code.specs.declared.program.LlProgram.{LlProgram}
 use Rattle.ll_live.specs.Live.{among, sets, live as reads_on}
 use Rattle.ll_held.specs.Roots.{kept, under_way, read_by, waits_for, waiting_roots, slots, roots, core_of}
-use Rattle.ll_held.specs.Held.{times, references, is_reference, Held, Root}
-use Rattle.ll_held.specs.Quiet.{ReadsInputs, StaticsAreApart, frames_of}
+use Rattle.ll_held.specs.Held.{times, references, Held, Root}
+use Rattle.ll_held.specs.Quiet.{ReadsInputs, StaticsAreApart}
 use Rattle.ll_held.proofs.Keeping.{or_left, or_right, or_one, references_append, in_parts, in_first, in_second, at_head, head_in, tail_in, used_from, used_to, kept_fewer, held_on}
 use Rattle.exc_transform.specs.declared.pieces.Ending.{Ending}
 use Rattle.exc_transform.specs.declared.pieces.Ending.TheVariants.{Leaves, Raises, Tested}
 use Rattle.exc_transform.specs.Explicit.{is_marked, graphs_calm}
-use Rattle.exc_transform.specs.Live.{handler_reads, live}
-use Rattle.exc_transform.specs.Pieces.{Around, explicit, graphs_of, graph_of, onward, ending_in, piece, way_block, rest_blocks, behind_by, behind, firsts, others, blocks_of, behind_block}
+use Rattle.exc_transform.specs.Live.{handler_reads}
+use Rattle.exc_transform.specs.Pieces.{explicit, graphs_of, graph_of, onward, ending_in, rest_blocks, behind_by, behind, firsts, others, behind_block}
 use Rattle.exc_laws.specs.Ready.{marks_of, any_of, exceptions_of, IsClosed}
-use Rattle.exc_laws.specs.Stands.{explicit_graph, around_in, needs, Waits, Wait, SameHandled, PieceAt, TestAt, Tests, StandsCalling, StandsAt, StandsReturning, StandsThrowing, Stands}
+use Rattle.exc_laws.specs.Stands.{explicit_graph, around_in, needs, Waits, Wait, SameHandled, PieceAt, TestAt, Tests, StandsAt, Stands}
 use Rattle.exc_laws.proofs.Lives.{needed_live}
 use Rattle.exc_laws.proofs.Tests.{get_map}
 use Rattle.exc_laws.proofs.Holding.{needed_plain, handled_plain, left_live, tested_live, piece_live, way_live}

@@ -1,12 +1,11 @@
 -- Where few references stand in the states of the program, few stand in those of the explicit program.
-use Rattle.std.proofs.Common.{◌≡◌, ◌<◌, ◌≤◌, ℕ, zero, suc, ◌+◌, Bool, true, false, List, [], ◌∷◌, ◌++◌, length, map, Option, Some, None, refl, sym, ap, ◌∙◌, subst, arith}
+use Rattle.std.proofs.Common.{◌≡◌, ◌<◌, ◌≤◌, ℕ, suc, ◌+◌, Bool, true, false, List, [], ◌∷◌, ◌++◌, length, Option, Some, None, refl, sym, ap, ◌∙◌, subst, arith}
 use Rattle.std.specs.Prelude.{slice_get, cond, option_map}
 use Rattle.std.proofs.lemmas.Option.{slice_get_within}
-use Rattle.csub_tree.specs.State.{Value, Block, Core, Event}
+use Rattle.csub_tree.specs.State.{Value, Block, Core}
 use Rattle.ll_code.specs.State.{Frame, State, Calling, At, Returning, Throwing}
 use Rattle.ll_code.specs.Machine.{start}
-use Rattle.ll_code.specs.Meaning.{Unfinished, run}
-use Rattle.ll_code.specs.Typed.{IsWellTyped, graph_ok, graphs_ok, params_ok, is_type_given}
+use Rattle.ll_code.specs.Typed.{IsWellTyped, graph_ok, params_ok, is_type_given}
 use Rattle.ll_code.specs.declared.program.LlStage.TheVariants as stage
 use Rattle.ll_code.specs.declared.program.LlType.{LlType}
 use Rattle.ll_code.specs.declared.program.LlGraph.{LlGraph}
@@ -16,7 +15,7 @@ use Rattle.ll_laws.proofs.Values.{and_left, and_right, is_same}
 use Rattle.ll_laws.proofs.Runs.{whole_run_fits}
 use Rattle.ll_live.specs.Live.{live as reads_on}
 use Rattle.ll_held.specs.Roots.{kept, waiting_roots, slots, roots, core_of}
-use Rattle.ll_held.specs.Held.{is_reference, references, references_in, are_distinct, AllHeld, Held, IsBelow}
+use Rattle.ll_held.specs.Held.{is_reference, references, references_in, AllHeld, Held, IsBelow}
 use Rattle.ll_held.specs.Quiet.{frames_of}
 use Rattle.ll_held.proofs.Keeping.{references_append}
 use Rattle.exc_transform.specs.Explicit.{graphs_calm}

@@ -38,7 +38,7 @@ use Rattle.exc_transform.proofs.Without.{raises_is, tested_calm}
 use Rattle.ll_live.specs.Live.{sets}
 use Rattle.exc_laws.specs.Ready.{marks_of, any_of, exceptions_of, IsClosed, IsWhole, ReadyAt, IsReady, is_pointer}
 use Rattle.exc_laws.specs.Stands.{explicit_graph, around_in, From, needs, Beside, IsClear, PieceAt, TestAt, Leaving, Testing, Tests, Waits, Wait, SameHandled, StandsCalling, StandsAt, StandsReturning, StandsThrowing, Stands}
-use Rattle.ll_held.specs.Roots.{under_way, read_by}
+use Rattle.ll_held.specs.Roots.{read_by}
 use Rattle.ll_held.specs.Places.{PlacedAt, IsPlaced}
 use Rattle.ll_held.specs.Held.{Held}
 use Rattle.ll_held.specs.Quiet.{is_quiet, StaticsAreApart}

@@ -1,5 +1,5 @@
 -- When a state of the explicit program holds no more than one of the program.
-use Rattle.std.specs.Prelude.{◌≡◌, ◌≤◌, ◌<◌, ◌+◌, ◌^◌, ℕ, List, [], ◌∷◌, length, slice_get, Some}
+use Rattle.std.specs.Prelude.{◌≡◌, ◌≤◌, ◌<◌, ℕ, List, [], length, slice_get, Some}
 use Rattle.rpy_base.specs.declared.outcome.Outcome.{Outcome}
 use Rattle.csub_tree.specs.State.{Core, Event}
 use Rattle.ll_code.specs.State.{State, Ends}

@@ -1,5 +1,5 @@
 -- What a run has to keep so that the explicit program goes the same way.
-use Rattle.std.specs.Prelude.{◌≡◌, ℕ, ◌==◌, ◌&&◌, not, Bool, true, false, List, [], ◌∷◌, slice_get, Option, Some, None, Ok}
+use Rattle.std.specs.Prelude.{◌≡◌, ℕ, ◌&&◌, not, Bool, true, false, List, [], ◌∷◌, slice_get, Option, Some, None, Ok}
 use Rattle.csub_tree.specs.State.{Value, Ptr, Static, Block, Core, Event}
 use Rattle.csub_tree.specs.Layout.{shape_at, place}
 use Rattle.csub_tree.specs.Operation.{is_unset}

@@ -1,10 +1,10 @@
 -- A quiet step holds no more.
-use Rattle.std.proofs.Common.{◌≡◌, ◌<◌, ◌≤◌, ℕ, zero, suc, ◌+◌, Bool, true, false, ◌&&◌, ◌||◌, ◌==◌, List, [], ◌∷◌, ◌++◌, length, map, Option, Some, None, Result, Ok, Err, refl, sym, ap, ◌∙◌, subst, arith, ◌⊎◌, inl, inr, ℤ, append_assoc}
+use Rattle.std.proofs.Common.{◌≡◌, ◌<◌, ◌≤◌, ℕ, suc, ◌+◌, Bool, true, false, ◌&&◌, ◌||◌, ◌==◌, List, [], ◌∷◌, ◌++◌, length, Option, Some, None, Result, Ok, Err, refl, sym, ap, ◌∙◌, subst, arith, ◌⊎◌, inl, inr, ℤ, append_assoc}
 use Rattle.std.specs.Prelude.{not}
-use Rattle.std.specs.Prelude.{slice_get, slice_set, slice_index_or, cond, if◌then◌else◌}
+use Rattle.std.specs.Prelude.{slice_get, slice_set, cond, if◌then◌else◌}
 use Rattle.rpy_base.specs.declared.outcome.FailName.{FailName}
 use Rattle.rpy_base.specs.declared.outcome.Outcome.TheVariants.{Returned}
-use Rattle.csub_tree.specs.State.{Value, Unset, Null, Ptr, Static, Block, Core, After, Onward, Over, Stuck}
+use Rattle.csub_tree.specs.State.{Value, Unset, Null, Ptr, Static, Block, Core, Onward, Over, Stuck}
 use Rattle.csub_tree.specs.Layout.{Shape, shape_at, place, begins_with}
 use Rattle.csub_tree.specs.Operation.{Answer, is_unset, word_of, binary_of, flag_of}
 use Rattle.csub_tree.specs.Statement as st
@@ -16,9 +16,9 @@ use Rattle.csub_tree.specs.declared.tree.CType.{CType}
 use Rattle.csub_tree.specs.declared.tree.CType.TheVariants as c
 use Rattle.csub_tree.specs.declared.tree.CBinary.{CBinary}
 use Rattle.csub_tree.specs.declared.tree.COperand.{COperand}
-use Rattle.ll_code.specs.State.{Frame, State, Calling, At, Returning, Throwing, Next, Goes, Sticks}
-use Rattle.ll_code.specs.Machine.{step, does, goes_on, shapes_of, jump, begins, branch, block_in, set_all, given, leaves, returned, resumed, type_in}
-use Rattle.ll_code.specs.Typed.{IsWellTyped, all_given, given_takes, enters, link_ok, exit_ok, binary_gives}
+use Rattle.ll_code.specs.State.{Frame, State, Calling, At, Returning, Throwing, Goes, Sticks}
+use Rattle.ll_code.specs.Machine.{step, goes_on, shapes_of, jump, begins, branch, block_in, set_all, given, leaves, returned, resumed, type_in}
+use Rattle.ll_code.specs.Typed.{all_given, enters, link_ok, exit_ok, binary_gives}
 use Rattle.ll_code.specs.declared.program.LlType.{LlType}
 use Rattle.ll_code.specs.declared.program.LlType.TheVariants as type
 use Rattle.ll_code.specs.declared.program.LlLink.{LlLink}
@@ -30,13 +30,13 @@ use Rattle.ll_code.specs.declared.program.LlBlock.{LlBlock}
 use Rattle.ll_code.specs.declared.program.LlGraph.{LlGraph}
 use Rattle.ll_code.specs.declared.program.LlProgram.{LlProgram}
 use Rattle.ll_laws.specs.Fits.{AnswerFits}
-use Rattle.ll_laws.specs.States.{AtFits, StateFits}
+use Rattle.ll_laws.specs.States.{StateFits}
 use Rattle.ll_laws.proofs.Values.{and_left, and_right, is_same, binary_fits}
-use Rattle.ll_live.specs.Live.{among, variables_of, variables_in, reads, set_by, sets, exit_variables, exit_reads, live}
+use Rattle.ll_live.specs.Live.{among, variables_of, variables_in, reads, set_by, sets, live}
 use Rattle.ll_held.specs.Roots.{kept, waits_for, waiting_roots, slots, roots, core_of}
-use Rattle.ll_held.specs.Held.{times, references, cells, cells_at, Refers, Held, Root, Cycle, From}
+use Rattle.ll_held.specs.Held.{times, references, cells, Held, Root, From}
 use Rattle.ll_held.specs.Quiet.{is_quiet_operation, is_quiet, ReadsInputs, StaticsAreApart, frames_of, Near}
-use Rattle.ll_held.proofs.Keeping.{or_left, or_right, same_number, times_append, references_append, in_parts, in_first, in_second, at_head, head_in, tail_in, read_in, used_from, used_to, operand_from, operands_from, set_read, set_all_read, held_on}
+use Rattle.ll_held.proofs.Keeping.{or_left, or_right, same_number, references_append, in_parts, in_first, in_second, at_head, head_in, tail_in, read_in, used_from, used_to, operand_from, operands_from, set_read, set_all_read, held_on}
 use Rattle.ll_live.proofs.Appended.{among_append}
 
 -- ---- states that hold no more

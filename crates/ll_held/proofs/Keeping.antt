@@ -1,7 +1,7 @@
 -- What the roots of states name.
-use Rattle.std.proofs.Common.{◌≡◌, ◌<◌, ◌≤◌, ℕ, zero, suc, ◌+◌, Bool, true, false, ◌&&◌, ◌||◌, ◌==◌, List, [], ◌∷◌, ◌++◌, length, map, refl, sym, ap, ◌∙◌, subst, arith, ◌⊎◌, inl, inr}
-use Rattle.std.specs.Prelude.{cond, slice_set, slice_index_or, Option, Some, None}
-use Rattle.csub_tree.specs.State.{Value, Unset, Ptr, Static, Block}
+use Rattle.std.proofs.Common.{◌≡◌, ◌<◌, ◌≤◌, ℕ, zero, suc, ◌+◌, Bool, true, false, ◌||◌, ◌==◌, List, [], ◌∷◌, ◌++◌, length, refl, sym, ap, ◌∙◌, subst, arith, ◌⊎◌, inl, inr}
+use Rattle.std.specs.Prelude.{cond, slice_set, Option}
+use Rattle.csub_tree.specs.State.{Value, Unset, Ptr, Block}
 use Rattle.csub_tree.specs.Layout.{constant}
 use Rattle.csub_tree.specs.Statement.{read, operand, operands}
 use Rattle.csub_tree.specs.declared.tree.CConst.{CConst}
@@ -13,7 +13,7 @@ use Rattle.ll_laws.proofs.Values.{is_same}
 use Rattle.ll_live.specs.Live.{among, variables_of, variables_in}
 use Rattle.ll_live.proofs.Appended.{among_append}
 use Rattle.ll_held.specs.Roots.{kept}
-use Rattle.ll_held.specs.Held.{is_block, times, is_reference, references, Refers, Reaches, Held, Root, Cycle, From}
+use Rattle.ll_held.specs.Held.{is_block, times, is_reference, references, Held, Root, Cycle, From}
 
 -- ---- truth values
 

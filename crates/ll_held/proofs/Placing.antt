@@ -1,8 +1,8 @@
 -- Each state of a run stands in a block of its program, and who waits stands behind its call.
-use Rattle.std.proofs.Common.{◌≡◌, ℕ, zero, suc, ◌+◌, ◌-◌, Bool, true, false, List, [], ◌∷◌, ◌++◌, length, drop, replicate, Option, Some, None, Result, Ok, Err, refl, sym, ap, ◌∙◌, subst, arith, ℤ, pos, negsuc}
-use Rattle.std.specs.Prelude.{slice_get, slice_set, slice_index_or, cond, nat_lt, nat_le, option_map, ◌||◌, ◌&&◌}
+use Rattle.std.proofs.Common.{◌≡◌, ℕ, zero, suc, ◌+◌, ◌-◌, Bool, true, false, List, [], ◌∷◌, ◌++◌, length, drop, Option, Some, None, Result, Ok, Err, refl, ap, ◌∙◌, subst, arith, ℤ, pos, negsuc}
+use Rattle.std.specs.Prelude.{slice_get, slice_set, slice_index_or, cond, nat_lt, nat_le, ◌||◌, ◌&&◌}
 use Rattle.rpy_base.specs.declared.outcome.Outcome.TheVariants.{Returned}
-use Rattle.csub_tree.specs.State.{Value, Unset, Null, Ptr, Static, Block, Core, After, Onward, Puts as PutsByte, Told, Over, Stuck, Event}
+use Rattle.csub_tree.specs.State.{Value, Unset, Ptr, Static, Block, Core, After, Onward, Puts as PutsByte, Told, Over, Stuck, Event}
 use Rattle.csub_tree.specs.Layout.{Shape, shape_at, place}
 use Rattle.csub_tree.specs.Operation.{Answer, is_unset, word_of, unary_of, binary_of, flag_of}
 use Rattle.csub_tree.specs.Statement as st
@@ -11,9 +11,8 @@ use Rattle.csub_tree.specs.declared.stuck.StuckReason.{StuckReason}
 use Rattle.csub_tree.specs.declared.stuck.StuckReason.TheVariants.{Unset as IsUnset, Signature, Outside}
 use Rattle.csub_tree.specs.declared.tree.CType.{CType}
 use Rattle.csub_tree.specs.declared.tree.CType.TheVariants as c
-use Rattle.csub_tree.specs.declared.tree.COperand.{COperand}
 use Rattle.ll_code.specs.State.{Frame, State, Calling, At, Returning, Throwing, Next, Goes, Puts, Tells, Ends, Sticks}
-use Rattle.ll_code.specs.Machine.{does, goes_on, shapes_of, block_in, begins, jump, branch, caught_by, caught, waiting, resumed, called, called_as, called_value, enters, entered, returned, thrown, given, operates, gives_back, type_in, leaves, step, start, param_types, c_result, c_type}
+use Rattle.ll_code.specs.Machine.{does, goes_on, shapes_of, block_in, begins, jump, branch, caught_by, caught, waiting, resumed, called, called_as, called_value, enters, entered, returned, thrown, given, operates, type_in, leaves, step, start, param_types, c_result}
 use Rattle.ll_code.specs.Meaning.{Ran, Ended, Unfinished, run, follow}
 use Rattle.ll_code.specs.declared.program.LlLink.{LlLink}
 use Rattle.ll_code.specs.declared.program.LlOp.{LlOp}

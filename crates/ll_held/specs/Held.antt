@@ -1,6 +1,6 @@
 -- The blocks that a state holds: those that can be reached from its roots, or from a block on a cycle. And how many references stand in
 -- the roots and in such blocks.
-use Rattle.std.specs.Prelude.{◌≡◌, ◌<◌, ℕ, zero, suc, ◌+◌, ◌^◌, ◌==◌, ◌&&◌, not, Bool, true, false, cond, List, [], ◌∷◌, ◌++◌, slice_index_or, Option, Some, None}
+use Rattle.std.specs.Prelude.{◌≡◌, ◌<◌, ℕ, suc, ◌+◌, ◌==◌, ◌&&◌, not, Bool, true, false, cond, List, [], ◌∷◌, ◌++◌, slice_index_or, Option, Some, None}
 use Rattle.csub_tree.specs.State.{Value, Ptr, Static, Block}
 
 -- ---- references

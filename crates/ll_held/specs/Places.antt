@@ -1,6 +1,5 @@
 -- Where the states of a run stand: what is left to do is the rest of a block of the program, and who waits stands behind a call.
-use Rattle.std.specs.Prelude.{◌≡◌, ℕ, suc, ◌+◌, Bool, List, [], ◌∷◌, slice_get, drop, Option, Some}
-use Rattle.csub_tree.specs.State.{Core}
+use Rattle.std.specs.Prelude.{◌≡◌, ℕ, suc, List, [], ◌∷◌, slice_get, drop, Some}
 use Rattle.ll_code.specs.State.{Frame, State, Calling, At, Returning, Throwing}
 use Rattle.ll_code.specs.Machine.{block_in}
 use Rattle.ll_code.specs.declared.program.LlOp.{LlOp}

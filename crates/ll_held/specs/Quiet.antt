@@ -1,7 +1,7 @@
 -- Steps that make, free and write no block, and call nothing; and when one state holds no more than another.
-use Rattle.std.specs.Prelude.{◌≡◌, ◌≤◌, ◌<◌, ℕ, Bool, true, false, List, [], ◌∷◌, length, slice_get, slice_index_or, Some}
+use Rattle.std.specs.Prelude.{◌≡◌, ◌≤◌, ◌<◌, ℕ, Bool, true, false, List, [], ◌∷◌, slice_get, Some}
 use Rattle.csub_tree.specs.State.{Block, Core}
-use Rattle.ll_code.specs.State.{Frame, State, Calling, At, Returning, Throwing, Next, Goes}
+use Rattle.ll_code.specs.State.{Frame, State, Calling, At, Returning, Throwing, Goes}
 use Rattle.ll_code.specs.Machine.{step}
 use Rattle.ll_code.specs.declared.program.LlOp.{LlOp}
 use Rattle.ll_code.specs.declared.program.LlOp.TheVariants as op

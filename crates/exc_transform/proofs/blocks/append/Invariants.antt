@@ -1,4 +1,4 @@
-use Rattle.std.proofs.Common.{◌≡◌, ◌++◌, ◌+◌, reverse, length}
+use Rattle.std.proofs.Common.{◌≡◌, ◌++◌, reverse, length}
 use Rattle.exc_transform.proofs.blocks.append.Given as goal
 
 abbrev pub invariant-loop-block : goal.invariant-loop-block

@@ -1,4 +1,4 @@
-use Rattle.std.proofs.Common.{◌≡◌, ◌++◌, ◌+◌, length}
+use Rattle.std.proofs.Common.{◌≡◌, ◌++◌, length}
 use Rattle.exc_transform.specs.Pieces.{around_of, piece_ops, piece_exit}
 use Rattle.exc_transform.proofs.pieces.exit_of.Given as goal
 

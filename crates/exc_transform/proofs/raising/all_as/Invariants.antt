@@ -1,4 +1,4 @@
-use Rattle.std.proofs.Common.{◌≡◌, ◌++◌, ◌+◌, drop, map}
+use Rattle.std.proofs.Common.{◌≡◌, ◌++◌, drop, map}
 use Rattle.exc_transform.proofs.raising.all_as.Given as goal
 
 abbrev pub invariant-loop : goal.invariant-loop

@@ -1,4 +1,4 @@
-use Rattle.std.proofs.Common.{◌≡◌, ◌++◌, ◌+◌, drop}
+use Rattle.std.proofs.Common.{◌≡◌, ◌++◌, drop}
 use Rattle.ll_live.specs.Live.{variables_in}
 use Rattle.ll_live.proofs.live.push_operands.Given as goal
 
