@@ -351,7 +351,7 @@ fn push_exc_set(
 
 // ---- all operations
 
-// An operation that changes no count.
+// An operation that changes no count; the others push nothing.
 fn push_plain(op: &LlOp, into: &mut Seq<LlOp>) -> Result<(), NoMem>
     ensures { OnOk result (into.new ≡ into.old ++ c.plain op.now) }
 {
@@ -369,7 +369,7 @@ fn push_plain(op: &LlOp, into: &mut Seq<LlOp>) -> Result<(), NoMem>
     }
 }
 
-// Of operations on blocks; the others are left.
+// What an operation becomes.
 fn push_changed(
     alloc: Global,
     around: Around<'_>,

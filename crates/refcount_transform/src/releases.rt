@@ -16,7 +16,7 @@ use ll_live::{among, among_operands, push_operands};
 use rpy_base::{NoMem, Seq};
 use std::alloc::Global;
 
-// The variables that are among these operands alone.
+// Drops each of the variables once that is not among the operands which are given.
 #[tactic(auto, using(crate::proofs::Emitted::down_first))]
 fn push_left(
     alloc: Global,
