@@ -1,0 +1,6 @@
+//! Each part of a program has its cell or its mark.
+#![tactic(auto)]
+
+mod laws;
+
+pub use laws::parts_have_places;

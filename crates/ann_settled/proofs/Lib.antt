@@ -1,0 +1,3 @@
+-- Lemmas for the code.
+pub mod Cells
+pub mod Gathered

@@ -1,0 +1,147 @@
+// The annotation that stands in the cells and marks.
+ghost use Rattle.std.specs.Prelude.{◌≡◌, ◌++◌, map, IfOk, OnOk};
+ghost use Rattle.ann_settled.specs.Read as spec;
+
+use ann_element::{Annotation, Element, copy_element};
+use ann_needs::{Places, State};
+use rpy_base::{NoMem, Seq, Text};
+use rpy_tree::ClassId;
+use std::alloc::Global;
+
+fn cell_of(alloc: Global, cells: &[Element], place: usize) -> Result<Element, NoMem>
+    ensures { IfOk result (λ e. e ≡ spec.element_at cells.now place) }
+{
+    match cells.get(place) {
+        None => Ok(Element::Unreached),
+        Some(e) => copy_element(alloc, e),
+    }
+}
+
+fn mark_of(marks: &[bool], place: usize) -> bool
+    ensures { result ≡ spec.mark_at marks.now place }
+{
+    match marks.get(place) {
+        None => false,
+        Some(mark) => *mark,
+    }
+}
+
+fn read_cells(alloc: Global, s: &State, row: &[usize]) -> Result<Seq<Element>, NoMem>
+    ensures { IfOk result (λ es. es ≡ spec.cells s.now row.now) }
+{
+    let mut es = Seq::new(alloc);
+    for place in row {
+        es.push(cell_of(alloc, s.cells.as_slice(), *place)?)?;
+    }
+    Ok(es)
+}
+
+fn read_marks(alloc: Global, s: &State, row: &[usize]) -> Result<Seq<bool>, NoMem>
+    ensures { IfOk result (λ marks. marks ≡ spec.marks s.now row.now) }
+{
+    let mut marks = Seq::new(alloc);
+    for place in row {
+        marks.push(mark_of(s.marks.as_slice(), *place))?;
+    }
+    Ok(marks)
+}
+
+fn read_cell_rows(alloc: Global, s: &State, rows: &[Seq<usize>]) -> Result<Seq<Seq<Element>>, NoMem>
+    ensures { IfOk result (λ lists. lists ≡ map (spec.cells s.now) rows.now) }
+{
+    let mut lists = Seq::new(alloc);
+    for row in rows {
+        lists.push(read_cells(alloc, s, row.as_slice())?)?;
+    }
+    Ok(lists)
+}
+
+fn read_mark_rows(alloc: Global, s: &State, rows: &[Seq<usize>]) -> Result<Seq<Seq<bool>>, NoMem>
+    ensures { IfOk result (λ lists. lists ≡ map (spec.marks s.now) rows.now) }
+{
+    let mut lists = Seq::new(alloc);
+    for row in rows {
+        lists.push(read_marks(alloc, s, row.as_slice())?)?;
+    }
+    Ok(lists)
+}
+
+fn add_attributes(
+    alloc: Global,
+    s: &State,
+    class: ClassId,
+    row: &[(Text, usize)],
+    list: &mut Seq<(ClassId, Text, Element)>,
+) -> Result<(), NoMem>
+    ensures { OnOk result (list.new ≡ list.old ++ spec.attributes_of s.now class row.now) }
+{
+    for entry in row {
+        let e = cell_of(alloc, s.cells.as_slice(), entry.1)?;
+        list.push((class, entry.0.copy(alloc)?, e))?;
+    }
+    Ok(())
+}
+
+fn narrow(class: usize) -> Result<ClassId, NoMem>
+    ensures { IfOk result (λ number. number ≡ class) }
+{
+    if class <= 4294967295 {
+        Ok(class as u32)
+    } else {
+        Err(NoMem)
+    }
+}
+
+fn read_attributes(
+    alloc: Global,
+    s: &State,
+    rows: &[Seq<(Text, usize)>],
+) -> Result<Seq<(ClassId, Text, Element)>, NoMem>
+    ensures { IfOk result (λ list. list ≡ spec.attributes s.now 0 rows.now) }
+{
+    let mut list = Seq::new(alloc);
+    for (class, row) in rows.iter().enumerate() {
+        add_attributes(alloc, s, narrow(class)?, row.as_slice(), &mut list)?;
+    }
+    Ok(list)
+}
+
+/// The annotation that stands in the cells and marks, with the elements that nodes have.
+pub fn read(
+    alloc: Global,
+    s: State,
+    places: &Places,
+    nodes: Seq<Element>,
+) -> Result<Annotation, NoMem>
+    ensures { IfOk result (λ annotation. annotation ≡ spec.annotation s nodes places.now) }
+{
+    let unbound = read_marks(alloc, &s, places.unbound.as_slice())?;
+    let params = read_cell_rows(alloc, &s, places.params.as_slice())?;
+    let results = read_cells(alloc, &s, places.results.as_slice())?;
+    let reached = read_marks(alloc, &s, places.reached.as_slice())?;
+    let attributes = read_attributes(alloc, &s, places.attributes.as_slice())?;
+    let items = read_cells(alloc, &s, places.items.as_slice())?;
+    let keys = read_cells(alloc, &s, places.keys.as_slice())?;
+    let made = read_marks(alloc, &s, places.made.as_slice())?;
+    let vars = read_cell_rows(alloc, &s, places.variables.as_slice())?;
+    let blocks = read_mark_rows(alloc, &s, places.blocks.as_slice())?;
+    let State {
+        cells: _,
+        marks: _,
+        same,
+    } = s;
+    Ok(Annotation {
+        nodes,
+        unbound,
+        params,
+        results,
+        reached,
+        attributes,
+        items,
+        keys,
+        made,
+        same,
+        vars,
+        blocks,
+    })
+}
