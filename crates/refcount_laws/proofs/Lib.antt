@@ -24,4 +24,5 @@ pub mod Dead
 pub mod Given
 pub mod Accounts
 pub mod Alike
+pub mod Following
 pub mod Leading

@@ -133,11 +133,11 @@ module _ (p : LlProgram) (based : Based p.structs) where
   counted_base n m b s2 e = counted_is n b.s b.is ∙ ap (is_made p.structs p.graphs) (root_of_base p.structs based n m b) ∙ sym (counted_is m s2 e)
 
   -- what a struct begins with
-  record Rooted (k n : ℕ) : Type 0 where
-    counted : is_counted plan k ≡ true
-    root : root_of plan k ≡ n
+  pub record Rooted (k n : ℕ) : Type 0 where
+    pub counted : is_counted plan k ≡ true
+    pub root : root_of plan k ≡ n
 
-  rooted : (f k n : ℕ) → k < f → is_counted plan n ≡ true → root_of plan n ≡ n → begins_with (shapes_counted plan) k n ≡ true → Rooted k n
+  pub rooted : (f k n : ℕ) → k < f → is_counted plan n ≡ true → root_of plan n ≡ n → begins_with (shapes_counted plan) k n ≡ true → Rooted k n
   rooted zero k n lt c r h = absurd (omega (arith, lt))
   rooted (suc f) k n lt c r h = by (λ j l x. rooted f j n l c r x) (begins_by structs counted_based k n h)
     where
