@@ -25,4 +25,5 @@ pub mod Given
 pub mod Accounts
 pub mod Alike
 pub mod Following
+pub mod Operating
 pub mod Leading
