@@ -133,7 +133,7 @@ module _ (p : LlProgram) (based : Based p.structs) (counting : Counting (counted
         → IsCounted q c g (λ r. owned around (live (o ∷ ops) e) core.vars r + own r)
         → Comes p args types (live ops e) own (At (dead around (touched o) ops e rest) ex frames (here qcore core.function b at core.vars h (memory g))) rest ex frames b core
     effect_end core qcore g h at none fits stands pointing counted =
-        finish core qcore g h at fits stands (record { at = λ v n u r. pointing.at v n (same v ∙ u) r })
+        finish core qcore g h at fits stands (record { at = λ v n u r. pointing.at v n (same v ∙ u) r; refers = λ v a u r. pointing.refers v a (same v ∙ u) r })
         (own_same q args c g (λ r. owned around (live (o ∷ ops) e) core.vars r + own r) (λ r. owned around (used_by o ops e) core.vars r + own r) (λ r. ap (λ n. n + own r) (effect_owned around o ops e core.vars r none)) counted)
       where
         same : (v : ℕ) → live (o ∷ ops) e v ≡ used_by o ops e v
@@ -142,39 +142,64 @@ module _ (p : LlProgram) (based : Based p.structs) (counting : Counting (counted
     module _ (a : ℕ) (sets_it : set_by o ≡ Some a) where
       -- an operation that sets a variable
       pub value_end : (core qcore : Core) (g : Ghost) (h : List (Option Block)) (at : ℕ) (v : Value) → a < length core.vars → length core.vars ≡ length types → ((n : ℕ) → var_referred around a ≡ Some n → among a (reads o) ≡ false) → Stands p core qcore g h
-          → Pointing p types core.blocks core.statics (live (o ∷ ops) e) core.vars → ((n : ℕ) → var_referred around a ≡ Some n → PointsTo p core.blocks core.statics n v)
+          → Pointing p types core.blocks core.statics (live (o ∷ ops) e) core.vars → ((n : ℕ) → var_referred around a ≡ Some n → PointsTo p core.blocks core.statics n v) → ((m : ℕ) → v ≡ Ptr m → (n : ℕ) × (var_referred around a ≡ Some n))
           → IsCounted q c g (λ r. hits_by (var_referred around a) v r + (owned around (live (o ∷ ops) e) core.vars r + own r))
           → Comes p args types (live ops e) own (At (dead around (touched o) ops e rest) ex frames (here qcore core.function b at (slice_set core.vars a v) h (memory g))) rest ex frames b (record core { at = core.at + 1; vars = slice_set core.vars a v })
-      value_end core qcore g h at v inside fits unread stands pointing new counted =
+      value_end core qcore g h at v inside fits unread stands pointing new refers counted =
           finish (record core { at = core.at + 1; vars = slice_set core.vars a v }) qcore g h at (set_length core.vars a v ∙ fits)
-          (record { near = stands.near; shown = stands.shown; steps = stands.steps; exc_type = stands.exc_type; exc_value = stands.exc_value }) (record { at = λ w n u r. by w n u r (is_or_not a w) })
+          (record { near = stands.near; shown = stands.shown; steps = stands.steps; exc_type = stands.exc_type; exc_value = stands.exc_value }) (record { at = λ w n u r. by w n u r (is_or_not a w); refers = λ w m u r. referred w m u r (is_or_not a w) })
           (own_same q args c g (λ r. hits_by (var_referred around a) v r + (owned around (live (o ∷ ops) e) core.vars r + own r)) (λ r. owned around (used_by o ops e) (slice_set core.vars a v) r + own r)
           (λ r. omega (arith, value_owned around o ops e a sets_it core.vars v r inside unread)) counted)
         where
+          referred : (w m : ℕ) → used_by o ops e w ≡ true → read (slice_set core.vars a v) w ≡ Ptr m → (a ≡ w) ⊎ (a ≢ w) → (n : ℕ) × (var_referred around w ≡ Some n)
+          referred w m u r (inl f) = subst (λ w. (n : ℕ) × (var_referred around w ≡ Some n)) f (refers m (sym (set_here core.vars a v Unset inside) ∙ ap (read (slice_set core.vars a v)) f ∙ r))
+          referred w m u r (inr ne) = pointing.refers w m (sym (others around o ops e a sets_it w (λ q. ne (sym q))) ∙ u) (sym (set_other core.vars a w v Unset ne) ∙ r)
+
           by : (w n : ℕ) → used_by o ops e w ≡ true → var_referred around w ≡ Some n → (a ≡ w) ⊎ (a ≢ w) → PointsTo p core.blocks core.statics n (read (slice_set core.vars a v) w)
           by w n u r (inl f) = subst (λ w. PointsTo p core.blocks core.statics n (read (slice_set core.vars a v) w)) f (subst (PointsTo p core.blocks core.statics n) (sym (set_here core.vars a v Unset inside)) (new n (ap (var_referred around) f ∙ r)))
           by w n u r (inr ne) =
               subst (PointsTo p core.blocks core.statics n) (sym (set_other core.vars a w v Unset ne)) (pointing.at w n (sym (others around o ops e a sets_it w (λ q. ne (sym q))) ∙ u) r)
 
       -- what is no reference
-      pub plain_end : (core qcore : Core) (g : Ghost) (h : List (Option Block)) (at : ℕ) (v : Value) → a < length core.vars → length core.vars ≡ length types → var_referred around a ≡ None → Stands p core qcore g h
+      pub plain_end : (core qcore : Core) (g : Ghost) (h : List (Option Block)) (at : ℕ) (v : Value) → a < length core.vars → length core.vars ≡ length types → var_referred around a ≡ None → ((m : ℕ) → v ≡ Ptr m → ⊥) → Stands p core qcore g h
           → Pointing p types core.blocks core.statics (live (o ∷ ops) e) core.vars → IsCounted q c g (λ r. owned around (live (o ∷ ops) e) core.vars r + own r)
           → Comes p args types (live ops e) own (At (dead around (touched o) ops e rest) ex frames (here qcore core.function b at (slice_set core.vars a v) h (memory g))) rest ex frames b (record core { at = core.at + 1; vars = slice_set core.vars a v })
-      plain_end core qcore g h at v inside fits none stands pointing counted =
-          value_end core qcore g h at v inside fits (λ n r. absurd (let f : None ≡ Some n = sym none ∙ r in cc)) stands pointing (λ n r. absurd (let f : None ≡ Some n = sym none ∙ r in cc))
+      plain_end core qcore g h at v inside fits none apart stands pointing counted =
+          value_end core qcore g h at v inside fits (λ n r. absurd (let f : None ≡ Some n = sym none ∙ r in cc)) stands pointing (λ n r. absurd (let f : None ≡ Some n = sym none ∙ r in cc)) (λ m r. absurd (apart m r))
           (own_same q args c g (λ r. owned around (live (o ∷ ops) e) core.vars r + own r) (λ r. hits_by (var_referred around a) v r + (owned around (live (o ∷ ops) e) core.vars r + own r))
           (λ r. (let z : owned around (live (o ∷ ops) e) core.vars r + own r ≡ 0 + (owned around (live (o ∷ ops) e) core.vars r + own r) = omega arith in z) ∙ ap (λ k. hits_by k v r + (owned around (live (o ∷ ops) e) core.vars r + own r)) (sym none)) counted)
 
       -- an operator, or what the outside gives
-      pub answered_follows : (core qcore : Core) (g : Ghost) (h : List (Option Block)) (at : ℕ) (answer : Answer) → a < length core.vars → length core.vars ≡ length types → var_referred around a ≡ None → Stands p core qcore g h
+      pub answered_follows : (core qcore : Core) (g : Ghost) (h : List (Option Block)) (at : ℕ) (answer : Answer) → a < length core.vars → length core.vars ≡ length types → var_referred around a ≡ None → ((v : Value) → answer ≡ Ok v → (m : ℕ) → v ≡ Ptr m → ⊥) → Stands p core qcore g h
           → Pointing p types core.blocks core.statics (live (o ∷ ops) e) core.vars → IsCounted q c g (λ r. owned around (live (o ∷ ops) e) core.vars r + own r)
           → step q args (At (o ∷ dead around (touched o) ops e rest) ex frames (here qcore core.function b at core.vars h (memory g)))
           ≡ goes_on (At (dead around (touched o) ops e rest) ex frames) (st.answered (here qcore core.function b at core.vars h (memory g)) a answer)
           → Follows p args types (live ops e) own (At (o ∷ dead around (touched o) ops e rest) ex frames (here qcore core.function b at core.vars h (memory g))) rest ex frames b (st.answered core a answer)
-      answered_follows core qcore g h at (Err reason) inside fits none stands pointing counted moves = tt
-      answered_follows core qcore g h at (Ok v) inside fits none stands pointing counted moves =
+      answered_follows core qcore g h at (Err reason) inside fits none apart stands pointing counted moves = tt
+      answered_follows core qcore g h at (Ok v) inside fits none apart stands pointing counted moves =
           comes_before (live ops e) (At (o ∷ dead around (touched o) ops e rest) ex frames (here qcore core.function b at core.vars h (memory g)))
           (At (dead around (touched o) ops e rest) ex frames (here qcore core.function b (at + 1) (slice_set core.vars a v) h (memory g))) (record core { at = core.at + 1; vars = slice_set core.vars a v })
           (goes q args (At (o ∷ dead around (touched o) ops e rest) ex frames (here qcore core.function b at core.vars h (memory g)))
           (At (dead around (touched o) ops e rest) ex frames (here qcore core.function b (at + 1) (slice_set core.vars a v) h (memory g))) moves)
-          (plain_end core qcore g h (at + 1) v inside fits none stands pointing counted)
+          (plain_end core qcore g h (at + 1) v inside fits none (apart v refl) stands pointing counted)
+
+      -- what is read, and counted
+      pub copy_end : (core qcore : Core) (g : Ghost) (h : List (Option Block)) (at k : ℕ) (v : Value) → a < length core.vars → length core.vars ≡ length types → ((n : ℕ) → var_referred around a ≡ Some n → among a (reads o) ≡ false) → Stands p core qcore g h
+          → Pointing p types core.blocks core.statics (live (o ∷ ops) e) core.vars → ((n : ℕ) → var_referred around a ≡ Some n → PointsTo p core.blocks core.statics n v) → ((m : ℕ) → v ≡ Ptr m → (n : ℕ) × (var_referred around a ≡ Some n))
+          → ((m : ℕ) → v ≡ Ptr m → 0 < count g.blocks m) → Roomy g (suc k) → IsCounted q c g (λ r. owned around (live (o ∷ ops) e) core.vars r + own r)
+          → Comes p args types (live ops e) own (At (up around (Var a) (dead around (touched o) ops e rest)) ex frames (here qcore core.function b at (slice_set core.vars a v) h (memory g))) rest ex frames b
+          (record core { at = core.at + 1; vars = slice_set core.vars a v })
+      copy_end core qcore g h at k v inside fits unread stands pointing new refers alive room counted =
+          let now : read (slice_set core.vars a v) a ≡ v = set_here core.vars a v Unset inside in
+          let had : Value → ℕ = λ r. owned around (live (o ∷ ops) e) core.vars r + own r in
+          let start : State = At (up around (Var a) (dead around (touched o) ops e rest)) ex frames (here qcore core.function b at (slice_set core.vars a v) h (memory g)) in
+          let d : DoneTo q args c g (λ r. operand_hits around (slice_set core.vars a v) (Var a) r + had r) start (dead around (touched o) ops e rest) ex frames qcore core.function b (slice_set core.vars a v) =
+          up_run q args plan counting types qcore core.function b ex frames (slice_set core.vars a v) g h had (Var a) k at (dead around (touched o) ops e rest) stands.shown (λ n r. roots a n r)
+          (λ n r. subst (LeadsTo q g n) (sym now) (value_leads core.blocks core.statics g stands.near n v (given_marked plan.counted (slice_get types a) n r) (roots a n r) (new n r)))
+          (λ n m r is. alive m (sym now ∙ is)) room counted in
+          let g1 : Ghost = d.done.later in
+          comes_before (live ops e) start (At (dead around (touched o) ops e rest) ex frames (here qcore core.function b d.at (slice_set core.vars a v) d.done.blocks (memory g1))) (record core { at = core.at + 1; vars = slice_set core.vars a v }) d.done.leads
+          (value_end core qcore g1 d.done.blocks d.at v inside fits unread
+          (record { near = near_kept plan g g1 d.done.same d.done.same_statics core.blocks core.statics d.done.size d.done.size_statics stands.near; shown = d.done.shown; steps = stands.steps; exc_type = stands.exc_type; exc_value = stands.exc_value })
+          pointing new refers
+          (own_same q args c g1 (λ r. operand_hits around (slice_set core.vars a v) (Var a) r + had r) (λ r. hits_by (var_referred around a) v r + had r) (λ r. ap (λ x. hits_by (var_referred around a) x r + had r) now) d.done.counted))

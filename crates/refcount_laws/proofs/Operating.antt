@@ -49,7 +49,8 @@ use Rattle.ll_code.specs.State.{Puts, Ends}
 use Rattle.ll_code.specs.Typed.{operation_ok, unary_gives, binary_gives, has_type}
 use Rattle.csub_tree.specs.Checked.{gives_bool}
 use Rattle.ll_code.specs.declared.program.LlType.TheVariants as type
-use Rattle.ll_laws.proofs.Values.{and_left, and_right, has_type_is}
+use Rattle.ll_laws.specs.Fits.{Fits, AnswerFits}
+use Rattle.ll_laws.proofs.Values.{and_left, and_right, has_type_is, unary_fits, binary_fits}
 use Rattle.refcount_transform.specs.Plan.{reference_to}
 use Rattle.refcount_transform.specs.Changes.{changed}
 use Rattle.refcount_laws.proofs.Following.{near_kept, value_leads, finish, comes_before, effect_end, value_end, plain_end, answered_follows}
@@ -68,6 +69,36 @@ binary_plain marks o = by (gives_bool o)
     by : (b : Bool) → reference_to marks (cond b type.Bool type.Signed) ≡ None
     by true = refl
     by false = refl
+
+-- what is of a type that is no pointer is no pointer
+fits_apart : (p : LlProgram) (made : ℕ) (t : LlType) (v : Value) → ((n : ℕ) → t ≡ type.Ptr n → ⊥) → Fits p made t v → (m : ℕ) → v ≡ Ptr m → ⊥
+fits_apart p made t v none fit m e = by t none (subst (Fits p made t) e fit)
+  where
+    by : (t : LlType) → ((n : ℕ) → t ≡ type.Ptr n → ⊥) → Fits p made t (Ptr m) → ⊥
+    by type.Signed none h = h
+    by type.Char none h = h
+    by type.Bool none h = h
+    by type.Void none h = h
+    by type.Fn none h = h
+    by (type.Ptr n) none h = none n refl
+
+unary_apart : (p : LlProgram) (o : CUnary) (x v : Value) → unary_of o x ≡ Ok v → (m : ℕ) → v ≡ Ptr m → ⊥
+unary_apart p o x v f m r = fits_apart p 0 (unary_gives o) v (no_pointer o) (subst (AnswerFits p 0 (unary_gives o)) f (unary_fits p 0 o x)) m r
+  where
+    no_pointer : (o : CUnary) (n : ℕ) → unary_gives o ≡ type.Ptr n → ⊥
+    no_pointer unary.Neg n e = cc
+    no_pointer unary.Inv n e = cc
+    no_pointer unary.Not n e = cc
+    no_pointer unary.C2S n e = cc
+    no_pointer unary.S2C n e = cc
+    no_pointer unary.B2S n e = cc
+
+binary_apart : (p : LlProgram) (o : CBinary) (x y v : Value) → binary_of o x y ≡ Ok v → (m : ℕ) → v ≡ Ptr m → ⊥
+binary_apart p o x y v f m r = fits_apart p 0 (binary_gives o) v (λ n e. by (gives_bool o) n e) (subst (AnswerFits p 0 (binary_gives o)) f (binary_fits p 0 o x y)) m r
+  where
+    by : (b : Bool) (n : ℕ) → cond b type.Bool type.Signed ≡ type.Ptr n → ⊥
+    by true n e = cc
+    by false n e = cc
 
 typed_inside : (types : List LlType) (a : ℕ) (t : LlType) → slice_get types a ≡ Some t → a < length types
 typed_inside [] a t e = absurd (cc)
@@ -104,16 +135,16 @@ module _ (p : LlProgram) (based : Based p.structs) (counting : Counting (counted
   pub unary_followed : (a : ℕ) (o : CUnary) (x : COperand) → operation_ok p types (op.Unary a o x) ≡ true → IsFollowed (op.Unary a o x) (does p args core (op.Unary a o x))
   unary_followed a o x ok pointing counts =
       answered_follows p based counting args types roots own (op.Unary a o x) ops rest e ex frames b a refl core qcore g h at (unary_of o (operand core.vars x)) (has_place a (unary_gives o) (and_left _ _ ok)) fits
-      (is_plain a (unary_gives o) (and_left _ _ ok) (unary_plain plan.counted o)) stands pointing counts refl
+      (is_plain a (unary_gives o) (and_left _ _ ok) (unary_plain plan.counted o)) (unary_apart p o (operand core.vars x)) stands pointing counts refl
 
   pub binary_followed : (a : ℕ) (o : CBinary) (x y : COperand) → operation_ok p types (op.Binary a o x y) ≡ true → IsFollowed (op.Binary a o x y) (does p args core (op.Binary a o x y))
   binary_followed a o x y ok pointing counts =
       answered_follows p based counting args types roots own (op.Binary a o x y) ops rest e ex frames b a refl core qcore g h at (binary_of o (operand core.vars x) (operand core.vars y)) (has_place a (binary_gives o) (and_left _ _ ok)) fits
-      (is_plain a (binary_gives o) (and_left _ _ ok) (binary_plain plan.counted o)) stands pointing counts refl
+      (is_plain a (binary_gives o) (and_left _ _ ok) (binary_plain plan.counted o)) (binary_apart p o (operand core.vars x) (operand core.vars y)) stands pointing counts refl
 
   pub argc_followed : (a : ℕ) → operation_ok p types (op.Argc a) ≡ true → IsFollowed (op.Argc a) (does p args core (op.Argc a))
   argc_followed a ok pointing counts =
-      answered_follows p based counting args types roots own (op.Argc a) ops rest e ex frames b a refl core qcore g h at (Ok (Word (pos (length args)))) (has_place a type.Signed ok) fits (is_plain a type.Signed ok refl) stands pointing counts refl
+      answered_follows p based counting args types roots own (op.Argc a) ops rest e ex frames b a refl core qcore g h at (Ok (Word (pos (length args)))) (has_place a type.Signed ok) fits (is_plain a type.Signed ok refl) (λ v f m r. absurd (cc)) stands pointing counts refl
 
   -- a number that may be out of range
   in_range : (o : LlOp) (a : ℕ) → set_by o ≡ Some a → changed around o (dead around (touched o) ops e rest) ≡ o ∷ dead around (touched o) ops e rest → has_type type.Signed (slice_get types a) ≡ true → (n : Option ℕ)
@@ -122,7 +153,7 @@ module _ (p : LlProgram) (based : Based p.structs) (counting : Counting (counted
   in_range o a sets_it plain ok None moves pointing counts = tt
   in_range o a sets_it plain ok (Some n) moves pointing counts =
       subst (λ l. Follows p args types (live ops e) own (At l ex frames (here qcore core.function b at core.vars h (memory g))) rest ex frames b (st.in_range core a (Some n))) (sym plain)
-      (answered_follows p based counting args types roots own o ops rest e ex frames b a sets_it core qcore g h at (Ok (Word (pos n))) (has_place a type.Signed ok) fits (is_plain a type.Signed ok refl) stands pointing counts moves)
+      (answered_follows p based counting args types roots own o ops rest e ex frames b a sets_it core qcore g h at (Ok (Word (pos n))) (has_place a type.Signed ok) fits (is_plain a type.Signed ok refl) (λ v f m r. absurd (cc)) stands pointing counts moves)
 
   pub arg_len_followed : (a : ℕ) (x : COperand) → operation_ok p types (op.ArgLen a x) ≡ true → IsFollowed (op.ArgLen a x) (does p args core (op.ArgLen a x))
   arg_len_followed a x ok = by (word_of (operand core.vars x)) refl

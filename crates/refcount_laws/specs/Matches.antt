@@ -54,9 +54,10 @@ PointsTo p blocks statics n (Ptr b) = (block : Block) × (block_in blocks b ≡ 
 PointsTo p blocks statics n (Static s) = (block : Block) × (slice_get statics s ≡ Some block) × (begins_with (shapes_of p.structs) block.kind n ≡ true)
 PointsTo p blocks statics n other = ⊥
 
--- so do these variables, where they refer to a struct that is counted
+-- so do these variables, where they refer to a struct that is counted; the others hold no block
 pub record Pointing (p : LlProgram) (types : List LlType) (blocks : List (Option Block)) (statics : List Block) (uses : ℕ → Bool) (vars : List Value) : Type 0 where
   pub at : (v n : ℕ) → uses v ≡ true → var_referred (around_of (plan_of p) types) v ≡ Some n → PointsTo p blocks statics n (read vars v)
+  pub refers : (v a : ℕ) → uses v ≡ true → read vars v ≡ Ptr a → (n : ℕ) × (var_referred (around_of (plan_of p) types) v ≡ Some n)
 
 -- variables refer to roots
 abbrev pub AllRoots : LlProgram → List LlType → Type 0
