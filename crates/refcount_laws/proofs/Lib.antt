@@ -26,4 +26,5 @@ pub mod Accounts
 pub mod Alike
 pub mod Following
 pub mod Operating
+pub mod Copying
 pub mod Leading

@@ -100,7 +100,7 @@ binary_apart p o x y v f m r = fits_apart p 0 (binary_gives o) v (λ n e. by (gi
     by true n e = cc
     by false n e = cc
 
-typed_inside : (types : List LlType) (a : ℕ) (t : LlType) → slice_get types a ≡ Some t → a < length types
+pub typed_inside : (types : List LlType) (a : ℕ) (t : LlType) → slice_get types a ≡ Some t → a < length types
 typed_inside [] a t e = absurd (cc)
 typed_inside (x ∷ types) zero t e = omega arith
 typed_inside (x ∷ types) (suc a) t e = omega (arith, typed_inside types a t e)
@@ -117,7 +117,7 @@ module _ (p : LlProgram) (based : Based p.structs) (counting : Counting (counted
   around = around_of plan types
 
   -- where the counted program stands before an operation
-  abbrev before : LlOp → State
+  abbrev pub before : LlOp → State
   before o = At (changed around o (dead around (touched o) ops e rest)) ex frames (here qcore core.function b at core.vars h (memory g))
 
   abbrev pub IsFollowed : LlOp → After → Type 0
@@ -126,10 +126,10 @@ module _ (p : LlProgram) (based : Based p.structs) (counting : Counting (counted
   abbrev behind : LlOp → List Value → State
   behind o vars = At (dead around (touched o) ops e rest) ex frames (here qcore core.function b (at + 1) vars h (memory g))
 
-  has_place : (a : ℕ) (t : LlType) → has_type t (slice_get types a) ≡ true → a < length core.vars
+  pub has_place : (a : ℕ) (t : LlType) → has_type t (slice_get types a) ≡ true → a < length core.vars
   has_place a t ok = let lt : a < length types = typed_inside types a t (has_type_is t (slice_get types a) ok) in omega (arith, lt, fits)
 
-  is_plain : (a : ℕ) (t : LlType) → has_type t (slice_get types a) ≡ true → reference_to plan.counted t ≡ None → var_referred around a ≡ None
+  pub is_plain : (a : ℕ) (t : LlType) → has_type t (slice_get types a) ≡ true → reference_to plan.counted t ≡ None → var_referred around a ≡ None
   is_plain a t ok none = ap (reference_given plan.counted) (has_type_is t (slice_get types a) ok) ∙ none
 
   pub unary_followed : (a : ℕ) (o : CUnary) (x : COperand) → operation_ok p types (op.Unary a o x) ≡ true → IsFollowed (op.Unary a o x) (does p args core (op.Unary a o x))
