@@ -27,4 +27,6 @@ pub mod Alike
 pub mod Following
 pub mod Operating
 pub mod Copying
+pub mod Members
+pub mod Getting
 pub mod Leading

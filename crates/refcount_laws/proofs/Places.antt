@@ -122,7 +122,7 @@ module _ (p : LlProgram) (based : Based p.structs) where
   pub base_there : (n m : ℕ) (s : LlStruct) → slice_get p.structs n ≡ Some s → s.base ≡ Some m → HasBase structs counted_based n m
   base_there n m s e b = record { s = struct_by (has_count plan n) s; is = struct_there n s e; base = base_of_struct (has_count plan n) s ∙ b }
 
-  base_back : (n m : ℕ) → HasBase structs counted_based n m → HasBase p.structs based n m
+  pub base_back : (n m : ℕ) → HasBase structs counted_based n m → HasBase p.structs based n m
   base_back n m b = let w : Came p.structs n b.s = came_from plan p.structs 0 n b.s b.is in record { s = w.s; is = w.is; base = sym w.base ∙ b.base }
 
   counted_is : (n : ℕ) (s : LlStruct) → slice_get p.structs n ≡ Some s → is_counted plan n ≡ is_made p.structs p.graphs (root p.structs n)
