@@ -30,3 +30,4 @@ pub mod Copying
 pub mod Members
 pub mod Getting
 pub mod Leading
+pub mod Leaving
