@@ -66,6 +66,9 @@ use Rattle.refcount_laws.proofs.Dead.{same_is, differ_is}
 use Rattle.refcount_laws.proofs.Following.{copy_end}
 use Rattle.refcount_laws.proofs.Operating.{typed_inside, before, IsFollowed}
 use Rattle.std.proofs.lemmas.Option.{slice_get_within}
+use Rattle.std.specs.Prelude.{Result}
+use Rattle.csub_tree.specs.declared.stuck.StuckReason.{StuckReason}
+use Rattle.ll_laws.proofs.Values.{is_less}
 use Rattle.csub_tree.specs.Layout.{shape_at, place}
 use Rattle.csub_tree.specs.Statement.{block_at, reached, as_struct, on_block}
 use Rattle.csub_tree.specs.declared.stuck.StuckReason.TheVariants.{Outside, Kind}
@@ -267,3 +270,141 @@ module _ (p : LlProgram) (based : Based p.structs) (counting : Counting (counted
 
     pub seen_static : Seen n (Static s) block
     seen_static = by_static (fixed_at g.statics s) refl (stands.near.each_static s block is)
+
+  -- ---- what a variable reaches
+
+  struct_of : (n i : ℕ) (t : LlType) → field_of (slice_get p.structs n) i ≡ Some t → StructAt p.structs n
+  struct_of n i t f = by (slice_get p.structs n) refl f
+    where
+      by : (o : Option LlStruct) → slice_get p.structs n ≡ o → field_of o i ≡ Some t → StructAt p.structs n
+      by None g f = absurd (cc)
+      by (Some s) g f = record { s = s; is = g }
+
+  struct_with : (n : ℕ) (t : LlType) → items_of (slice_get p.structs n) ≡ Some t → StructAt p.structs n
+  struct_with n t f = by (slice_get p.structs n) refl f
+    where
+      by : (o : Option LlStruct) → slice_get p.structs n ≡ o → items_of o ≡ Some t → StructAt p.structs n
+      by None g f = absurd (cc)
+      by (Some s) g f = record { s = s; is = g }
+
+  referred_place : (v n : ℕ) → var_referred around v ≡ Some n → v < length core.vars
+  referred_place v n r = let lt : v < length types = inside types v n r in omega (arith, lt, fits)
+    where
+      inside : (ts : List LlType) (v n : ℕ) → reference_given plan.counted (slice_get ts v) ≡ Some n → v < length ts
+      inside [] v n e = absurd (cc)
+      inside (t ∷ ts) zero n e = omega arith
+      inside (t ∷ ts) (suc v) n e = omega (arith, inside ts v n e)
+
+  -- a block that a live variable leads to is there
+  pub var_alive : (uses : ℕ → Bool) (v m : ℕ) → Pointing p types core.blocks core.statics uses core.vars → IsCounted q (counts_of plan) g (λ r. owned around uses core.vars r + own r) → uses v ≡ true → read core.vars v ≡ Ptr m → 0 < count g.blocks m
+  var_alive uses v m pointing counts u r =
+      let w : (n : ℕ) × (var_referred around v ≡ Some n) = pointing.refers v m u r in
+      let has : 0 < owned around uses core.vars (Ptr m) = owned_has around 0 uses core.vars v w.0 m (referred_place v w.0 w.1) u w.1 r in
+      omega (arith, has, counts.blocks m)
+
+  pub var_seen : (uses : ℕ → Bool) (v n : ℕ) (block : Block) → Pointing p types core.blocks core.statics uses core.vars → IsCounted q (counts_of plan) g (λ r. owned around uses core.vars r + own r) → uses v ≡ true → StructAt p.structs n
+      → reached core (shapes_of p.structs) n (read core.vars v) ≡ Ok block → Seen n (read core.vars v) block
+  var_seen uses v n block pointing counts u st found =
+      by (read core.vars v) (λ m r. var_alive uses v m pointing counts u r) (reached_there core (shapes_of p.structs) n (read core.vars v) block found) (reached_begins p core n (read core.vars v) block found)
+    where
+      by : (x : Value) → ((m : ℕ) → x ≡ Ptr m → 0 < count g.blocks m) → block_at core x ≡ Some block → begins_with (shapes_of p.structs) block.kind n ≡ true → Seen n x block
+      by Unset alive at of = absurd (cc)
+      by (Word z) alive at of = absurd (cc)
+      by (Byte z) alive at of = absurd (cc)
+      by (Flag z) alive at of = absurd (cc)
+      by (Fun z) alive at of = absurd (cc)
+      by Null alive at of = absurd (cc)
+      by (Ptr m) alive at of = seen_block (λ r. owned around uses core.vars r + own r) n m block at of (alive m refl) counts
+      by (Static s) alive at of = seen_static n s block at of st
+
+  -- ---- fields
+
+  abbrev step_of : LlOp → List LlOp → State
+  step_of o rest = At (o ∷ rest) ex frames (here qcore core.function b at core.vars h (memory g))
+
+  module _ (a n v i : ℕ) (t : LlType) (is_field : field_of (slice_get p.structs n) i ≡ Some t) (typed : slice_get types a ≡ Some t) (unread : (m : ℕ) → var_referred around a ≡ Some m → among a (v ∷ []) ≡ false) where
+    pub get_field_followed : ((block : Block) → reached core (shapes_of p.structs) n (read core.vars v) ≡ Ok block → MayHold p based counting args types roots own ops rest e ex frames b core qcore g h at fits stands k room a (read block.fields (place (shape_at (shapes_of p.structs) n) i)))
+        → IsFollowedHere (op.GetField a n v i) (does p args core (op.GetField a n v i))
+    get_field_followed may pointing counts = by (reached core (shapes_of p.structs) n (read core.vars v)) refl
+      where
+        used : live (op.GetField a n v i ∷ ops) e v ≡ true
+        used = ap (λ y. (y || false) || (not (sets (Some a) v) && live ops e v)) (same_is v)
+
+        inside : a < length core.vars
+        inside = let lt : a < length types = typed_inside types a t typed in omega (arith, lt, fits)
+
+        set : (block : Block) → reached core (shapes_of p.structs) n (read core.vars v) ≡ Ok block → (y : Bool) → is_unset (read block.fields (place (shape_at (shapes_of p.structs) n) i)) ≡ y
+            → Follows p args types (live ops e) own (At (changed around (op.GetField a n v i) (dead around (touched (op.GetField a n v i)) ops e rest)) ex frames (here qcore core.function b at core.vars h (memory g))) rest ex frames b
+            (cond y (Stuck IsUnset) (st.assigned core a (read block.fields (place (shape_at (shapes_of p.structs) n) i))))
+        set block found true y = tt
+        set block found false y =
+            let x : Value = read block.fields (place (shape_at (shapes_of p.structs) n) i) in
+            let s : Seen n (read core.vars v) block = var_seen (live (op.GetField a n v i ∷ ops) e) v n block pointing counts used (struct_of n i t is_field) found in
+            let may_hold : MayHold p based counting args types roots own ops rest e ex frames b core qcore g h at fits stands k room a x = may block found in
+            let behind : List LlOp = up around (Var a) (dead around (touched (op.GetField a n v i)) ops e rest) in
+            comes_before p based counting args types roots own (op.GetField a n v i) ops rest e ex frames b (live ops e) (step_of (op.GetField a n v (shifted plan n i)) behind)
+            (At behind ex frames (here qcore core.function b (at + 1) (slice_set core.vars a x) h (memory g))) (record core { at = core.at + 1; vars = slice_set core.vars a x })
+            (get_step q args qcore core.function b ex frames a n v (shifted plan n i) at behind core.vars h (memory g) (read core.vars v) x s.other refl (pointer_set core (read core.vars v) block (reached_there core (shapes_of p.structs) n (read core.vars v) block found))
+            s.found s.of (s.field i y) y)
+            (copy_end p based counting args types roots own (op.GetField a n v i) ops rest e ex frames b a refl core qcore g h (at + 1) k x inside fits unread stands pointing may_hold.points may_hold.refers
+            (λ m r. (let w : (n : ℕ) × (var_referred around a ≡ Some n) = may_hold.refers m r in s.alive i m w.0 t r is_field (ap (reference_given plan.counted) (sym typed) ∙ w.1))) room counts)
+
+        by : (r : Result Block StuckReason) → reached core (shapes_of p.structs) n (read core.vars v) ≡ r
+            → Follows p args types (live ops e) own (At (changed around (op.GetField a n v i) (dead around (touched (op.GetField a n v i)) ops e rest)) ex frames (here qcore core.function b at core.vars h (memory g))) rest ex frames b
+            (on_block (λ block. st.set core a (read block.fields (place (shape_at (shapes_of p.structs) n) i))) r)
+        by (Err reason) found = tt
+        by (Ok block) found = set block found (is_unset (read block.fields (place (shape_at (shapes_of p.structs) n) i))) refl
+
+  -- ---- items
+
+  module _ (a n v : ℕ) (x : COperand) (t : LlType) (are_items : items_of (slice_get p.structs n) ≡ Some t) (typed : slice_get types a ≡ Some t) (unread : (m : ℕ) → var_referred around a ≡ Some m → among a (v ∷ variables_of x) ≡ false) where
+    pub get_item_followed : ((block : Block) (i : ℕ) → reached core (shapes_of p.structs) n (read core.vars v) ≡ Ok block → MayHold p based counting args types roots own ops rest e ex frames b core qcore g h at fits stands k room a (read block.items i))
+        → IsFollowedHere (op.GetItem a n v x) (does p args core (op.GetItem a n v x))
+    get_item_followed may pointing counts = by (word_of (operand core.vars x)) refl (reached core (shapes_of p.structs) n (read core.vars v)) refl
+      where
+        used : live (op.GetItem a n v x ∷ ops) e v ≡ true
+        used = ap (λ y. (y || among v (variables_of x)) || (not (sets (Some a) v) && live ops e v)) (same_is v)
+
+        inside : a < length core.vars
+        inside = let lt : a < length types = typed_inside types a t typed in omega (arith, lt, fits)
+
+        word_is : (u : Value) (i : ℕ) → word_of u ≡ Some (pos i) → u ≡ Word (pos i)
+        word_is (Word z) i f = let g : z ≡ pos i = cc in ap Word g
+        word_is Unset i f = absurd (cc)
+        word_is (Byte z) i f = absurd (cc)
+        word_is (Flag z) i f = absurd (cc)
+        word_is (Fun z) i f = absurd (cc)
+        word_is Null i f = absurd (cc)
+        word_is (Ptr z) i f = absurd (cc)
+        word_is (Static z) i f = absurd (cc)
+
+        set : (block : Block) (i : ℕ) → reached core (shapes_of p.structs) n (read core.vars v) ≡ Ok block → word_of (operand core.vars x) ≡ Some (pos i) → i < length block.items → (y : Bool) → is_unset (read block.items i) ≡ y
+            → Follows p args types (live ops e) own (At (changed around (op.GetItem a n v x) (dead around (touched (op.GetItem a n v x)) ops e rest)) ex frames (here qcore core.function b at core.vars h (memory g))) rest ex frames b
+            (cond y (Stuck IsUnset) (st.assigned core a (read block.items i)))
+        set block i found w lt true y = tt
+        set block i found w lt false y =
+            let z : Value = read block.items i in
+            let s : Seen n (read core.vars v) block = var_seen (live (op.GetItem a n v x ∷ ops) e) v n block pointing counts used (struct_with n t are_items) found in
+            let may_hold : MayHold p based counting args types roots own ops rest e ex frames b core qcore g h at fits stands k room a z = may block i found in
+            let behind : List LlOp = up around (Var a) (dead around (touched (op.GetItem a n v x)) ops e rest) in
+            comes_before p based counting args types roots own (op.GetItem a n v x) ops rest e ex frames b (live ops e) (step_of (op.GetItem a n v x) behind)
+            (At behind ex frames (here qcore core.function b (at + 1) (slice_set core.vars a z) h (memory g))) (record core { at = core.at + 1; vars = slice_set core.vars a z })
+            (item_step q args qcore core.function b ex frames a n v at i x behind core.vars h (memory g) (read core.vars v) z s.other refl (pointer_set core (read core.vars v) block (reached_there core (shapes_of p.structs) n (read core.vars v) block found))
+            (word_is (operand core.vars x) i w) (omega (arith, lt, s.size)) s.found s.of (s.item i y) y)
+            (copy_end p based counting args types roots own (op.GetItem a n v x) ops rest e ex frames b a refl core qcore g h (at + 1) k z inside fits unread stands pointing may_hold.points may_hold.refers
+            (λ m r. (let w : (n : ℕ) × (var_referred around a ≡ Some n) = may_hold.refers m r in s.alive_item i m w.0 t r are_items (ap (reference_given plan.counted) (sym typed) ∙ w.1))) room counts)
+
+        at_item : (block : Block) (i : ℕ) → reached core (shapes_of p.structs) n (read core.vars v) ≡ Ok block → word_of (operand core.vars x) ≡ Some (pos i) → (y : Bool) → nat_lt i (length block.items) ≡ y
+            → Follows p args types (live ops e) own (At (changed around (op.GetItem a n v x) (dead around (touched (op.GetItem a n v x)) ops e rest)) ex frames (here qcore core.function b at core.vars h (memory g))) rest ex frames b
+            (cond y (st.set core a (read block.items i)) (Stuck Outside))
+        at_item block i found w false y = tt
+        at_item block i found w true y = set block i found w (is_less i (length block.items) y) (is_unset (read block.items i)) refl
+
+        by : (w : Option ℤ) → word_of (operand core.vars x) ≡ w → (r : Result Block StuckReason) → reached core (shapes_of p.structs) n (read core.vars v) ≡ r
+            → Follows p args types (live ops e) own (At (changed around (op.GetItem a n v x) (dead around (touched (op.GetItem a n v x)) ops e rest)) ex frames (here qcore core.function b at core.vars h (memory g))) rest ex frames b
+            (st.on (λ i. on_block (λ block. st.item core a block.items i) r) w)
+        by None w r found = tt
+        by (Some (negsuc i)) w (Err reason) found = tt
+        by (Some (negsuc i)) w (Ok block) found = tt
+        by (Some (pos i)) w (Err reason) found = tt
+        by (Some (pos i)) w (Ok block) found = at_item block i found w (nat_lt i (length block.items)) refl
