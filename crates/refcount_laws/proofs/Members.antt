@@ -1,5 +1,5 @@
 -- Fields that are references are among those that are held.
-use Rattle.std.proofs.Common.{◌≡◌, ◌≢◌, ◌⊎◌, inl, inr, ⊎_elim, ◌<◌, ◌≤◌, ℕ, zero, suc, ◌+◌, ◌-◌, Bool, true, false, List, [], ◌∷◌, ◌++◌, length, map, Option, Some, None, refl, sym, ap, ◌∙◌, subst, arith}
+use Rattle.std.proofs.Common.{◌≡◌, ◌≢◌, ◌⊎◌, inl, inr, ⊎_elim, ◌<◌, ◌≤◌, ℕ, zero, suc, ◌+◌, ◌-◌, Bool, true, false, ◌&&◌, List, [], ◌∷◌, ◌++◌, length, map, Option, Some, None, refl, sym, ap, ◌∙◌, subst, arith}
 use Rattle.std.specs.Prelude.{slice_get, is_none}
 use Rattle.csub_tree.specs.State.{Value, Ptr, Block}
 use Rattle.csub_tree.specs.Layout.{shape_at, shape_over, base_of, begins_with, place}
@@ -21,7 +21,7 @@ use Rattle.refcount_laws.proofs.Numbers.{Based}
 use Rattle.refcount_laws.proofs.Shapes.{Begins, Itself, ByBase, begins_by, HasBase}
 use Rattle.refcount_laws.proofs.Standing.{StructAt, marked_there}
 use Rattle.refcount_laws.proofs.Places.{counted_based, counted_base, has_count_is, base_back, earlier}
-use Rattle.refcount_laws.proofs.Alike.{place_same}
+use Rattle.refcount_laws.proofs.Alike.{place_same, plain_shape, wide_shape}
 
 abbrev pub HasPlace : ℕ → List Reference → Type 0
 HasPlace at [] = ⊥
@@ -129,3 +129,37 @@ module _ (p : LlProgram) (based : Based p.structs) where
       inside [] n s e = absurd (cc)
       inside (x ∷ l) zero s e = omega arith
       inside (x ∷ l) (suc n) s e = omega (arith, inside l n s e)
+
+  same_fuel : (f k n : ℕ) → k < f → begins_with (shapes_counted plan) k n ≡ true → is_counted plan k ≡ is_counted plan n
+  same_fuel zero k n lt h = absurd (omega (arith, lt))
+  same_fuel (suc f) k n lt h = by (λ m l x. same_fuel f m n l x) (begins_by (structs_of plan) (counted_based p based) k n h)
+    where
+      by : ((m : ℕ) → m < f → begins_with (shapes_counted plan) m n ≡ true → is_counted plan m ≡ is_counted plan n) → Begins (structs_of plan) (counted_based p based) k n → is_counted plan k ≡ is_counted plan n
+      by go (Itself s e q) = ap (is_counted plan) (sym q)
+      by go (ByBase m b l x) =
+          let back : HasBase p.structs based k m = base_back p based k m b in
+          let there : StructAt p.structs m = earlier p.structs k m back.s back.is l in
+          counted_base p based k m back there.s there.is ∙ go m (omega (arith, l, lt)) x
+
+  pub counted_alike : (k n : ℕ) → begins_with (shapes_counted plan) k n ≡ true → is_counted plan k ≡ is_counted plan n
+  counted_alike k n h = same_fuel (suc k) k n (omega arith) h
+
+  -- a struct that is not counted is as it was
+  shape_fuel : (f n : ℕ) (s : LlStruct) → n < f → slice_get p.structs n ≡ Some s → is_counted plan n ≡ false → shape_at (shapes_counted plan) n ≡ shape_at (shapes_of p.structs) n
+  shape_fuel zero n s lt e c = absurd (omega (arith, lt))
+  shape_fuel (suc f) n s lt e c = by (λ m t l i d. shape_fuel f m t l i d) s.base refl
+    where
+      not_counted : has_count plan n ≡ false
+      not_counted = ap (λ b. b && is_none (base_at plan n)) c
+
+      by : ((m : ℕ) (t : LlStruct) → m < f → slice_get p.structs m ≡ Some t → is_counted plan m ≡ false → shape_at (shapes_counted plan) m ≡ shape_at (shapes_of p.structs) m) → (o : Option ℕ) → s.base ≡ o → shape_at (shapes_counted plan) n ≡ shape_at (shapes_of p.structs) n
+      by go None b = wide_shape p based n s None false e b not_counted ∙ sym (plain_shape p based n s None e b)
+      by go (Some m) b =
+          let less : m < n = based.before n m s e b in
+          let t : StructAt p.structs m = earlier p.structs n m s e less in
+          let cm : is_counted plan m ≡ false = sym (counted_base p based n m (record { s = s; is = e; base = b }) t.s t.is) ∙ c in
+          wide_shape p based n s (Some m) false e b not_counted ∙ ap (λ x. shape_over n (length s.fields) (Some x)) (go m t.s (omega (arith, less, lt)) t.is cm) ∙ sym (plain_shape p based n s (Some m) e b)
+
+  pub place_plain : (n k : ℕ) (s : LlStruct) → slice_get p.structs n ≡ Some s → is_counted plan n ≡ false → place (shape_at (shapes_counted plan) n) (shifted plan n k) ≡ place (shape_at (shapes_of p.structs) n) k
+  place_plain n k s e c =
+      ap (λ x. place x (shifted plan n k)) (shape_fuel (suc n) n s (omega arith) e c) ∙ ap (λ b. place (shape_at (shapes_of p.structs) n) (behind_count (b && is_none (base_at plan n)) k)) c
