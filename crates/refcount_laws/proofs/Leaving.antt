@@ -1,12 +1,13 @@
 -- Exits of a counted program: links give their references on, and a block drops the inputs that it does not read.
 use Rattle.std.proofs.Common.{◌≡◌, ◌≢◌, ◌⊎◌, inl, inr, ⊎_elim, ◌<◌, ◌≤◌, ℕ, zero, suc, ◌+◌, Bool, true, false, ◌&&◌, ◌||◌, List, [], ◌∷◌, ◌++◌, length, map, Option, Some, None, refl, sym, ap, ◌∙◌, subst, arith}
 use Rattle.std.specs.Prelude.{slice_get, slice_set, slice_index_or, ◌==◌, not, cond}
-use Rattle.csub_tree.specs.State.{Value, Unset, Ptr, Block, Core, IsUnset}
+use Rattle.csub_tree.specs.State.{Value, Unset, Ptr, Block, Core}
 use Rattle.csub_tree.specs.Statement.{read, operand, operands, any_unset}
 use Rattle.csub_tree.specs.declared.tree.CConst.TheVariants as const
 use Rattle.csub_tree.specs.declared.tree.COperand.{COperand}
 use Rattle.csub_tree.specs.declared.tree.COperand.TheVariants.{Var, Const}
-use Rattle.ll_code.specs.State.{Frame, State, At, Goes, Sticks}
+use Rattle.csub_tree.specs.declared.stuck.StuckReason.TheVariants.{Unset as IsUnset}
+use Rattle.ll_code.specs.State.{Frame, State, At, Goes, Sticks, Next}
 use Rattle.ll_code.specs.Machine.{step, jump, begins, block_in, set_all}
 use Rattle.ll_code.specs.Typed.{all_given, given_takes, takes}
 use Rattle.ll_code.specs.declared.program.LlType.{LlType}
@@ -76,6 +77,10 @@ all_here : (vars : List Value) (v : ℕ) (vs : List ℕ) (y : Value) (ys : List 
 all_here vars v vs y ys lt h = all_other (slice_set vars v y) vs ys v h ∙ set_here vars v y Unset lt
 
 -- ---- what the inputs of a block own
+
+-- what is still used while these variables are to be dropped
+abbrev left_over : List LlOp → LlExit → List ℕ → ℕ → Bool
+left_over ops e vs w = live ops e w || among w vs
 
 module _ (p : LlProgram) (types : List LlType) where
   abbrev around_ : Around
@@ -175,7 +180,7 @@ module _ (p : LlProgram) (based : Based p.structs) (counting : Counting (counted
     arrives g h b at from stands pointing counts stepped =
         let begun : State = At (dead around block.inputs block.ops block.exit (ops_of around block.ops block.exit)) (exit_of around next block.exit) frames (here qcore core.function link.to 0 vars h (memory g)) in
         let moves : step q args from ≡ Goes begun =
-        stepped ∙ ap (λ y. cond y (Sticks _) (begins frames (here qcore core.function b at core.vars h (memory g)) link.to (operands core.vars link.args) (block_in (slice_get q.graphs core.function) link.to))) set
+        stepped ∙ ap (λ y. cond y (Sticks IsUnset) (begins frames (here qcore core.function b at core.vars h (memory g)) link.to (operands core.vars link.args) (block_in (slice_get q.graphs core.function) link.to))) set
         ∙ ap (begins frames (here qcore core.function b at core.vars h (memory g)) link.to (operands core.vars link.args)) there in
         let long : length vars ≡ length types = all_length core.vars block.inputs (operands core.vars link.args) ∙ fits in
         let d : DoneTo q args c g (λ r. owned around (live block.ops block.exit) vars r + own r) begun (ops_of around block.ops block.exit) (exit_of around next block.exit) frames qcore core.function link.to vars =
@@ -184,8 +189,8 @@ module _ (p : LlProgram) (based : Based p.structs) (counting : Counting (counted
           root = λ v n u e. roots v n e;
           leads = λ v n u e. value_leads p based counting args types roots core.blocks core.statics g stands.near n (read vars v) (given_marked plan.counted (slice_get types v) n e) (roots v n e) (pointing.at v n (sym (used v) ∙ u) e);
         })
-        (own_same q args c g (λ r. all_hits around core.vars link.args r + own r) (λ r. owned around (left_with block.ops block.exit block.inputs) vars r + own r)
-        (λ r. ap (λ n. n + own r) (sym (inputs_owned p types core.vars block.inputs link.args core.vars r ok apart fits) ∙ owned_same around (λ w. among w block.inputs) (left_with block.ops block.exit block.inputs) vars r (λ w. sym (used w)))) counts) in
+        (own_same q args c g (λ r. all_hits around core.vars link.args r + own r) (λ r. owned around (left_over block.ops block.exit block.inputs) vars r + own r)
+        (λ r. ap (λ n. n + own r) (sym (inputs_owned p types core.vars block.inputs link.args core.vars r ok apart fits) ∙ owned_same around (λ w. among w block.inputs) (left_over block.ops block.exit block.inputs) vars r (λ w. sym (used w)))) counts) in
         record {
           qcore = qcore;
           g = d.done.later;
@@ -202,7 +207,7 @@ module _ (p : LlProgram) (based : Based p.structs) (counting : Counting (counted
           leads = leads_on q args (goes q args from begun moves) d.done.leads;
         }
       where
-        used : (w : ℕ) → left_with block.ops block.exit block.inputs w ≡ among w block.inputs
+        used : (w : ℕ) → left_over block.ops block.exit block.inputs w ≡ among w block.inputs
         used w = one (live block.ops block.exit w) refl
           where
             one : (b : Bool) → live block.ops block.exit w ≡ b → (b || among w block.inputs) ≡ among w block.inputs
