@@ -17,7 +17,7 @@ use Rattle.ll_code.specs.declared.program.LlExit.{LlExit}
 use Rattle.ll_code.specs.declared.program.LlExit.TheVariants as exit
 use Rattle.ll_code.specs.declared.program.LlBlock.{LlBlock}
 use Rattle.ll_code.specs.declared.program.LlProgram.{LlProgram}
-use Rattle.ll_live.specs.Live.{among, variables_in, live}
+use Rattle.ll_live.specs.Live.{among, variables_in, variables_of, live}
 use Rattle.ll_laws.proofs.Values.{and_left, and_right, is_same}
 use Rattle.refcount_transform.specs.Plan.{Plan, plan_of, root_of, reference_given}
 use Rattle.refcount_transform.specs.Changes.{Around, around_of, var_referred, operand_referred, given, dead, ops_of}
@@ -31,7 +31,7 @@ use Rattle.refcount_laws.specs.Touched.{Shown, Done}
 use Rattle.refcount_laws.specs.Owned.{owns, owned, Leading, DoneTo, hits_by, operand_hits, all_hits, given_hits, OperandLeads, OperandsLead, Roomy}
 use Rattle.refcount_laws.specs.Matches.{PointsTo, Pointing, AllRoots, Stands, Comes}
 use Rattle.refcount_laws.proofs.Cells.{set_here, set_other, set_length}
-use Rattle.refcount_laws.proofs.Steps.{stays, leads_on, goes}
+use Rattle.refcount_laws.proofs.Steps.{stays, leads_on, goes, on_count, goes_count}
 use Rattle.refcount_laws.proofs.Touching.{is_or_not}
 use Rattle.refcount_laws.proofs.Moving.{own_same}
 use Rattle.refcount_laws.proofs.Numbers.{Based}
@@ -79,7 +79,7 @@ all_here vars v vs y ys lt h = all_other (slice_set vars v y) vs ys v h ∙ set_
 -- ---- what the inputs of a block own
 
 -- what is still used while these variables are to be dropped
-abbrev left_over : List LlOp → LlExit → List ℕ → ℕ → Bool
+abbrev pub left_over : List LlOp → LlExit → List ℕ → ℕ → Bool
 left_over ops e vs w = live ops e w || among w vs
 
 module _ (p : LlProgram) (types : List LlType) where
@@ -164,6 +164,11 @@ module _ (p : LlProgram) (based : Based p.structs) (counting : Counting (counted
   abbrev around : Around
   around = around_of plan types
 
+  -- it comes there by some steps
+  pub record Arrives (uses : ℕ → Bool) (from : State) (rest : List LlOp) (ex : LlExit) (block : ℕ) (later : Core) : Type 0 where
+    pub comes : Comes p args types uses own from rest ex frames block later
+    pub moves : 0 < comes.leads.count
+
   -- ---- a link whose references were counted
 
   module _ (link : LlLink) (block : LlBlock) (next : ℕ) (ok : all_given p types types block.inputs link.args ≡ true) (apart : are_apart block.inputs ≡ true) (closed : (v : ℕ) → live block.ops block.exit v ≡ true → among v block.inputs ≡ true)
@@ -176,7 +181,7 @@ module _ (p : LlProgram) (based : Based p.structs) (counting : Counting (counted
 
     pub arrives : (g : Ghost) (h : List (Option Block)) (b at : ℕ) (from : State) → Stands p core qcore g h → Pointing p types core.blocks core.statics (λ w. among w block.inputs) vars
         → IsCounted q c g (λ r. all_hits around core.vars link.args r + own r) → step q args from ≡ jump q frames (here qcore core.function b at core.vars h (memory g)) link
-        → Comes p args types (live block.ops block.exit) own from (ops_of around block.ops block.exit) (exit_of around next block.exit) frames link.to later
+        → Arrives (live block.ops block.exit) from (ops_of around block.ops block.exit) (exit_of around next block.exit) link.to later
     arrives g h b at from stands pointing counts stepped =
         let begun : State = At (dead around block.inputs block.ops block.exit (ops_of around block.ops block.exit)) (exit_of around next block.exit) frames (here qcore core.function link.to 0 vars h (memory g)) in
         let moves : step q args from ≡ Goes begun =
@@ -191,7 +196,7 @@ module _ (p : LlProgram) (based : Based p.structs) (counting : Counting (counted
         })
         (own_same q args c g (λ r. all_hits around core.vars link.args r + own r) (λ r. owned around (left_over block.ops block.exit block.inputs) vars r + own r)
         (λ r. ap (λ n. n + own r) (sym (inputs_owned p types core.vars block.inputs link.args core.vars r ok apart fits) ∙ owned_same around (λ w. among w block.inputs) (left_over block.ops block.exit block.inputs) vars r (λ w. sym (used w)))) counts) in
-        record {
+        let comes : Comes p args types (live block.ops block.exit) own from (ops_of around block.ops block.exit) (exit_of around next block.exit) frames link.to later = record {
           qcore = qcore;
           g = d.done.later;
           h = d.done.blocks;
@@ -205,7 +210,8 @@ module _ (p : LlProgram) (based : Based p.structs) (counting : Counting (counted
           };
           counts = d.done.counted;
           leads = leads_on q args (goes q args from begun moves) d.done.leads;
-        }
+        } in
+        record { comes = comes; moves = omega (arith, on_count q args (goes q args from begun moves) d.done.leads, goes_count q args from begun moves) }
       where
         used : (w : ℕ) → left_over block.ops block.exit block.inputs w ≡ among w block.inputs
         used w = one (live block.ops block.exit w) refl
@@ -213,3 +219,59 @@ module _ (p : LlProgram) (based : Based p.structs) (counting : Counting (counted
             one : (b : Bool) → live block.ops block.exit w ≡ b → (b || among w block.inputs) ≡ among w block.inputs
             one true e = sym (closed w e)
             one false e = refl
+
+  -- ---- operands that are given
+
+  module _ (uses : ℕ → Bool) (g : Ghost) (h : List (Option Block)) (stands : Stands p core qcore g h) (pointing : Pointing p types core.blocks core.statics uses core.vars) (most : Value → ℕ) (more : (r : Value) → owned around uses core.vars r ≤ most r) where
+    owned_by : (x : COperand) (n a : ℕ) → ((w : ℕ) → among w (variables_of x) ≡ true → uses w ≡ true) → operand_referred around x ≡ Some n → operand core.vars x ≡ Ptr a → 0 < most (Ptr a)
+    owned_by (Var w) n a used e is =
+        let l : w < length types = referred_inside types w n e in
+        let lt : w < length core.vars = omega (arith, l, fits) in
+        omega (arith, owned_has around 0 uses core.vars w n a lt (used w (ap (λ b. b || false) (same_is w))) e is, more (Ptr a))
+      where
+        referred_inside : (ts : List LlType) (v n : ℕ) → reference_given plan.counted (slice_get ts v) ≡ Some n → v < length ts
+        referred_inside [] v n e = absurd (cc)
+        referred_inside (t ∷ ts) zero n e = omega arith
+        referred_inside (t ∷ ts) (suc v) n e = omega (arith, referred_inside ts v n e)
+    owned_by (Const (const.Word z)) n a used e is = absurd (cc)
+    owned_by (Const (const.Char z)) n a used e is = absurd (cc)
+    owned_by (Const (const.Bool z)) n a used e is = absurd (cc)
+    owned_by (Const const.Null) n a used e is = absurd (cc)
+    owned_by (Const (const.Static s z)) n a used e is = absurd (cc)
+    owned_by (Const (const.Fun z)) n a used e is = absurd (cc)
+
+    -- each leads where the variable that takes it points
+    pub inputs_lead : (vs : List ℕ) (xs : List COperand) (vars : List Value) → all_given p types types vs xs ≡ true → are_apart vs ≡ true → length vars ≡ length types → ((w : ℕ) → among w (variables_in xs) ≡ true → uses w ≡ true)
+        → Pointing p types core.blocks core.statics (λ w. among w vs) (set_all vars vs (operands core.vars xs)) → OperandsLead q around g most core.vars xs
+    inputs_lead [] [] vars ok apart long used at = tt
+    inputs_lead [] (x ∷ xs) vars ok apart long used at = absurd (cc)
+    inputs_lead (v ∷ vs) [] vars ok apart long used at = absurd (cc)
+    inputs_lead (v ∷ vs) (x ∷ xs) vars ok apart long used at =
+        let y : Value = operand core.vars x in
+        let t : given_takes p types (slice_get types v) x ≡ true = and_left _ _ ok in
+        let lt : v < length vars = (let l : v < length types = inside_at p types v x t in omega (arith, l, long)) in
+        let is : read (set_all (slice_set vars v y) vs (operands core.vars xs)) v ≡ y = all_here vars v vs y (operands core.vars xs) lt (not_true (among v vs) (and_left _ _ apart)) in
+        (record {
+          root = λ n e. roots v n (refers_at p types v x n t e);
+          leads = λ n e. (let f : var_referred around v ≡ Some n = refers_at p types v x n t e in
+          value_leads p based counting args types roots core.blocks core.statics g stands.near n y (given_marked plan.counted (slice_get types v) n f) (roots v n f) (subst (PointsTo p core.blocks core.statics n) is (at.at v n (ap (λ b. b || among v vs) (same_is v)) f)));
+          owned = λ n a e i. owned_by x n a (λ w m. used w (first_in x xs w m)) e i;
+        },
+        inputs_lead vs xs (slice_set vars v y) (and_right _ _ ok) (and_right _ _ apart) (set_length vars v y ∙ long) (λ w m. used w (later_in x xs w m))
+        (record { at = λ w n u e. at.at w n (behind (v == w) (among w vs) u) e; refers = λ w a u e. at.refers w a (behind (v == w) (among w vs) u) e }))
+      where
+        behind : (b c : Bool) → c ≡ true → (b || c) ≡ true
+        behind true c e = refl
+        behind false c e = e
+
+        first_in : (x : COperand) (xs : List COperand) (w : ℕ) → among w (variables_of x) ≡ true → among w (variables_in (x ∷ xs)) ≡ true
+        first_in (Var z) xs w m = by (z == w) m
+          where
+            by : (b : Bool) → (b || false) ≡ true → (b || among w (variables_in xs)) ≡ true
+            by true e = refl
+            by false e = absurd (cc)
+        first_in (Const k) xs w m = absurd (cc)
+
+        later_in : (x : COperand) (xs : List COperand) (w : ℕ) → among w (variables_in xs) ≡ true → among w (variables_in (x ∷ xs)) ≡ true
+        later_in (Var z) xs w m = behind (z == w) (among w (variables_in xs)) m
+        later_in (Const k) xs w m = m

@@ -31,3 +31,4 @@ pub mod Members
 pub mod Getting
 pub mod Leading
 pub mod Leaving
+pub mod Exits
