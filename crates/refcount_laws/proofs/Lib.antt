@@ -32,3 +32,4 @@ pub mod Getting
 pub mod Leading
 pub mod Leaving
 pub mod Exits
+pub mod Blocks
