@@ -10,12 +10,8 @@ use Rattle.refcount_transform.specs.Made.{all_made}
 use Rattle.refcount_transform.specs.Changes.{Around, around_of}
 use Rattle.refcount_transform.specs.Blocks.{behind_exit, block_of, firsts, others, blocks_of, graph_of}
 use Rattle.refcount_transform.specs.Counted.{counted}
+use Rattle.refcount_laws.specs.Leaves.{From}
 use Rattle.refcount_laws.proofs.Numbers.{get_left, get_right}
-
--- these blocks stand at a number and behind it
-abbrev pub From : List LlBlock → ℕ → List LlBlock → Type 0
-From all n [] = Unit {0}
-From all n (x ∷ xs) = (slice_get all n ≡ Some x) × From all (n + 1) xs
 
 pub from_left : (all : List LlBlock) (n : ℕ) (xs ys : List LlBlock) → From all n (xs ++ ys) → From all n xs
 from_left all n [] ys h = tt

@@ -30,6 +30,7 @@ use Rattle.refcount_laws.specs.Runs.{Leads, here}
 use Rattle.refcount_laws.specs.Touched.{Shown, Done}
 use Rattle.refcount_laws.specs.Owned.{owns, owned, Leading, DoneTo, hits_by, operand_hits, all_hits, given_hits, OperandLeads, OperandsLead, Roomy}
 use Rattle.refcount_laws.specs.Matches.{PointsTo, Pointing, AllRoots, Stands, Comes}
+use Rattle.refcount_laws.specs.Leaves.{are_apart, GivesBack}
 use Rattle.refcount_laws.proofs.Cells.{set_here, set_other, set_length}
 use Rattle.refcount_laws.proofs.Steps.{stays, leads_on, goes}
 use Rattle.refcount_laws.proofs.Touching.{is_or_not}
@@ -53,7 +54,7 @@ use Rattle.refcount_transform.specs.Blocks.{left, way_ops, way_link, way_block}
 use Rattle.refcount_transform.specs.Changes.{down_unless}
 use Rattle.refcount_transform.specs.Made.{link_to, block_with}
 use Rattle.refcount_laws.proofs.Steps.{one_more, on_count}
-use Rattle.refcount_laws.proofs.Leaving.{left_over, are_apart, Arrives, arrives, inputs_lead}
+use Rattle.refcount_laws.proofs.Leaving.{left_over, Arrives, arrives, inputs_lead}
 use Rattle.refcount_laws.proofs.Accounts.{among_both}
 use Rattle.refcount_laws.proofs.Following.{vars_lead}
 
@@ -80,17 +81,6 @@ left_is_dead : (around : Around) (way : LlLink) (vs : List ℕ) (rest : List LlO
 left_is_dead around way [] rest = refl
 left_is_dead around way (v ∷ vs) rest =
     ap (λ b. down_unless (among v vs || b) around v (left around way.args vs rest)) (sym (or_none (among v (variables_in way.args)))) ∙ ap (down_unless (among v vs || (among v (variables_in way.args) || false)) around v) (left_is_dead around way vs rest)
-
--- it comes back with this value, and owns so much besides
-pub record GivesBack (p : LlProgram) (args : List (List ℕ)) (value : Value) (own : Value → ℕ) (from : State) (frames : List Frame) (core : Core) : Type 0 where
-  pub qcore : Core
-  pub g : Ghost
-  pub h : List (Option Block)
-  pub b : ℕ
-  pub at : ℕ
-  pub stands : Stands p core qcore g h
-  pub counts : IsCounted (counted p) (counts_of (plan_of p)) g own
-  pub leads : Leads (counted p) args from (Returning value frames (here qcore core.function b at core.vars h (memory g)))
 
 module _ (p : LlProgram) (based : Based p.structs) (counting : Counting (counted p) (counts_of (plan_of p))) (args : List (List ℕ)) (types : List LlType) (roots : AllRoots p types) (own : Value → ℕ) (frames : List Frame) (core qcore : Core) (fits : length core.vars ≡ length types) where
   abbrev plan : Plan

@@ -30,6 +30,7 @@ use Rattle.refcount_laws.specs.Runs.{Leads, here}
 use Rattle.refcount_laws.specs.Touched.{Shown, Done}
 use Rattle.refcount_laws.specs.Owned.{owns, owned, Leading, DoneTo, hits_by, operand_hits, all_hits, given_hits, OperandLeads, OperandsLead, Roomy}
 use Rattle.refcount_laws.specs.Matches.{PointsTo, Pointing, AllRoots, Stands, Comes}
+use Rattle.refcount_laws.specs.Leaves.{are_apart}
 use Rattle.refcount_laws.proofs.Cells.{set_here, set_other, set_length}
 use Rattle.refcount_laws.proofs.Steps.{stays, leads_on, goes, on_count, goes_count}
 use Rattle.refcount_laws.proofs.Touching.{is_or_not}
@@ -45,11 +46,6 @@ use Rattle.refcount_laws.proofs.Operating.{typed_inside}
 use Rattle.refcount_laws.proofs.Copying.{owned_has, taken_by, refers_to}
 
 -- ---- variables that are set at once
-
--- each stands once
-abbrev pub are_apart : List ℕ → Bool
-are_apart [] = true
-are_apart (v ∷ vs) = not (among v vs) && are_apart vs
 
 not_true : (b : Bool) → not b ≡ true → b ≡ false
 not_true true h = absurd (cc)

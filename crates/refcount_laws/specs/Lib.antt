@@ -6,3 +6,4 @@ pub mod Owned
 pub mod Reach
 pub mod Runs
 pub mod Touched
+pub mod Leaves
