@@ -33,3 +33,4 @@ pub mod Leading
 pub mod Leaving
 pub mod Exits
 pub mod Blocks
+pub mod Departing
