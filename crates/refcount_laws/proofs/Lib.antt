@@ -29,4 +29,5 @@ pub mod Operating
 pub mod Copying
 pub mod Members
 pub mod Getting
+pub mod Spread
 pub mod Leading
