@@ -140,3 +140,129 @@ module _ (p : LlProgram) (based : Based p.structs) (n : ℕ) (s : LlStruct) (e :
       by : (o : Option ℕ) → Apart r (map (reference_of plan) (held_from plan n (suc place) ts)) → Apart r (map (reference_of plan) (held_if n (field_number plan n place) o (held_from plan n (suc place) ts)))
       by None a = a
       by (Some i) a = ((λ q. absurd (let y : place_in plan n (field_number plan n place) ≡ begin + place = own_at place in omega (arith, x, y, q))), a)
+
+  size_is : (shape_at (shapes_of p.structs) n).size ≡ begin + length s.fields
+  size_is = by s.base refl
+    where
+      by : (o : Option ℕ) → s.base ≡ o → (shape_at (shapes_of p.structs) n).size ≡ begin + length s.fields
+      by None b = let x : (shape_at (shapes_of p.structs) n).size ≡ length s.fields = ap (λ x. x.size) (plain_shape p based n s None e b) in let y : begin ≡ 0 = ap (λ x. x.own) (plain_shape p based n s None e b) in omega (arith, x, y)
+      by (Some m) b =
+          let x : (shape_at (shapes_of p.structs) n).size ≡ (shape_at (shapes_of p.structs) m).size + length s.fields = ap (λ x. x.size) (plain_shape p based n s (Some m) e b) in
+          let y : begin ≡ (shape_at (shapes_of p.structs) m).size = ap (λ x. x.own) (plain_shape p based n s (Some m) e b) in omega (arith, x, y)
+
+  pub begin_is : (m : ℕ) → s.base ≡ Some m → begin ≡ (shape_at (shapes_of p.structs) m).size
+  begin_is m b = ap (λ x. x.own) (plain_shape p based n s (Some m) e b)
+
+module _ (p : LlProgram) (based : Based p.structs) where
+  abbrev plan_ : Plan
+  plan_ = plan_of p
+
+  abbrev size_at : ℕ → ℕ
+  size_at n = (shape_at (shapes_of p.structs) n).size
+
+  at_struct : (n : ℕ) → is_counted plan_ n ≡ true → StructAt p.structs n
+  at_struct n c = marked_there p.structs p.graphs 0 p.structs n c
+
+  fields_are : (n : ℕ) (s : LlStruct) → slice_get p.structs n ≡ Some s → fields_of plan_ n ≡ s.fields
+  fields_are n s e = ap fields_given e
+
+  base_counted : (n m : ℕ) (s : LlStruct) → slice_get p.structs n ≡ Some s → s.base ≡ Some m → is_counted plan_ n ≡ true → is_counted plan_ m ≡ true
+  base_counted n m s e b c = let t : StructAt p.structs m = earlier p.structs n m s e (based.before n m s e b) in sym (counted_base p based n m (record { s = s; is = e; base = b }) t.s t.is) ∙ c
+
+  held_high : (times : List LlStruct) (n : ℕ) → is_counted plan_ n ≡ true → High (size_at n) (map (reference_of plan_) (held_within plan_ times n))
+  held_high [] n c = tt
+  held_high (t ∷ times) n c = high_both (size_at n) plan_ (own_held plan_ n) (of_base (held_within plan_ times) (base_at plan_ n)) own (by (λ m c. held_high times m c) w.s.base refl)
+    where
+      w : StructAt p.structs n
+      w = at_struct n c
+
+      own : High (size_at n) (map (reference_of plan_) (own_held plan_ n))
+      own =
+          subst (λ l. High (size_at n) (map (reference_of plan_) (held_from plan_ n 0 l))) (sym (fields_are n w.s w.is))
+          (subst (λ k. High k (map (reference_of plan_) (held_from plan_ n 0 w.s.fields))) (let z : begin p based n w.s w.is c + 0 + length w.s.fields ≡ size_at n = omega (arith, size_is p based n w.s w.is c) in z) (own_high p based n w.s w.is c 0 w.s.fields))
+
+      by : ((m : ℕ) → is_counted plan_ m ≡ true → High (size_at m) (map (reference_of plan_) (held_within plan_ times m))) → (o : Option ℕ) → w.s.base ≡ o → High (size_at n) (map (reference_of plan_) (of_base (held_within plan_ times) (base_at plan_ n)))
+      by go None b = subst (λ o. High (size_at n) (map (reference_of plan_) (of_base (held_within plan_ times) o))) (sym (ap typed.base_of w.is ∙ b)) tt
+      by go (Some m) b =
+          subst (λ o. High (size_at n) (map (reference_of plan_) (of_base (held_within plan_ times) o))) (sym (ap typed.base_of w.is ∙ b))
+          (high_more (size_at m) (size_at n) (map (reference_of plan_) (held_within plan_ times m)) (let z : begin p based n w.s w.is c ≡ size_at m = begin_is p based n w.s w.is c m b in omega (arith, size_is p based n w.s w.is c, z)) (go m (base_counted n m w.s w.is b c)))
+
+  size_fuel_le : (f k n : ℕ) → k < f → is_counted plan_ k ≡ true → begins_with (shapes_counted plan_) k n ≡ true → size_at n ≤ size_at k
+  size_fuel_le zero k n lt c h = absurd (omega (arith, lt))
+  size_fuel_le (suc f) k n lt c h = by (λ m l d x. size_fuel_le f m n l d x) (begins_by (structs_of plan_) (counted_based p based) k n h)
+    where
+      by : ((m : ℕ) → m < f → is_counted plan_ m ≡ true → begins_with (shapes_counted plan_) m n ≡ true → size_at n ≤ size_at m) → Begins (structs_of plan_) (counted_based p based) k n → size_at n ≤ size_at k
+      by go (Itself s e q) = subst (λ k. size_at n ≤ size_at k) q (omega arith)
+      by go (ByBase m b l x) =
+          let back : HasBase p.structs based k m = base_back p based k m b in
+          let le : size_at n ≤ size_at m = go m (omega (arith, l, lt)) (base_counted k m back.s back.is back.base c) x in
+          let z : begin p based k back.s back.is c ≡ size_at m = begin_is p based k back.s back.is c m back.base in
+          omega (arith, le, z, size_is p based k back.s back.is c)
+
+  -- a field of this struct, at place j of its own
+  module _ (n : ℕ) (s : LlStruct) (e : slice_get p.structs n ≡ Some s) (c : is_counted plan_ n ≡ true) (r : Reference) (j : ℕ) (t : LlType) (is_at : r.at ≡ begin p based n s e c + j) (is_field : slice_get s.fields j ≡ Some t) where
+    inside_n : r.at < size_at n
+    inside_n = let lt : j < length s.fields = within s.fields j t is_field in omega (arith, lt, is_at, size_is p based n s e c)
+      where
+        within : (ts : List LlType) (j : ℕ) (t : LlType) → slice_get ts j ≡ Some t → j < length ts
+        within [] j t f = absurd (cc)
+        within (x ∷ ts) zero t f = omega arith
+        within (x ∷ ts) (suc j) t f = omega (arith, within ts j t f)
+
+    -- apart from those of bases
+    base_apart : (times : List LlStruct) → Apart r (map (reference_of plan_) (of_base (held_within plan_ times) (base_at plan_ n)))
+    base_apart times = by s.base refl
+      where
+        by : (o : Option ℕ) → s.base ≡ o → Apart r (map (reference_of plan_) (of_base (held_within plan_ times) (base_at plan_ n)))
+        by None b = subst (λ o. Apart r (map (reference_of plan_) (of_base (held_within plan_ times) o))) (sym (ap typed.base_of e ∙ b)) tt
+        by (Some m) b =
+            subst (λ o. Apart r (map (reference_of plan_) (of_base (held_within plan_ times) o))) (sym (ap typed.base_of e ∙ b))
+            (high_apart r (size_at m) (map (reference_of plan_) (held_within plan_ times m)) (let z : begin p based n s e c ≡ size_at m = begin_is p based n s e c m b in omega (arith, z, is_at)) (held_high times m (base_counted n m s e b c)))
+
+    -- and from those of structs above
+    above_apart : (k m : ℕ) → HasBase p.structs based k m → is_counted plan_ k ≡ true → begins_with (shapes_counted plan_) m n ≡ true → is_counted plan_ m ≡ true → Apart r (map (reference_of plan_) (own_held plan_ k))
+    above_apart k m back ck x cm =
+        let le : size_at n ≤ size_at m = size_fuel_le (suc m) m n (omega arith) cm x in
+        let z : begin p based k back.s back.is ck ≡ size_at m = begin_is p based k back.s back.is ck m back.base in
+        low_apart r (begin p based k back.s back.is ck + 0) (map (reference_of plan_) (own_held plan_ k)) (omega (arith, le, z, inside_n))
+        (subst (λ l. Low (begin p based k back.s back.is ck + 0) (map (reference_of plan_) (held_from plan_ k 0 l))) (sym (fields_are k back.s back.is)) (own_low p based k back.s back.is ck 0 back.s.fields))
+
+    pub held_once : (times : List LlStruct) (k : ℕ) → k < length times → is_counted plan_ k ≡ true → begins_with (shapes_counted plan_) k n ≡ true → OnceIn r (map (reference_of plan_) (own_held plan_ n)) → OnceIn r (map (reference_of plan_) (held_within plan_ times k))
+    held_once [] k lt ck h o = absurd (omega (arith, lt))
+    held_once (u ∷ times) k lt ck h o = by (λ m l d x. held_once times m l d x o) (begins_by (structs_of plan_) (counted_based p based) k n h)
+      where
+        by : ((m : ℕ) → m < length times → is_counted plan_ m ≡ true → begins_with (shapes_counted plan_) m n ≡ true → OnceIn r (map (reference_of plan_) (held_within plan_ times m))) → Begins (structs_of plan_) (counted_based p based) k n
+            → OnceIn r (map (reference_of plan_) (own_held plan_ k ++ of_base (held_within plan_ times) (base_at plan_ k)))
+        by go (Itself x y q) = subst (λ k. OnceIn r (map (reference_of plan_) (own_held plan_ k ++ of_base (held_within plan_ times) (base_at plan_ k)))) q (once_left r plan_ (own_held plan_ n) (of_base (held_within plan_ times) (base_at plan_ n)) o (base_apart times))
+        by go (ByBase m b l x) =
+            let back : HasBase p.structs based k m = base_back p based k m b in
+            let cm : is_counted plan_ m ≡ true = base_counted k m back.s back.is back.base ck in
+            once_right r plan_ (own_held plan_ k) (of_base (held_within plan_ times) (base_at plan_ k)) (above_apart k m back ck x cm)
+            (subst (λ o. OnceIn r (map (reference_of plan_) (of_base (held_within plan_ times) o))) (sym (ap typed.base_of back.is ∙ back.base)) (go m (omega (arith, l, lt)) cm x))
+
+    pub held_apart : (times : List LlStruct) (k : ℕ) → k < length times → is_counted plan_ k ≡ true → begins_with (shapes_counted plan_) k n ≡ true → Apart r (map (reference_of plan_) (own_held plan_ n)) → Apart r (map (reference_of plan_) (held_within plan_ times k))
+    held_apart [] k lt ck h o = absurd (omega (arith, lt))
+    held_apart (u ∷ times) k lt ck h o = by (λ m l d x. held_apart times m l d x o) (begins_by (structs_of plan_) (counted_based p based) k n h)
+      where
+        by : ((m : ℕ) → m < length times → is_counted plan_ m ≡ true → begins_with (shapes_counted plan_) m n ≡ true → Apart r (map (reference_of plan_) (held_within plan_ times m))) → Begins (structs_of plan_) (counted_based p based) k n
+            → Apart r (map (reference_of plan_) (own_held plan_ k ++ of_base (held_within plan_ times) (base_at plan_ k)))
+        by go (Itself x y q) = subst (λ k. Apart r (map (reference_of plan_) (own_held plan_ k ++ of_base (held_within plan_ times) (base_at plan_ k)))) q (apart_both r plan_ (own_held plan_ n) (of_base (held_within plan_ times) (base_at plan_ n)) o (base_apart times))
+        by go (ByBase m b l x) =
+            let back : HasBase p.structs based k m = base_back p based k m b in
+            let cm : is_counted plan_ m ≡ true = base_counted k m back.s back.is back.base ck in
+            apart_both r plan_ (own_held plan_ k) (of_base (held_within plan_ times) (base_at plan_ k)) (above_apart k m back ck x cm)
+            (subst (λ o. Apart r (map (reference_of plan_) (of_base (held_within plan_ times) o))) (sym (ap typed.base_of back.is ∙ back.base)) (go m (omega (arith, l, lt)) cm x))
+
+    inside_times : (k : ℕ) → is_counted plan_ k ≡ true → k < length p.structs
+    inside_times k ck = let w : StructAt p.structs k = at_struct k ck in within p.structs k w.s w.is
+      where
+        within : (l : List LlStruct) (j : ℕ) (t : LlStruct) → slice_get l j ≡ Some t → j < length l
+        within [] j t f = absurd (cc)
+        within (x ∷ l) zero t f = omega arith
+        within (x ∷ l) (suc j) t f = omega (arith, within l j t f)
+
+    -- a field that is no reference stands apart from those that are
+    pub field_apart : (k : ℕ) → is_counted plan_ k ≡ true → begins_with (shapes_counted plan_) k n ≡ true → reference_to plan_.counted t ≡ None → Apart r (map (reference_of plan_) (held_of plan_ k))
+    field_apart k ck h none =
+        held_apart p.structs k (inside_times k ck) ck h
+        (subst (λ l. Apart r (map (reference_of plan_) (held_from plan_ n 0 l))) (sym (fields_are n s e)) (own_apart p based n s e c r 0 s.fields j t (let z : r.at ≡ begin p based n s e c + (0 + j) = omega (arith, is_at) in z) is_field none))
