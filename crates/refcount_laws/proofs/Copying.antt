@@ -66,7 +66,7 @@ use Rattle.refcount_laws.proofs.Dead.{same_is, differ_is}
 use Rattle.refcount_laws.proofs.Following.{copy_end}
 use Rattle.refcount_laws.proofs.Operating.{typed_inside, before, IsFollowed}
 
-no_null : (r : Value) → hit r Null ≡ 0
+pub no_null : (r : Value) → hit r Null ≡ 0
 no_null Unset = refl
 no_null (Word z) = refl
 no_null (Byte z) = refl

@@ -30,4 +30,6 @@ pub mod Copying
 pub mod Members
 pub mod Getting
 pub mod Spread
+pub mod Setting
+pub mod Storage
 pub mod Leading

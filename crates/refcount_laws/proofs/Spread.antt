@@ -108,7 +108,7 @@ module _ (p : LlProgram) (based : Based p.structs) (n : ℕ) (s : LlStruct) (e :
       by (Some m) h = ((let x : place_in plan n (field_number plan n place) ≡ begin + place = own_at place in omega (arith, x)), h)
 
   -- a field among those of the struct itself: once where it is a reference, and else not at all
-  own_once : (place : ℕ) (ts : List LlType) (j m : ℕ) (t : LlType) → slice_get ts j ≡ Some t → reference_to plan.counted t ≡ Some m
+  pub own_once : (place : ℕ) (ts : List LlType) (j m : ℕ) (t : LlType) → slice_get ts j ≡ Some t → reference_to plan.counted t ≡ Some m
       → OnceIn (reference_of plan (record { owner = n; number = field_number plan n (place + j); to = m })) (map (reference_of plan) (held_from plan n place ts))
   own_once place [] j m t f r = absurd (cc)
   own_once place (u ∷ ts) zero m t f r =
@@ -253,7 +253,7 @@ module _ (p : LlProgram) (based : Based p.structs) where
             apart_both r plan_ (own_held plan_ k) (of_base (held_within plan_ times) (base_at plan_ k)) (above_apart k m back ck x cm)
             (subst (λ o. Apart r (map (reference_of plan_) (of_base (held_within plan_ times) o))) (sym (ap typed.base_of back.is ∙ back.base)) (go m (omega (arith, l, lt)) cm x))
 
-    inside_times : (k : ℕ) → is_counted plan_ k ≡ true → k < length p.structs
+    pub inside_times : (k : ℕ) → is_counted plan_ k ≡ true → k < length p.structs
     inside_times k ck = let w : StructAt p.structs k = at_struct k ck in within p.structs k w.s w.is
       where
         within : (l : List LlStruct) (j : ℕ) (t : LlStruct) → slice_get l j ≡ Some t → j < length l
