@@ -104,7 +104,7 @@ use Rattle.refcount_laws.proofs.Getting.{near_set, pointer_set, reached_begins, 
 
 -- ---- cells that are set in both programs
 
-near_cell : (xs ys : List Value) (i : ℕ) (v : Value) → AllNear xs ys → AllNear (slice_set xs i v) (slice_set ys i v)
+pub near_cell : (xs ys : List Value) (i : ℕ) (v : Value) → AllNear xs ys → AllNear (slice_set xs i v) (slice_set ys i v)
 near_cell xs ys i v near = record { size = set_length xs i v ∙ near.size ∙ sym (set_length ys i v); at = λ k. by k (is_or_not i k) (is_in i (length xs)) }
   where
     is_in : (i n : ℕ) → (i < n) ⊎ (n ≤ i)

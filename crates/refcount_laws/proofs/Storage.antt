@@ -106,12 +106,12 @@ use Rattle.ll_code.specs.Typed as typed
 use Rattle.refcount_transform.specs.Plan.{place_of, place_behind, fields_given, references_before}
 use Rattle.refcount_transform.specs.Plan as plans
 use Rattle.refcount_transform.specs.Changes.{set_field}
-use Rattle.refcount_laws.specs.Made.{structs_lead}
-use Rattle.refcount_laws.proofs.Places.{place_behind_two, reference_marked}
+use Rattle.refcount_laws.specs.Made.{structs_lead, all_lead, is_root_given}
+use Rattle.refcount_laws.proofs.Places.{place_behind_two, reference_marked, leads_at, given_root}
 use Rattle.refcount_laws.proofs.Alike.{plain_shape}
 use Rattle.refcount_laws.proofs.Spread.{begin, begin_is, own_at, own_once, held_once, field_apart, inside_times}
 use Rattle.refcount_laws.proofs.Putting.{put_stands}
-use Rattle.refcount_laws.proofs.Setting.{w, plain_counts, plain_near, plain_shown, plain_write, plain_points, near_written, pointing_after}
+use Rattle.refcount_laws.proofs.Setting.{w, plain_counts, plain_near, plain_shown, plain_write, plain_points, near_cell, near_written, pointing_after}
 
 -- a field among those of the struct itself
 record Spot (p : LlProgram) (based : Based p.structs) (n i : ℕ) (s : LlStruct) (is : slice_get p.structs n ≡ Some s) (c : is_counted (plan_of p) n ≡ true) (t : LlType) : Type 0 where
@@ -178,15 +178,26 @@ module _ (p : LlProgram) (based : Based p.structs) (counting : Counting (counted
     used : live (op.SetField n v i x ∷ ops) e v ≡ true
     used = ap (λ y. (y || among v (variables_of x)) || (not (sets None v) && live ops e v)) (same_is v)
 
+    inside_types : (ts : List LlType) (v n : ℕ) → reference_given plan.counted (slice_get ts v) ≡ Some n → v < length ts
+    inside_types [] v n e = absurd (cc)
+    inside_types (t ∷ ts) zero n e = omega arith
+    inside_types (t ∷ ts) (suc v) n e = omega (arith, inside_types ts v n e)
+
+    owns_it : (m : ℕ) → Pointing p types core.blocks core.statics (live (op.SetField n v i x ∷ ops) e) core.vars → read core.vars v ≡ Ptr m → 0 < owned around (live (op.SetField n v i x ∷ ops) e) core.vars (Ptr m)
+    owns_it m pointing is =
+        let z : (n : ℕ) × (var_referred around v ≡ Some n) = pointing.refers v m used is in
+        let lt : v < length core.vars = (let l : v < length types = inside_types types v z.0 z.1 in omega (arith, l, fits)) in
+        owned_has around 0 (live (op.SetField n v i x ∷ ops) e) core.vars v z.0 m lt used z.1 is
+
     -- a field that is no reference, of a block
-    plain_block : (none : reference_to plan.counted t ≡ None) (a : ℕ) (block : Block) → read core.vars v ≡ Ptr a → reached core (shapes_of p.structs) n (Ptr a) ≡ Ok block → is_unset (operand core.vars x) ≡ false
+    plain_block : (none : field_referred plan n i ≡ None) (a : ℕ) (block : Block) → read core.vars v ≡ Ptr a → reached core (shapes_of p.structs) n (Ptr a) ≡ Ok block → is_unset (operand core.vars x) ≡ false
         → Pointing p types core.blocks core.statics (live (op.SetField n v i x ∷ ops) e) core.vars → IsCounted q c g (λ r. owned around (live (op.SetField n v i x ∷ ops) e) core.vars r + own r)
         → Comes p args types (live ops e) own (q_here (op.SetField n v (shifted plan n i) x ∷ behind)) rest ex frames b (core_after a block)
     plain_block none a block is_a found set pointing counts =
         let had : Value → ℕ = λ r. owned around (live (op.SetField n v i x ∷ ops) e) core.vars r + own r in
         let is : block_in core.blocks a ≡ Some block = reached_there core (shapes_of p.structs) n (Ptr a) block found in
         let of : begins_with (shapes_of p.structs) block.kind n ≡ true = reached_begins p core n (Ptr a) block found in
-        let alive_a : 0 < count g.blocks a = alive a is_a in
+        let alive_a : 0 < count g.blocks a = (let l : 0 < owned around (live (op.SetField n v i x ∷ ops) e) core.vars (Ptr a) = owns_it a pointing is_a in omega (arith, l, counts.blocks a)) in
         let st_kind : There g.blocks a = w p based counting args types roots own ops rest e ex frames b core qcore g h at fits stands k room had n a block is of alive_a counts in
         let whole : IsWhole q c g (record { kind = st_kind.kind; fields = st_kind.fields; items = st_kind.items }) = subst (IsWhole q c g) (ap bare st_kind.is) (counts.whole a alive_a) in
         let near : (block : Block) × (block_in core.blocks a ≡ Some block) × NearBlock block (bare_at g.blocks a) = stands.near.each a (there_inside core.blocks a block is) in
@@ -197,7 +208,9 @@ module _ (p : LlProgram) (based : Based p.structs) (counting : Counting (counted
         let cs : StructAt p.structs n = marked_there p.structs p.graphs 0 p.structs n cn in
         let spot : Spot p based n i cs.s cs.is cn t = spot_of p based n i cs.s cs.is cn t (struct_is cs.s cs.is) in
         let r : Reference = record { owner = n; number = i; at = spot_at; to = 0 } in
-        let apart : Apart r (c.held st_kind.kind) = field_apart p based n cs.s cs.is cn r spot.j t spot.at spot.there st_kind.kind whole.counted of_w none in
+        let is_none : reference_to plan.counted t ≡ None =
+        ap (reference_given plan.counted) (sym (ap (λ l. slice_get (fields_given l) (place_of plan n i)) cs.is ∙ ap (slice_get cs.s.fields) spot.of ∙ spot.there)) ∙ none in
+        let apart : Apart r (c.held st_kind.kind) = field_apart p based n cs.s cs.is cn r spot.j t spot.at spot.there st_kind.kind whole.counted of_w is_none in
         let side : (m : ℕ) → c.items st_kind.kind ≡ Some m → c.number_at st_kind.kind ≢ spot_at = λ m f. beside st_kind.kind m f in
         let value : Value = operand core.vars x in
         comes_before p based counting args types roots own (op.SetField n v i x) ops rest e ex frames b (live ops e) (q_here (op.SetField n v (shifted plan n i) x ∷ behind))
@@ -215,15 +228,128 @@ module _ (p : LlProgram) (based : Based p.structs) (counting : Counting (counted
         })
         (plain_points p based counting args types roots own ops rest e ex frames b core qcore g h at fits stands k room had n a block is of alive_a counts i x value refl set v is_a r refl apart side behind (live (op.SetField n v i x ∷ ops) e) pointing)
         (plain_counts p based counting args types roots own ops rest e ex frames b core qcore g h at fits stands k room had n a block is of alive_a counts i x value refl set v is_a r refl apart side behind))
+
+    pub set_plain_followed : field_referred plan n i ≡ None → ((s : ℕ) → read core.vars v ≡ Static s → ⊥)
+        → Pointing p types core.blocks core.statics (live (op.SetField n v i x ∷ ops) e) core.vars → IsCounted q c g (λ r. owned around (live (op.SetField n v i x ∷ ops) e) core.vars r + own r)
+        → Follows p args types (live ops e) own (q_here (changed around (op.SetField n v i x) behind)) rest ex frames b (does p args core (op.SetField n v i x))
+    set_plain_followed none in_block pointing counts =
+        subst (λ l. Follows p args types (live ops e) own (q_here l) rest ex frames b (does p args core (op.SetField n v i x))) (sym (ap (λ r. set_field_by plan n v i x r ∷ behind) none))
+        (set (is_unset (operand core.vars x)) refl)
       where
-        alive : (m : ℕ) → read core.vars v ≡ Ptr m → 0 < count g.blocks m
-        alive m is =
-            let z : (n : ℕ) × (var_referred around v ≡ Some n) = pointing.refers v m used is in
-            let lt : v < length core.vars = (let l : v < length types = inside_types types v z.0 z.1 in omega (arith, l, fits)) in
-            let has : 0 < owned around (live (op.SetField n v i x ∷ ops) e) core.vars (Ptr m) = owned_has around 0 (live (op.SetField n v i x ∷ ops) e) core.vars v z.0 m lt used z.1 is in
-            omega (arith, has, counts.blocks m)
+        at_pointer : (pointer : Value) → read core.vars v ≡ pointer → is_unset (operand core.vars x) ≡ false → (block : Block) → reached core (shapes_of p.structs) n pointer ≡ Ok block
+            → Follows p args types (live ops e) own (q_here (op.SetField n v (shifted plan n i) x ∷ behind)) rest ex frames b (stored core pointer (record block { fields = slice_set block.fields spot_at (operand core.vars x) }))
+        at_pointer Unset is y block found = tt
+        at_pointer (Word z) is y block found = tt
+        at_pointer (Byte z) is y block found = tt
+        at_pointer (Flag z) is y block found = tt
+        at_pointer (Fun z) is y block found = tt
+        at_pointer Null is y block found = tt
+        at_pointer (Static s) is y block found = absurd (in_block s is)
+        at_pointer (Ptr a) is y block found = plain_block none a block is found y pointing counts
+
+        by : (r : Result Block StuckReason) → reached core (shapes_of p.structs) n (read core.vars v) ≡ r → is_unset (operand core.vars x) ≡ false
+            → Follows p args types (live ops e) own (q_here (op.SetField n v (shifted plan n i) x ∷ behind)) rest ex frames b
+            (on_block (λ block. stored core (read core.vars v) (record block { fields = slice_set block.fields spot_at (operand core.vars x) })) r)
+        by (Err reason) found y = tt
+        by (Ok block) found y = at_pointer (read core.vars v) refl y block found
+
+        set : (y : Bool) → is_unset (operand core.vars x) ≡ y
+            → Follows p args types (live ops e) own (q_here (op.SetField n v (shifted plan n i) x ∷ behind)) rest ex frames b
+            (cond y (Stuck IsUnset) (on_block (λ block. stored core (read core.vars v) (record block { fields = slice_set block.fields spot_at (operand core.vars x) })) (reached core (shapes_of p.structs) n (read core.vars v))))
+        set true y = tt
+        set false y = by (reached core (shapes_of p.structs) n (read core.vars v)) refl y
+
+    -- a field that is a reference, of a block
+    reference_block : (leads : structs_lead plan p.structs ≡ true) (m : ℕ) (refers : field_referred plan n i ≡ Some m) (a : ℕ) (block : Block) → read core.vars v ≡ Ptr a → reached core (shapes_of p.structs) n (Ptr a) ≡ Ok block → PointsTo p core.blocks core.statics m (operand core.vars x)
+        → ((z : ℕ) → operand core.vars x ≡ Ptr z → 0 < count g.blocks z) → Pointing p types core.blocks core.statics (live (op.SetField n v i x ∷ ops) e) core.vars
+        → IsCounted q c g (λ r. owned around (live (op.SetField n v i x ∷ ops) e) core.vars r + own r)
+        → Comes p args types (live ops e) own (q_here (op.Call None (put_of plan n i) (Var v ∷ x ∷ []) ∷ behind)) rest ex frames b (core_after a block)
+    reference_block leads m refers a block is_a found points alive_x pointing counts =
+        let had : Value → ℕ = λ r. owned around (live (op.SetField n v i x ∷ ops) e) core.vars r + own r in
+        let is : block_in core.blocks a ≡ Some block = reached_there core (shapes_of p.structs) n (Ptr a) block found in
+        let of : begins_with (shapes_of p.structs) block.kind n ≡ true = reached_begins p core n (Ptr a) block found in
+        let owned_a : 0 < owned around (live (op.SetField n v i x ∷ ops) e) core.vars (Ptr a) = owns_it a pointing is_a in
+        let alive_a : 0 < count g.blocks a = omega (arith, owned_a, counts.blocks a) in
+        let d : There g.blocks a = there g.blocks a alive_a in
+        let whole : IsWhole q c g (record { kind = d.kind; fields = d.fields; items = d.items }) = subst (IsWhole q c g) (ap bare d.is) (counts.whole a alive_a) in
+        let near : (block : Block) × (block_in core.blocks a ≡ Some block) × NearBlock block (bare_at g.blocks a) = stands.near.each a (there_inside core.blocks a block is) in
+        let same : near.0 ≡ block = (let f : Some near.0 ≡ Some block = sym near.1 ∙ is in cc) in
+        let both : NearBlock block (record { kind = d.kind; fields = d.fields; items = d.items }) = subst (λ x. NearBlock block x) (ap bare d.is) (subst (λ x. NearBlock x (bare_at g.blocks a)) same near.2) in
+        let of_w : begins_with (shapes_counted plan) d.kind n ≡ true = sym (begins_same p based d.kind n) ∙ ap (λ k. begins_with (shapes_of p.structs) k n) (sym both.kind) ∙ of in
+        let cn : is_counted plan n ≡ true = counted_begins p based d.kind n of_w whole.counted in
+        let cs : StructAt p.structs n = marked_there p.structs p.graphs 0 p.structs n cn in
+        let spot : Spot p based n i cs.s cs.is cn t = spot_of p based n i cs.s cs.is cn t (struct_is cs.s cs.is) in
+        let r : Reference = reference_of plan (record { owner = n; number = field_number plan n spot.j; to = m }) in
+        let at_r : r.at ≡ spot_at = own_at p based n cs.s cs.is cn spot.j ∙ sym spot.at in
+        let refer : reference_to plan.counted t ≡ Some m = ap (reference_given plan.counted) (sym (ap (λ l. slice_get (fields_given l) (place_of plan n i)) cs.is ∙ ap (slice_get cs.s.fields) spot.of ∙ spot.there)) ∙ refers in
+        let fields_are : plans.fields_of plan n ≡ cs.s.fields = ap fields_given cs.is in
+        let here_f : slice_get (plans.fields_of plan n) spot.j ≡ Some t = ap (λ l. slice_get l spot.j) fields_are ∙ spot.there in
+        let stand : StandsWith q (put_of plan n i) (0 ∷ 1 ∷ []) (put_types c r) (put_block c r ∷ []) =
+        subst (λ j. StandsWith q ((counts_at plan n).puts + references_before plan.counted j (plans.fields_of plan n)) (0 ∷ 1 ∷ []) (put_types c r) (put_block c r ∷ [])) (sym spot.of) (put_stands p based n cn spot.j t m here_f refer) in
+        let root_m : root_of plan m ≡ m = root_at leads n cs.s cs.is spot.j t m spot.there refer in
+        let field : IsField q c d.kind r = record { of = of_w; place = place_behind_two p based n spot.j cn; to = (reference_marked plan.counted t m refer, root_m) } in
+        let once : OnceIn r (c.held d.kind) =
+        held_once p based n cs.s cs.is cn r spot.j t (own_at p based n cs.s cs.is cn spot.j) spot.there p.structs d.kind (inside_times p based n cs.s cs.is cn r spot.j t (own_at p based n cs.s cs.is cn spot.j) spot.there d.kind whole.counted) whole.counted of_w
+        (subst (λ l. OnceIn r (map (reference_of plan) (plans.held_from plan n 0 l))) (sym fields_are)
+        (subst (λ j. OnceIn (reference_of plan (record { owner = n; number = field_number plan n j; to = m })) (map (reference_of plan) (plans.held_from plan n 0 cs.s.fields))) (let z : 0 + spot.j ≡ spot.j = omega arith in z) (own_once p based n cs.s cs.is cn 0 cs.s.fields spot.j m t spot.there refer))) in
+        let value : Value = operand core.vars x in
+        let lead : LeadsTo q g m value = value_leads p based counting args types roots core.blocks core.statics g stands.near m value (reference_marked plan.counted t m refer) root_m points in
+        let put : Done q args c (written g a (S (suc d.n) d.kind (slice_set d.fields r.at value) d.items)) had (q_here (op.Call None (put_of plan n i) (Var v ∷ x ∷ []) ∷ behind)) (λ h' s'. At behind ex frames (here qcore core.function b (at + 1) core.vars h' s')) =
+        put_done q args c counting r (put_of plan n i) stand g h had a d.n d.kind d.fields d.items d.is field once (λ m2 f q. beside d.kind m2 f (q ∙ at_r)) value stands.shown counts (omega (arith, owned_a)) lead
+        (room_for q c g had k value counts room alive_x) qcore core.function b ex frames (Var v) x at behind core.vars is_a refl in
+        let block2 : Block = record block { fields = slice_set block.fields spot_at value } in
+        let near2 : NearBlock block2 (record { kind = d.kind; fields = slice_set d.fields r.at value; items = d.items }) =
+        record { kind = both.kind; fields = subst (λ j. AllNear (slice_set block.fields j value) (slice_set d.fields r.at value)) at_r (near_cell block.fields d.fields r.at value both.fields); items = both.items } in
+        let g2 : Ghost = written g a (S (suc d.n) d.kind (slice_set d.fields r.at value) d.items) in
+        comes_before p based counting args types roots own (op.SetField n v i x) ops rest e ex frames b (live ops e) (q_here (op.Call None (put_of plan n i) (Var v ∷ x ∷ []) ∷ behind))
+        (At behind ex frames (here qcore core.function b (at + 1) core.vars put.blocks (memory put.later))) (core_after a block) put.leads
+        (effect_end p based counting args types roots own (op.SetField n v i x) ops rest e ex frames b (core_after a block) qcore put.later put.blocks (at + 1) refl fits
+        (record {
+          near = near_kept plan g2 put.later put.same put.same_statics (slice_set core.blocks a (Some block2)) core.statics put.size put.size_statics
+              (near_written p core.blocks core.statics g stands.near a d.n d.kind d.fields d.items (slice_set d.fields r.at value) d.items d.is block2 near2);
+          shown = put.shown;
+          steps = stands.steps;
+          exc_type = stands.exc_type;
+          exc_value = stands.exc_value;
+        })
+        (pointing_after p core.blocks core.statics g stands.near a d.n d.kind d.fields d.items (slice_set d.fields r.at value) d.items d.is block2 near2 types block is refl (live (op.SetField n v i x ∷ ops) e) core.vars pointing)
+        put.counted)
+      where
+        root_at : structs_lead plan p.structs ≡ true → (n : ℕ) (s : LlStruct) → slice_get p.structs n ≡ Some s → (j : ℕ) (t : LlType) (m : ℕ) → slice_get s.fields j ≡ Some t → reference_to plan.counted t ≡ Some m → root_of plan m ≡ m
+        root_at leads n s is j t m f r = among s.fields j (and_left _ _ (leads_at p based leads p.structs n s leads is)) f
           where
-            inside_types : (ts : List LlType) (v n : ℕ) → reference_given plan.counted (slice_get ts v) ≡ Some n → v < length ts
-            inside_types [] v n e = absurd (cc)
-            inside_types (t ∷ ts) zero n e = omega arith
-            inside_types (t ∷ ts) (suc v) n e = omega (arith, inside_types ts v n e)
+            among : (ts : List LlType) (j : ℕ) → all_lead plan ts ≡ true → slice_get ts j ≡ Some t → root_of plan m ≡ m
+            among [] j ok f = absurd (cc)
+            among (u ∷ ts) zero ok f = let g : u ≡ t = cc in given_root p based leads (reference_to plan.counted t) m r (subst (λ u. is_root_given plan (reference_to plan.counted u) ≡ true) g (and_left _ _ ok))
+            among (u ∷ ts) (suc j) ok f = among ts j (and_right _ _ ok) f
+
+    pub set_reference_followed : (leads : structs_lead plan p.structs ≡ true) (m : ℕ) → field_referred plan n i ≡ Some m → ((s : ℕ) → read core.vars v ≡ Static s → ⊥) → PointsTo p core.blocks core.statics m (operand core.vars x)
+        → ((z : ℕ) → operand core.vars x ≡ Ptr z → 0 < count g.blocks z) → Pointing p types core.blocks core.statics (live (op.SetField n v i x ∷ ops) e) core.vars
+        → IsCounted q c g (λ r. owned around (live (op.SetField n v i x ∷ ops) e) core.vars r + own r)
+        → Follows p args types (live ops e) own (q_here (changed around (op.SetField n v i x) behind)) rest ex frames b (does p args core (op.SetField n v i x))
+    set_reference_followed leads m refers in_block points alive_x pointing counts =
+        subst (λ l. Follows p args types (live ops e) own (q_here l) rest ex frames b (does p args core (op.SetField n v i x))) (sym (ap (λ r. set_field_by plan n v i x r ∷ behind) refers))
+        (set (is_unset (operand core.vars x)) refl)
+      where
+        at_pointer : (pointer : Value) → read core.vars v ≡ pointer → (block : Block) → reached core (shapes_of p.structs) n pointer ≡ Ok block
+            → Follows p args types (live ops e) own (q_here (op.Call None (put_of plan n i) (Var v ∷ x ∷ []) ∷ behind)) rest ex frames b (stored core pointer (record block { fields = slice_set block.fields spot_at (operand core.vars x) }))
+        at_pointer Unset is block found = tt
+        at_pointer (Word z) is block found = tt
+        at_pointer (Byte z) is block found = tt
+        at_pointer (Flag z) is block found = tt
+        at_pointer (Fun z) is block found = tt
+        at_pointer Null is block found = tt
+        at_pointer (Static s) is block found = absurd (in_block s is)
+        at_pointer (Ptr a) is block found = reference_block leads m refers a block is found points alive_x pointing counts
+
+        by : (r : Result Block StuckReason) → reached core (shapes_of p.structs) n (read core.vars v) ≡ r
+            → Follows p args types (live ops e) own (q_here (op.Call None (put_of plan n i) (Var v ∷ x ∷ []) ∷ behind)) rest ex frames b
+            (on_block (λ block. stored core (read core.vars v) (record block { fields = slice_set block.fields spot_at (operand core.vars x) })) r)
+        by (Err reason) found = tt
+        by (Ok block) found = at_pointer (read core.vars v) refl block found
+
+        set : (y : Bool) → is_unset (operand core.vars x) ≡ y
+            → Follows p args types (live ops e) own (q_here (op.Call None (put_of plan n i) (Var v ∷ x ∷ []) ∷ behind)) rest ex frames b
+            (cond y (Stuck IsUnset) (on_block (λ block. stored core (read core.vars v) (record block { fields = slice_set block.fields spot_at (operand core.vars x) })) (reached core (shapes_of p.structs) n (read core.vars v))))
+        set true y = tt
+        set false y = by (reached core (shapes_of p.structs) n (read core.vars v)) refl
