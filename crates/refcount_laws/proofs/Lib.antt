@@ -32,4 +32,5 @@ pub mod Getting
 pub mod Spread
 pub mod Setting
 pub mod Storage
+pub mod Making
 pub mod Leading

@@ -169,7 +169,7 @@ module _ (p : LlProgram) (based : Based p.structs) where
   base_counted : (n m : ℕ) (s : LlStruct) → slice_get p.structs n ≡ Some s → s.base ≡ Some m → is_counted plan_ n ≡ true → is_counted plan_ m ≡ true
   base_counted n m s e b c = let t : StructAt p.structs m = earlier p.structs n m s e (based.before n m s e b) in sym (counted_base p based n m (record { s = s; is = e; base = b }) t.s t.is) ∙ c
 
-  held_high : (times : List LlStruct) (n : ℕ) → is_counted plan_ n ≡ true → High (size_at n) (map (reference_of plan_) (held_within plan_ times n))
+  pub held_high : (times : List LlStruct) (n : ℕ) → is_counted plan_ n ≡ true → High (size_at n) (map (reference_of plan_) (held_within plan_ times n))
   held_high [] n c = tt
   held_high (t ∷ times) n c = high_both (size_at n) plan_ (own_held plan_ n) (of_base (held_within plan_ times) (base_at plan_ n)) own (by (λ m c. held_high times m c) w.s.base refl)
     where
