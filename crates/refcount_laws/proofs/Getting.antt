@@ -90,7 +90,7 @@ use Rattle.refcount_laws.proofs.Members.{HasPlace, has_hits, inner_has, field_he
 use Rattle.refcount_laws.proofs.Copying.{owned_has, MayHold, IsFollowedBy}
 
 -- what is set is the same
-near_set : (x y : Value) → Near x y → is_unset x ≡ false → y ≡ x
+pub near_set : (x y : Value) → Near x y → is_unset x ≡ false → y ≡ x
 near_set x y (inl e) set = sym e
 near_set x y (inr (e, f)) set = absurd (let g : true ≡ false = sym (ap is_unset e) ∙ set in cc)
 
@@ -273,14 +273,14 @@ module _ (p : LlProgram) (based : Based p.structs) (counting : Counting (counted
 
   -- ---- what a variable reaches
 
-  struct_of : (n i : ℕ) (t : LlType) → field_of (slice_get p.structs n) i ≡ Some t → StructAt p.structs n
+  pub struct_of : (n i : ℕ) (t : LlType) → field_of (slice_get p.structs n) i ≡ Some t → StructAt p.structs n
   struct_of n i t f = by (slice_get p.structs n) refl f
     where
       by : (o : Option LlStruct) → slice_get p.structs n ≡ o → field_of o i ≡ Some t → StructAt p.structs n
       by None g f = absurd (cc)
       by (Some s) g f = record { s = s; is = g }
 
-  struct_with : (n : ℕ) (t : LlType) → items_of (slice_get p.structs n) ≡ Some t → StructAt p.structs n
+  pub struct_with : (n : ℕ) (t : LlType) → items_of (slice_get p.structs n) ≡ Some t → StructAt p.structs n
   struct_with n t f = by (slice_get p.structs n) refl f
     where
       by : (o : Option LlStruct) → slice_get p.structs n ≡ o → items_of o ≡ Some t → StructAt p.structs n

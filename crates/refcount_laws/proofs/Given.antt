@@ -63,7 +63,7 @@ module _ (q : LlProgram) (args : List (List ℕ)) (c : Counts) where
     statics = λ s. roomy_by g d.later own own' j k s (fixed_at g.statics s) (fixed_at d.later.statics s) (counted.statics s) (d.counted.statics s) (d.same_statics s) (d.inners (Static s)) (more (Static s)) (room.statics s);
   }
 
-room_for : (q : LlProgram) (c : Counts) (g : Ghost) (own : Value → ℕ) (k : ℕ) (v : Value) → IsCounted q c g own → Roomy g (suc k) → ((a : ℕ) → v ≡ Ptr a → 0 < count g.blocks a) → HasRoom g v
+pub room_for : (q : LlProgram) (c : Counts) (g : Ghost) (own : Value → ℕ) (k : ℕ) (v : Value) → IsCounted q c g own → Roomy g (suc k) → ((a : ℕ) → v ≡ Ptr a → 0 < count g.blocks a) → HasRoom g v
 room_for q c g own k Unset counted room owned = tt
 room_for q c g own k (Word z) counted room owned = tt
 room_for q c g own k (Byte z) counted room owned = tt

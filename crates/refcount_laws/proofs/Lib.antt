@@ -29,6 +29,10 @@ pub mod Operating
 pub mod Copying
 pub mod Members
 pub mod Getting
+pub mod Spread
+pub mod Setting
+pub mod Storage
+pub mod Making
 pub mod Leading
 pub mod Leaving
 pub mod Exits

@@ -85,7 +85,7 @@ module _ (p : LlProgram) (based : Based p.structs) where
   pub counted_begins : (k n : ℕ) → begins_with (shapes_counted plan) k n ≡ true → is_counted plan k ≡ true → is_counted plan n ≡ true
   counted_begins k n h c = counted_fuel (suc k) k n (omega arith) h c
 
-  own_has : (n k m : ℕ) (s : LlStruct) (t : LlType) → slice_get p.structs n ≡ Some s → is_counted plan n ≡ true → field_of (Some s) k ≡ Some t → reference_to plan.counted t ≡ Some m → HasPlace (place (shape_at (shapes_of p.structs) n) k) (map (reference_of plan) (own_held plan n))
+  pub own_has : (n k m : ℕ) (s : LlStruct) (t : LlType) → slice_get p.structs n ≡ Some s → is_counted plan n ≡ true → field_of (Some s) k ≡ Some t → reference_to plan.counted t ≡ Some m → HasPlace (place (shape_at (shapes_of p.structs) n) k) (map (reference_of plan) (own_held plan n))
   own_has n k m s t e c f r = by s.base refl k f
     where
       at_is : (k j : ℕ) → field_number plan n j ≡ shifted plan n k → place_in plan n (field_number plan n j) ≡ place (shape_at (shapes_of p.structs) n) k
