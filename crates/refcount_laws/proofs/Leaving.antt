@@ -219,7 +219,7 @@ module _ (p : LlProgram) (based : Based p.structs) (counting : Counting (counted
   -- ---- operands that are given
 
   module _ (uses : ℕ → Bool) (g : Ghost) (h : List (Option Block)) (stands : Stands p core qcore g h) (pointing : Pointing p types core.blocks core.statics uses core.vars) (most : Value → ℕ) (more : (r : Value) → owned around uses core.vars r ≤ most r) where
-    owned_by : (x : COperand) (n a : ℕ) → ((w : ℕ) → among w (variables_of x) ≡ true → uses w ≡ true) → operand_referred around x ≡ Some n → operand core.vars x ≡ Ptr a → 0 < most (Ptr a)
+    pub owned_by : (x : COperand) (n a : ℕ) → ((w : ℕ) → among w (variables_of x) ≡ true → uses w ≡ true) → operand_referred around x ≡ Some n → operand core.vars x ≡ Ptr a → 0 < most (Ptr a)
     owned_by (Var w) n a used e is =
         let l : w < length types = referred_inside types w n e in
         let lt : w < length core.vars = omega (arith, l, fits) in

@@ -1,7 +1,9 @@
 -- What follows an exit of a counted program.
 use Rattle.std.specs.Prelude.{◌≡◌, ℕ, ◌+◌, ◌||◌, not, ◌&&◌, Bool, true, false, List, [], ◌∷◌, slice_get, Option, Some, None}
 use Rattle.csub_tree.specs.State.{Value, Unset, Block, Core}
-use Rattle.csub_tree.specs.Statement.{operands, any_unset}
+use Rattle.csub_tree.specs.Statement.{operand, operands, any_unset}
+use Rattle.csub_tree.specs.Operation.{is_unset}
+use Rattle.csub_tree.specs.declared.tree.COperand.{COperand}
 use Rattle.ll_code.specs.State.{Frame, State, At, Returning, Next, Goes, Ends, Sticks}
 use Rattle.ll_code.specs.Machine.{step, set_all}
 use Rattle.ll_code.specs.Typed.{link_ok}
@@ -13,14 +15,14 @@ use Rattle.ll_code.specs.declared.program.LlGraph.{LlGraph}
 use Rattle.ll_code.specs.declared.program.LlProgram.{LlProgram}
 use Rattle.ll_live.specs.Live.{among, live}
 use Rattle.refcount_transform.specs.Plan.{plan_of, reference_given}
-use Rattle.refcount_transform.specs.Changes.{Around, around_of, ops_of}
+use Rattle.refcount_transform.specs.Changes.{around_of, operand_referred, ops_of}
 use Rattle.refcount_transform.specs.Blocks.{behind_exit, blocks_of, exit_of}
 use Rattle.refcount_transform.specs.Counted.{counted}
 use Rattle.refcount_laws.specs.Made.{counts_of}
 use Rattle.refcount_laws.specs.Ghost.{Ghost, memory, IsCounted}
 use Rattle.refcount_laws.specs.Runs.{Leads, here}
 use Rattle.refcount_laws.specs.Owned.{hits_by}
-use Rattle.refcount_laws.specs.Matches.{Pointing, Stands, Comes}
+use Rattle.refcount_laws.specs.Matches.{PointsTo, Pointing, Stands, Comes}
 
 -- the variables differ
 abbrev pub are_apart : List ℕ → Bool
@@ -46,6 +48,11 @@ From all n (x ∷ xs) = (slice_get all n ≡ Some x) × From all (n + 1) xs
 abbrev pub LinksPoint : LlProgram → LlGraph → Core → Type 0
 LinksPoint p graph core = (link : LlLink) (block : LlBlock) → link_ok p graph link ≡ true → slice_get graph.blocks link.to ≡ Some block → any_unset (operands core.vars link.args) ≡ false
     → Pointing p graph.types core.blocks core.statics (λ w. among w block.inputs) (set_all core.vars block.inputs (operands core.vars link.args))
+
+-- what a return gives on points where its type says
+abbrev pub ReturnPoints : LlProgram → LlGraph → Core → LlExit → Type 0
+ReturnPoints p graph core (exit.Return x) = (y : COperand) → x ≡ Some y → (n : ℕ) → operand_referred (around_of (plan_of p) graph.types) y ≡ Some n → is_unset (operand core.vars y) ≡ false → PointsTo p core.blocks core.statics n (operand core.vars y)
+ReturnPoints p graph core other = Unit {0}
 
 -- it comes back with this value, and owns so much besides
 pub record GivesBack (p : LlProgram) (args : List (List ℕ)) (value : Value) (own : Value → ℕ) (from : State) (frames : List Frame) (core : Core) : Type 0 where
