@@ -106,9 +106,9 @@ use Rattle.ll_code.specs.State.{Tells}
 use Rattle.ll_laws.proofs.Cells.{new_at, old_at}
 use Rattle.ll_laws.proofs.Heap.{length_unset, unset_at}
 use Rattle.refcount_transform.specs.declared.plan.Held.{Held}
-use Rattle.refcount_transform.specs.Plan.{root, base_at}
+use Rattle.refcount_transform.specs.Plan.{root, base_at, has_count}
 use Rattle.std.specs.Prelude.{is_none}
-use Rattle.refcount_transform.specs.Counted.{structs_of}
+use Rattle.refcount_transform.specs.Counted.{struct_by, structs_of}
 use Rattle.refcount_laws.specs.Graphs.{IsRoot}
 use Rattle.refcount_laws.specs.Made.{place_in}
 use Rattle.refcount_laws.proofs.Numbers.{is_own_root}
@@ -353,3 +353,162 @@ module _ (p : LlProgram) (based : Based p.structs) (counting : Counting (counted
         at = d.at;
         leads = subst (λ y. Leads q args (At (header_by plan a n y rest) ex frames (here qcore f b at vars (slice_set h new (with_fields (w0 ∷ w1 ∷ fields))) s)) (At rest ex frames (here qcore f b d.at vars (slice_set h new (with_fields (Word (pos 1) ∷ Fun ((counts_of plan).release n) ∷ nulled ((counts_of plan).held n) fields))) s))) (sym cn) l;
       }
+
+-- ---- memory with one block more
+
+set_last : {A : Type 0} (xs : List A) (x y : A) → slice_set (xs ++ x ∷ []) (length xs) y ≡ xs ++ y ∷ []
+set_last [] x y = refl
+set_last (z ∷ xs) x y = ap (λ l. z ∷ l) (set_last xs x y)
+
+near_grown : (p : LlProgram) (blocks : List (Option Block)) (statics : List Block) (g : Ghost) (d : Slot) (block : Block) → NearMemory (plan_of p) blocks statics g → NearBlock block (bare d) → NearMemory (plan_of p) (blocks ++ Some block ∷ []) statics (grown g d)
+near_grown p blocks statics g d block near here_ = record {
+  size = omega (arith, length_two blocks (Some block ∷ []), length_two g.blocks (d ∷ []), near.size);
+  each = λ a lt. ⊎_elim
+      (λ e. (block, ap (block_in (blocks ++ Some block ∷ [])) e ∙ new_at blocks (Some block) None, subst (λ x. NearBlock block (bare x)) (sym (ap (slot_at (g.blocks ++ d ∷ [])) (e ∙ near.size) ∙ new_at g.blocks d no_slot)) here_))
+      (λ ne. (let w : (block : Block) × (block_in blocks a ≡ Some block) × NearBlock block (bare_at g.blocks a) = near.each a (let z : length (blocks ++ Some block ∷ []) ≡ length blocks + 1 = length_two blocks (Some block ∷ []) in let c : (a < length blocks) ⊎ (length blocks ≤ a) = grind arith in ⊎_elim (λ l. l) (λ l. absurd (ne (omega (arith, l, lt, z)))) c) in
+      (w.0, old_at blocks (Some block) None a ne ∙ w.1, subst (λ x. NearBlock w.0 (bare x)) (sym (old_at g.blocks d no_slot a (λ q. ne (q ∙ sym near.size)))) w.2)))
+      (is_or_not a (length blocks));
+  size_statics = near.size_statics;
+  each_static = near.each_static;
+}
+
+points_grown : (p : LlProgram) (blocks : List (Option Block)) (statics : List Block) (block : Block) (m : ℕ) (v : Value) → PointsTo p blocks statics m v → PointsTo p (blocks ++ Some block ∷ []) statics m v
+points_grown p blocks statics block m Unset h = absurd h
+points_grown p blocks statics block m (Word z) h = absurd h
+points_grown p blocks statics block m (Byte z) h = absurd h
+points_grown p blocks statics block m (Flag z) h = absurd h
+points_grown p blocks statics block m (Fun z) h = absurd h
+points_grown p blocks statics block m Null h = tt
+points_grown p blocks statics block m (Static s) h = h
+points_grown p blocks statics block m (Ptr a) (other, is, of) = (other, old_at blocks (Some block) None a (λ q. absurd (let lt : a < length blocks = there_inside blocks a other is in omega (arith, lt, q))) ∙ is, of)
+
+-- ---- a block is made
+
+module _ (p : LlProgram) (based : Based p.structs) (counting : Counting (counted p) (counts_of (plan_of p))) (args : List (List ℕ)) (types : List LlType) (roots : AllRoots p types) (own : Value → ℕ) (ops rest : List LlOp) (e : LlExit) (ex : LlExit)
+    (frames : List Frame) (b : ℕ) (core qcore : Core) (g : Ghost) (h : List (Option Block)) (at : ℕ) (fits : length core.vars ≡ length types) (stands : Stands p core qcore g h) where
+  abbrev the_plan : Plan
+  the_plan = plan_of p
+
+  abbrev the_q : LlProgram
+  the_q = counted p
+
+  abbrev around : Around
+  around = around_of the_plan types
+
+  module _ (o : LlOp) (a n count : ℕ) (s : LlStruct) (is_s : slice_get p.structs n ≡ Some s) (cn : is_counted the_plan n ≡ true) (sets_it : set_by o ≡ Some a) (m : ℕ) (refers : var_referred around a ≡ Some m) (begins_m : begins_with (shapes_of p.structs) n m ≡ true)
+      (unread : among a (reads o) ≡ false) (inside : a < length core.vars) (no_items : reference_given the_plan.counted (items_of (slice_get p.structs n)) ≡ None) where
+    abbrev behind : List LlOp
+    behind = dead around (touched o) ops e rest
+
+    abbrev plain_size : ℕ
+    plain_size = (shape_at (shapes_of p.structs) n).size
+
+    abbrev wide_size : ℕ
+    wide_size = (shape_at (shapes_counted the_plan) n).size
+
+    abbrev made_block : Block
+    made_block = record { kind = n; fields = replicate plain_size Unset; items = replicate count Unset }
+
+    abbrev new_slot : Slot
+    new_slot = S 1 n (nulled ((counts_of the_plan).held n) (replicate plain_size Unset)) (replicate count Unset)
+
+    abbrev core1 : Core
+    core1 = record core { blocks = core.blocks ++ Some made_block ∷ [] }
+
+    abbrev number : ℕ
+    number = length core.blocks
+
+    abbrev vars2 : List Value
+    vars2 = slice_set core.vars a (Ptr number)
+
+    abbrev first_block : Option Block
+    first_block = Some (record { kind = n; fields = replicate wide_size Unset; items = replicate count Unset })
+
+    abbrev made_state : State
+    made_state = At (header the_plan a n behind) ex frames (here qcore core.function b (at + 1) vars2 (h ++ first_block ∷ []) (memory g))
+
+    wide : wide_size ≡ suc (suc plain_size)
+    wide = size_fuel p based (suc n) n s (omega arith) is_s cn
+
+    size_h : length h ≡ number
+    size_h = stands.shown.size ∙ sym stands.near.size
+
+    longer : number < length (h ++ first_block ∷ [])
+    longer = omega (arith, length_two h (first_block ∷ []), size_h)
+
+    of_n : begins_with (shapes_counted the_plan) n n ≡ true
+    of_n = begins_itself (structs_of the_plan) (counted_based p based) n (struct_by (has_count the_plan n) s) (struct_there p based n s is_s)
+
+    d : Written p based counting args qcore core.function b ex frames vars2 (memory g) a n number (set_here core.vars a (Ptr number) Unset inside) cn of_n (replicate count Unset)
+        (At (header the_plan a n behind) ex frames (here qcore core.function b (at + 1) vars2 (slice_set (h ++ first_block ∷ []) number (Some (record { kind = n; fields = Unset ∷ Unset ∷ replicate plain_size Unset; items = replicate count Unset }))) (memory g)))
+        behind (h ++ first_block ∷ []) (Word (pos 1) ∷ Fun ((counts_of the_plan).release n) ∷ nulled ((counts_of the_plan).held n) (replicate plain_size Unset))
+    d = header_run p based counting args qcore core.function b ex frames vars2 (memory g) a n number (set_here core.vars a (Ptr number) Unset inside) cn of_n (replicate count Unset) (at + 1) behind (h ++ first_block ∷ []) Unset Unset (replicate plain_size Unset) longer
+
+    -- the memory is what the writes begin with, and what they come to
+    begins_as : slice_set (h ++ first_block ∷ []) number (Some (record { kind = n; fields = Unset ∷ Unset ∷ replicate plain_size Unset; items = replicate count Unset })) ≡ h ++ first_block ∷ []
+    begins_as =
+        ap (λ k. slice_set (h ++ first_block ∷ []) k (Some (record { kind = n; fields = Unset ∷ Unset ∷ replicate plain_size Unset; items = replicate count Unset }))) (sym size_h)
+        ∙ set_last h first_block (Some (record { kind = n; fields = Unset ∷ Unset ∷ replicate plain_size Unset; items = replicate count Unset }))
+        ∙ ap (λ k. h ++ Some (record { kind = n; fields = replicate k Unset; items = replicate count Unset }) ∷ []) (sym wide)
+
+    ends_as : slice_set (h ++ first_block ∷ []) number (shown (counts_of the_plan) new_slot) ≡ h ++ shown (counts_of the_plan) new_slot ∷ []
+    ends_as = ap (λ k. slice_set (h ++ first_block ∷ []) k (shown (counts_of the_plan) new_slot)) (sym size_h) ∙ set_last h first_block (shown (counts_of the_plan) new_slot)
+
+    written_down : Leads the_q args made_state (At behind ex frames (here qcore core.function b d.at vars2 (h ++ shown (counts_of the_plan) new_slot ∷ []) (memory g)))
+    written_down =
+        subst (λ l. Leads the_q args (At (header the_plan a n behind) ex frames (here qcore core.function b (at + 1) vars2 l (memory g))) (At behind ex frames (here qcore core.function b d.at vars2 (h ++ shown (counts_of the_plan) new_slot ∷ []) (memory g)))) begins_as
+        (subst (λ l. Leads the_q args (At (header the_plan a n behind) ex frames (here qcore core.function b (at + 1) vars2 (slice_set (h ++ first_block ∷ []) number (Some (record { kind = n; fields = Unset ∷ Unset ∷ replicate plain_size Unset; items = replicate count Unset }))) (memory g)))
+        (At behind ex frames (here qcore core.function b d.at vars2 l (memory g)))) ends_as d.leads)
+
+    highs : High plain_size ((counts_of the_plan).held n)
+    highs = held_high p based p.structs n cn
+
+    long_enough : plain_size ≤ length (replicate plain_size Unset)
+    long_enough = omega (arith, length_unset plain_size)
+
+    near_new : NearBlock made_block (bare new_slot)
+    near_new = record {
+      kind = refl;
+      fields = record {
+        size = sym (nulled_size ((counts_of the_plan).held n) (replicate plain_size Unset));
+        at = λ k. nulled_near ((counts_of the_plan).held n) plain_size (replicate plain_size Unset) (λ j. inl refl) k;
+      };
+      items = record { size = refl; at = λ k. inl refl };
+    }
+
+    nothing : (r : Value) → held_by (counts_of the_plan) new_slot r ≡ 0
+    nothing r =
+        occurs_both r (field_references ((counts_of the_plan).held n) (nulled ((counts_of the_plan).held n) (replicate plain_size Unset))) (item_references ((counts_of the_plan).items n) (replicate count Unset))
+        ∙ (let x : occurs r (field_references ((counts_of the_plan).held n) (nulled ((counts_of the_plan).held n) (replicate plain_size Unset))) ≡ 0 = all_null ((counts_of the_plan).held n) (replicate plain_size Unset) plain_size highs long_enough r in
+        let y : occurs r (item_references ((counts_of the_plan).items n) (replicate count Unset)) ≡ 0 = ap (λ o. occurs r (item_references o (replicate count Unset))) no_items in omega (arith, x, y))
+
+    whole_new : IsWhole the_q (counts_of the_plan) (grown g new_slot) (bare new_slot)
+    whole_new = record {
+      counted = cn;
+      fields = nulls_lead the_q (grown g new_slot) ((counts_of the_plan).held n) (replicate plain_size Unset) plain_size highs long_enough;
+      items = subst (λ o. ItemsLead the_q (counts_of the_plan) (grown g new_slot) o (bare new_slot)) (sym no_items) tt;
+    }
+
+    pub made_followed : changed around o behind ≡ o ∷ header the_plan a n behind
+        → step the_q args (At (o ∷ header the_plan a n behind) ex frames (here qcore core.function b at core.vars h (memory g))) ≡ Tells (Made number n (wide_size + count)) made_state
+        → Pointing p types core.blocks core.statics (live (o ∷ ops) e) core.vars → IsCounted the_q (counts_of the_plan) g (λ r. owned around (live (o ∷ ops) e) core.vars r + own r)
+        → Follows p args types (live ops e) own (At (changed around o behind) ex frames (here qcore core.function b at core.vars h (memory g))) rest ex frames b (Told (Made number n (plain_size + count)) (record core1 { at = core.at + 1; vars = vars2 }))
+    made_followed plain moves pointing counts =
+        subst (λ l. Follows p args types (live ops e) own (At l ex frames (here qcore core.function b at core.vars h (memory g))) rest ex frames b (Told (Made number n (plain_size + count)) (record core1 { at = core.at + 1; vars = vars2 }))) (sym plain)
+        (At (o ∷ header the_plan a n behind) ex frames (here qcore core.function b at core.vars h (memory g)), made_state, stays the_q args (At (o ∷ header the_plan a n behind) ex frames (here qcore core.function b at core.vars h (memory g))),
+        moves ∙ ap (λ k. Tells (Made number n k) made_state) (let z : wide_size + count ≡ plain_size + count + 2 = omega (arith, wide) in z),
+        comes_before p based counting args types roots own o ops rest e ex frames b (live ops e) made_state (At behind ex frames (here qcore core.function b d.at vars2 (h ++ shown (counts_of the_plan) new_slot ∷ []) (memory g)))
+        (record core1 { at = core.at + 1; vars = vars2 }) written_down
+        (value_end p based counting args types roots own o ops rest e ex frames b a sets_it core1 qcore (grown g new_slot) (h ++ shown (counts_of the_plan) new_slot ∷ []) d.at (Ptr number) inside fits (λ n r. unread)
+        (record {
+          near = near_grown p core.blocks core.statics g new_slot made_block stands.near near_new;
+          shown = grown_shown the_q (counts_of the_plan) g new_slot (λ r. owned around (live (o ∷ ops) e) core.vars r + own r) counts h stands.shown;
+          steps = stands.steps;
+          exc_type = stands.exc_type;
+          exc_value = stands.exc_value;
+        })
+        (record { at = λ v k u r. points_grown p core.blocks core.statics made_block k (read core.vars v) (pointing.at v k u r); refers = pointing.refers })
+        (λ k r. (made_block, new_at core.blocks (Some made_block) None, (let f : Some m ≡ Some k = sym refers ∙ r in let j : m ≡ k = cc in subst (λ k. begins_with (shapes_of p.structs) n k ≡ true) j begins_m))) (λ j r. (m, refers))
+        (own_same the_q args (counts_of the_plan) (grown g new_slot) (λ r. hit r (Ptr (length g.blocks)) + (owned around (live (o ∷ ops) e) core.vars r + own r)) (λ r. hits_by (var_referred around a) (Ptr number) r + (owned around (live (o ∷ ops) e) core.vars r + own r))
+        (λ r. ap (λ k. hit r (Ptr k) + (owned around (live (o ∷ ops) e) core.vars r + own r)) (sym stands.near.size) ∙ ap (λ k. hits_by k (Ptr number) r + (owned around (live (o ∷ ops) e) core.vars r + own r)) (sym refers))
+        (grown_counted the_q (counts_of the_plan) g new_slot (λ r. owned around (live (o ∷ ops) e) core.vars r + own r) counts refl nothing whole_new))))
