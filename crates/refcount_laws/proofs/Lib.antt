@@ -33,4 +33,5 @@ pub mod Spread
 pub mod Setting
 pub mod Storage
 pub mod Making
+pub mod Operations
 pub mod Leading
