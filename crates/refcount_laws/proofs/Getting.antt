@@ -152,7 +152,7 @@ module _ (p : LlProgram) (based : Based p.structs) (counting : Counting (counted
   counted_struct n c = marked_there p.structs p.graphs 0 p.structs n c
 
   -- items that are references lead from blocks of the struct itself
-  items_kind : (kind n : ℕ) (t : LlType) → begins_with (shapes_of p.structs) kind n ≡ true → items_of (slice_get p.structs n) ≡ Some t → n ≡ kind
+  pub items_kind : (kind n : ℕ) (t : LlType) → begins_with (shapes_of p.structs) kind n ≡ true → items_of (slice_get p.structs n) ≡ Some t → n ≡ kind
   items_kind kind n t of e = (all_laid p.structs laid).items kind n t of e
 
   occurs_at : (m : ℕ) (items : List Value) (i : ℕ) → read items i ≡ Ptr m → 0 < occurs (Ptr m) items

@@ -33,5 +33,6 @@ pub mod Spread
 pub mod Setting
 pub mod Storage
 pub mod Making
+pub mod ItemWrites
 pub mod Operations
 pub mod Leading
