@@ -152,7 +152,7 @@ module _ (p : LlProgram) (based : Based p.structs) (counting : Counting (counted
   counted_struct n c = marked_there p.structs p.graphs 0 p.structs n c
 
   -- items that are references lead from blocks of the struct itself
-  items_kind : (kind n : ℕ) (t : LlType) → begins_with (shapes_of p.structs) kind n ≡ true → items_of (slice_get p.structs n) ≡ Some t → n ≡ kind
+  pub items_kind : (kind n : ℕ) (t : LlType) → begins_with (shapes_of p.structs) kind n ≡ true → items_of (slice_get p.structs n) ≡ Some t → n ≡ kind
   items_kind kind n t of e = (all_laid p.structs laid).items kind n t of e
 
   occurs_at : (m : ℕ) (items : List Value) (i : ℕ) → read items i ≡ Ptr m → 0 < occurs (Ptr m) items
@@ -323,7 +323,7 @@ module _ (p : LlProgram) (based : Based p.structs) (counting : Counting (counted
   step_of o rest = At (o ∷ rest) ex frames (here qcore core.function b at core.vars h (memory g))
 
   module _ (a n v i : ℕ) (t : LlType) (is_field : field_of (slice_get p.structs n) i ≡ Some t) (typed : slice_get types a ≡ Some t) (unread : (m : ℕ) → var_referred around a ≡ Some m → among a (v ∷ []) ≡ false) where
-    pub get_field_followed : ((block : Block) → reached core (shapes_of p.structs) n (read core.vars v) ≡ Ok block → MayHold p based counting args types roots own ops rest e ex frames b core qcore g h at fits stands k room a (read block.fields (place (shape_at (shapes_of p.structs) n) i)))
+    pub get_field_followed : ((block : Block) → reached core (shapes_of p.structs) n (read core.vars v) ≡ Ok block → is_unset (read block.fields (place (shape_at (shapes_of p.structs) n) i)) ≡ false → MayHold p based counting args types roots own ops rest e ex frames b core qcore g h at fits stands k room a (read block.fields (place (shape_at (shapes_of p.structs) n) i)))
         → IsFollowedHere (op.GetField a n v i) (does p args core (op.GetField a n v i))
     get_field_followed may pointing counts = by (reached core (shapes_of p.structs) n (read core.vars v)) refl
       where
@@ -340,7 +340,7 @@ module _ (p : LlProgram) (based : Based p.structs) (counting : Counting (counted
         set block found false y =
             let x : Value = read block.fields (place (shape_at (shapes_of p.structs) n) i) in
             let s : Seen n (read core.vars v) block = var_seen (live (op.GetField a n v i ∷ ops) e) v n block pointing counts used (struct_of n i t is_field) found in
-            let may_hold : MayHold p based counting args types roots own ops rest e ex frames b core qcore g h at fits stands k room a x = may block found in
+            let may_hold : MayHold p based counting args types roots own ops rest e ex frames b core qcore g h at fits stands k room a x = may block found y in
             let behind : List LlOp = up around (Var a) (dead around (touched (op.GetField a n v i)) ops e rest) in
             comes_before p based counting args types roots own (op.GetField a n v i) ops rest e ex frames b (live ops e) (step_of (op.GetField a n v (shifted plan n i)) behind)
             (At behind ex frames (here qcore core.function b (at + 1) (slice_set core.vars a x) h (memory g))) (record core { at = core.at + 1; vars = slice_set core.vars a x })
@@ -358,7 +358,7 @@ module _ (p : LlProgram) (based : Based p.structs) (counting : Counting (counted
   -- ---- items
 
   module _ (a n v : ℕ) (x : COperand) (t : LlType) (are_items : items_of (slice_get p.structs n) ≡ Some t) (typed : slice_get types a ≡ Some t) (unread : (m : ℕ) → var_referred around a ≡ Some m → among a (v ∷ variables_of x) ≡ false) where
-    pub get_item_followed : ((block : Block) (i : ℕ) → reached core (shapes_of p.structs) n (read core.vars v) ≡ Ok block → MayHold p based counting args types roots own ops rest e ex frames b core qcore g h at fits stands k room a (read block.items i))
+    pub get_item_followed : ((block : Block) (i : ℕ) → reached core (shapes_of p.structs) n (read core.vars v) ≡ Ok block → is_unset (read block.items i) ≡ false → MayHold p based counting args types roots own ops rest e ex frames b core qcore g h at fits stands k room a (read block.items i))
         → IsFollowedHere (op.GetItem a n v x) (does p args core (op.GetItem a n v x))
     get_item_followed may pointing counts = by (word_of (operand core.vars x)) refl (reached core (shapes_of p.structs) n (read core.vars v)) refl
       where
@@ -385,7 +385,7 @@ module _ (p : LlProgram) (based : Based p.structs) (counting : Counting (counted
         set block i found w lt false y =
             let z : Value = read block.items i in
             let s : Seen n (read core.vars v) block = var_seen (live (op.GetItem a n v x ∷ ops) e) v n block pointing counts used (struct_with n t are_items) found in
-            let may_hold : MayHold p based counting args types roots own ops rest e ex frames b core qcore g h at fits stands k room a z = may block i found in
+            let may_hold : MayHold p based counting args types roots own ops rest e ex frames b core qcore g h at fits stands k room a z = may block i found y in
             let behind : List LlOp = up around (Var a) (dead around (touched (op.GetItem a n v x)) ops e rest) in
             comes_before p based counting args types roots own (op.GetItem a n v x) ops rest e ex frames b (live ops e) (step_of (op.GetItem a n v x) behind)
             (At behind ex frames (here qcore core.function b (at + 1) (slice_set core.vars a z) h (memory g))) (record core { at = core.at + 1; vars = slice_set core.vars a z })

@@ -33,6 +33,8 @@ pub mod Spread
 pub mod Setting
 pub mod Storage
 pub mod Making
+pub mod ItemWrites
+pub mod Operations
 pub mod Leading
 pub mod Leaving
 pub mod Exits

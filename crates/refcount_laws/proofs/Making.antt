@@ -430,7 +430,7 @@ module _ (p : LlProgram) (based : Based p.structs) (counting : Counting (counted
     wide : wide_size ≡ suc (suc plain_size)
     wide = size_fuel p based (suc n) n s (omega arith) is_s cn
 
-    size_h : length h ≡ number
+    pub size_h : length h ≡ number
     size_h = stands.shown.size ∙ sym stands.near.size
 
     longer : number < length (h ++ first_block ∷ [])

@@ -1,6 +1,7 @@
 pub mod Ghost
 pub mod Graphs
 pub mod Made
+pub mod Before
 pub mod Matches
 pub mod Owned
 pub mod Reach
