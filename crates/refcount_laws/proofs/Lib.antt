@@ -40,3 +40,4 @@ pub mod Leaving
 pub mod Exits
 pub mod Blocks
 pub mod Departing
+pub mod Calls

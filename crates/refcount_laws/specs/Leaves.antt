@@ -1,5 +1,5 @@
 -- What follows an exit of a counted program.
-use Rattle.std.specs.Prelude.{◌≡◌, ℕ, ◌+◌, ◌||◌, not, ◌&&◌, Bool, true, false, List, [], ◌∷◌, slice_get, Option, Some, None}
+use Rattle.std.specs.Prelude.{◌≡◌, ℕ, suc, ◌+◌, ◌||◌, not, ◌&&◌, Bool, true, false, List, [], ◌∷◌, slice_get, Option, Some, None}
 use Rattle.csub_tree.specs.State.{Value, Unset, Block, Core}
 use Rattle.csub_tree.specs.Statement.{operand, operands, any_unset}
 use Rattle.csub_tree.specs.Operation.{is_unset}
@@ -15,7 +15,7 @@ use Rattle.ll_code.specs.declared.program.LlGraph.{LlGraph}
 use Rattle.ll_code.specs.declared.program.LlProgram.{LlProgram}
 use Rattle.ll_live.specs.Live.{among, live}
 use Rattle.refcount_transform.specs.Plan.{plan_of, reference_given}
-use Rattle.refcount_transform.specs.Changes.{around_of, operand_referred, ops_of}
+use Rattle.refcount_transform.specs.Changes.{Around, var_referred, around_of, operand_referred, ops_of}
 use Rattle.refcount_transform.specs.Blocks.{behind_exit, blocks_of, exit_of}
 use Rattle.refcount_transform.specs.Counted.{counted}
 use Rattle.refcount_laws.specs.Made.{counts_of}
@@ -48,6 +48,11 @@ From all n (x ∷ xs) = (slice_get all n ≡ Some x) × From all (n + 1) xs
 abbrev pub LinksPoint : LlProgram → LlGraph → Core → Type 0
 LinksPoint p graph core = (link : LlLink) (block : LlBlock) → link_ok p graph link ≡ true → slice_get graph.blocks link.to ≡ Some block → any_unset (operands core.vars link.args) ≡ false
     → Pointing p graph.types core.blocks core.statics (λ w. among w block.inputs) (set_all core.vars block.inputs (operands core.vars link.args))
+
+-- the references that variables are given, the first of which has the number n
+abbrev pub given_to : Around → ℕ → List Value → Value → ℕ
+given_to around n [] r = 0
+given_to around n (x ∷ values) r = hits_by (var_referred around n) x r + given_to around (suc n) values r
 
 -- what a return gives on points where its type says
 abbrev pub ReturnPoints : LlProgram → LlGraph → Core → LlExit → Type 0
