@@ -257,3 +257,67 @@ module _ (p : LlProgram) (based : Based p.structs) (counting : Counting (counted
             exc_type = stands.exc_type;
             exc_value = stands.exc_value;
           }) points_after put_.counted)
+
+    -- the whole operation: what is done where the items are no references, or where they are
+    module _ (rest_of : List LlOp) (plain : changed around (op.SetItem n v y x) behind ≡ rest_of)
+        (one : (a i : ℕ) (block : Block) → read core.vars v ≡ Ptr a → reached core (shapes_of p.structs) n (Ptr a) ≡ Ok block → i < length block.items → operand core.vars y ≡ Word (pos i) → is_unset (operand core.vars x) ≡ false
+            → Comes p args types (live ops e) own (q_here rest_of) rest ex frames b (core_after a block i))
+        (in_block : (s : ℕ) → read core.vars v ≡ Static s → ⊥) where
+      abbrev FollowsItem : After → Type 0
+      FollowsItem after = Follows p args types (live ops e) own (q_here rest_of) rest ex frames b after
+
+      word_is : (u : Value) (i : ℕ) → word_of u ≡ Some (pos i) → u ≡ Word (pos i)
+      word_is (Word z) i f = let g : z ≡ pos i = cc in ap Word g
+      word_is Unset i f = absurd (cc)
+      word_is (Byte z) i f = absurd (cc)
+      word_is (Flag z) i f = absurd (cc)
+      word_is (Fun z) i f = absurd (cc)
+      word_is Null i f = absurd (cc)
+      word_is (Ptr z) i f = absurd (cc)
+      word_is (Static z) i f = absurd (cc)
+
+      at_pointer : (pointer : Value) → read core.vars v ≡ pointer → (i : ℕ) (block : Block) → reached core (shapes_of p.structs) n pointer ≡ Ok block → i < length block.items → operand core.vars y ≡ Word (pos i) → is_unset (operand core.vars x) ≡ false
+          → FollowsItem (stored core pointer (record block { items = slice_set block.items i (operand core.vars x) }))
+      at_pointer Unset at_it i block found lt index set = tt
+      at_pointer (Word z) at_it i block found lt index set = tt
+      at_pointer (Byte z) at_it i block found lt index set = tt
+      at_pointer (Flag z) at_it i block found lt index set = tt
+      at_pointer (Fun z) at_it i block found lt index set = tt
+      at_pointer Null at_it i block found lt index set = tt
+      at_pointer (Static s) at_it i block found lt index set = absurd (in_block s at_it)
+      at_pointer (Ptr a) at_it i block found lt index set = one a i block at_it found lt index set
+
+      at_place : (i : ℕ) (block : Block) → reached core (shapes_of p.structs) n (read core.vars v) ≡ Ok block → operand core.vars y ≡ Word (pos i) → is_unset (operand core.vars x) ≡ false → (z : Bool) → nat_lt i (length block.items) ≡ z
+          → FollowsItem (cond z (stored core (read core.vars v) (record block { items = slice_set block.items i (operand core.vars x) })) (Stuck Outside))
+      at_place i block found index set false z = tt
+      at_place i block found index set true z = at_pointer (read core.vars v) refl i block found (is_less i (length block.items) z) index set
+
+      at_index : is_unset (operand core.vars x) ≡ false → (w : Option ℤ) → word_of (operand core.vars y) ≡ w → (r : Result Block StuckReason) → reached core (shapes_of p.structs) n (read core.vars v) ≡ r
+          → FollowsItem (st.on (λ i. on_block (λ block. st.put_item core (read core.vars v) block i (operand core.vars x)) r) w)
+      at_index set None f r found = tt
+      at_index set (Some (negsuc i)) f (Err reason) found = tt
+      at_index set (Some (negsuc i)) f (Ok block) found = tt
+      at_index set (Some (pos i)) f (Err reason) found = tt
+      at_index set (Some (pos i)) f (Ok block) found = at_place i block found (word_is (operand core.vars y) i f) set (nat_lt i (length block.items)) refl
+
+      all_of : (z : Bool) → is_unset (operand core.vars x) ≡ z
+          → FollowsItem (cond z (Stuck IsUnset) (st.on (λ i. on_block (λ block. st.put_item core (read core.vars v) block i (operand core.vars x)) (reached core (shapes_of p.structs) n (read core.vars v))) (word_of (operand core.vars y))))
+      all_of true z = tt
+      all_of false z = at_index z (word_of (operand core.vars y)) refl (reached core (shapes_of p.structs) n (read core.vars v)) refl
+
+      item_set : Follows p args types (live ops e) own (q_here (changed around (op.SetItem n v y x) behind)) rest ex frames b (does p args core (op.SetItem n v y x))
+      item_set = subst (λ l. Follows p args types (live ops e) own (q_here l) rest ex frames b (does p args core (op.SetItem n v y x))) (sym plain) (all_of (is_unset (operand core.vars x)) refl)
+
+    pub set_plain_item_followed : items_referred plan n ≡ None → ((s : ℕ) → read core.vars v ≡ Static s → ⊥) → Pointing p types core.blocks core.statics (live (op.SetItem n v y x ∷ ops) e) core.vars
+        → IsCounted q c g (λ r. owned around (live (op.SetItem n v y x ∷ ops) e) core.vars r + own r)
+        → Follows p args types (live ops e) own (q_here (changed around (op.SetItem n v y x) behind)) rest ex frames b (does p args core (op.SetItem n v y x))
+    set_plain_item_followed none in_block pointing counts =
+        item_set (op.SetItem n v y x ∷ behind) (ap (λ r. set_item_by plan n v y x r ∷ behind) none) (λ a i block is found lt index set. plain_item a i block is found lt index pointing counts none set) in_block
+
+    pub set_reference_item_followed : (m : ℕ) → items_referred plan n ≡ Some m → StandsWith q (counts_at plan n).items (0 ∷ 1 ∷ 2 ∷ []) (put_item_types c n m) (put_item_block c n m ∷ []) → ((s : ℕ) → read core.vars v ≡ Static s → ⊥)
+        → PointsTo p core.blocks core.statics m (operand core.vars x) → root_of plan m ≡ m → is_counted plan m ≡ true → ((z : ℕ) → operand core.vars x ≡ Ptr z → 0 < count g.blocks z)
+        → Pointing p types core.blocks core.statics (live (op.SetItem n v y x ∷ ops) e) core.vars → IsCounted q c g (λ r. owned around (live (op.SetItem n v y x ∷ ops) e) core.vars r + own r)
+        → Follows p args types (live ops e) own (q_here (changed around (op.SetItem n v y x) behind)) rest ex frames b (does p args core (op.SetItem n v y x))
+    set_reference_item_followed m refers stand in_block points root_m counted_m alive_x pointing counts =
+        item_set (op.Call None (counts_at plan n).items (Var v ∷ y ∷ x ∷ []) ∷ behind) (ap (λ r. set_item_by plan n v y x r ∷ behind) refers)
+        (λ a i block is found lt index set. reference_item a i block is found lt index pointing counts m (counts_at plan n).items refers stand points root_m counted_m alive_x) in_block
