@@ -41,3 +41,4 @@ pub mod Exits
 pub mod Blocks
 pub mod Departing
 pub mod Calls
+pub mod Calling
