@@ -80,6 +80,8 @@ use Rattle.refcount_transform.specs.Plan.{reference_to}
 use Rattle.refcount_transform.specs.Changes.{changed, ups}
 use Rattle.refcount_laws.specs.Leaves.{AllPoint, ComesCalling, EntersBy}
 use Rattle.refcount_laws.proofs.Given.{ups_run}
+use Rattle.refcount_laws.proofs.Blocks.{graph_placed}
+use Rattle.csub_tree.specs.declared.stuck.StuckReason.TheVariants.{Signature}
 use Rattle.refcount_laws.proofs.Departing.{result_taken}
 
 one_more_is : (n : ℕ) → n + 1 ≡ suc n
@@ -249,3 +251,52 @@ module _ (p : LlProgram) (based : Based p.structs) (counting : Counting (counted
           (w.0, w.1, calls (op.Call into f xs) f into xs w.0.types refl (λ w m. in_call xs w m _) (λ r. given_same p types w.0.types 0 w.0.params xs core.vars r (params w.0 w.1) w.2)
           (λ at h s. ap (λ y. cond y (Sticks IsUnset) (Goes (Calling f (operands core.vars xs) (waiting (here qcore core.function b at core.vars h s) into (dead around (touched (op.Call into f xs)) ops e rest) ex ∷ frames) (here qcore core.function b at core.vars h s)))) y)
           pointing points room counts)
+
+  pub call_fn_followed : (into : Option ℕ) (result : LlType) (params : List LlType) (v : ℕ) (xs : List COperand) → operation_ok p types (op.CallFn into result params v xs) ≡ true
+      → ((f : ℕ) (graph : LlGraph) → slice_get p.graphs f ≡ Some graph → params_ok p graph.types 0 graph.params ≡ true) → Pointing p types core.blocks core.statics (live (op.CallFn into result params v xs ∷ ops) e) core.vars
+      → AllPoint p types core xs → Roomy g (length xs + 0) → IsCounted q counts_ g (λ r. owned around (live (op.CallFn into result params v xs ∷ ops) e) core.vars r + own r)
+      → Entered (op.CallFn into result params v xs) into (operates p args (op.CallFn into result params v xs) ops e waiters core)
+  call_fn_followed into result params v xs ok named pointing points room counts = by (is_unset (read core.vars v) || any_unset (operands core.vars xs)) refl
+    where
+      o : LlOp
+      o = op.CallFn into result params v xs
+
+      values : List Value
+      values = operands core.vars xs
+
+      behind : List LlOp
+      behind = dead around (touched o) ops e rest
+
+      mine : ℕ → List (Option Block) → List Block → Core
+      mine at h s = here qcore core.function b at core.vars h s
+
+      later : (a : Bool) (m : Bool) → m ≡ true → (a || m) ≡ true
+      later true m e = refl
+      later false m e = e
+
+      found : (f : ℕ) → fun_of (read core.vars v) ≡ Some f → (is_unset (read core.vars v) || any_unset values) ≡ false → (graph : LlGraph) → slice_get p.graphs f ≡ Some graph → (y : Bool) → (same_result (c_result graph.result) (c_result result) && same_types (param_types graph) (map c_type params)) ≡ y
+          → Entered o into (cond y (Goes (Calling f values (waiting core into ops e ∷ waiters) core)) (Sticks Signature))
+      found f is_fun y graph there false same = tt
+      found f is_fun y graph there true same =
+          (graph, there, calls o f into xs graph.types refl (λ w m. in_call_fn w m)
+          (λ r. taken_same p types graph.types 0 graph.params params xs core.vars r (named f graph there) (and_right _ _ same) (and_right _ _ ok))
+          (λ at h s. ap (λ y. cond y (Sticks IsUnset) (called_value q (c_result result) (map c_type params) (fun_of (read core.vars v)) values (waiting (mine at h s) into behind ex ∷ frames) (mine at h s))) y
+          ∙ ap (λ o. called_value q (c_result result) (map c_type params) o values (waiting (mine at h s) into behind ex ∷ frames) (mine at h s)) is_fun
+          ∙ ap (called_as (c_result result) (map c_type params) f values (waiting (mine at h s) into behind ex ∷ frames) (mine at h s)) (graph_placed p f graph there)
+          ∙ ap (λ y. cond y (Goes (Calling f values (waiting (mine at h s) into behind ex ∷ frames) (mine at h s))) (Sticks Signature)) same)
+          pointing points room counts)
+        where
+          in_call_fn : (w : ℕ) → among w (variables_in xs) ≡ true → live (o ∷ ops) e w ≡ true
+          in_call_fn w m = ap (λ b. b || (not (Rattle.ll_live.specs.Live.sets into w) && live ops e w)) (later (v == w) (among w (variables_in xs)) m)
+
+      is_there : (f : ℕ) → fun_of (read core.vars v) ≡ Some f → (is_unset (read core.vars v) || any_unset values) ≡ false → (g : Option LlGraph) → slice_get p.graphs f ≡ g → Entered o into (called_as (c_result result) (map c_type params) f values (waiting core into ops e ∷ waiters) core g)
+      is_there f is_fun y None there = tt
+      is_there f is_fun y (Some graph) there = found f is_fun y graph there (same_result (c_result graph.result) (c_result result) && same_types (param_types graph) (map c_type params)) refl
+
+      is_function : (is_unset (read core.vars v) || any_unset values) ≡ false → (k : Option ℕ) → fun_of (read core.vars v) ≡ k → Entered o into (called_value p (c_result result) (map c_type params) k values (waiting core into ops e ∷ waiters) core)
+      is_function y None is = tt
+      is_function y (Some f) is = is_there f is y (slice_get p.graphs f) refl
+
+      by : (y : Bool) → (is_unset (read core.vars v) || any_unset values) ≡ y → Entered o into (cond y (Sticks IsUnset) (called_value p (c_result result) (map c_type params) (fun_of (read core.vars v)) values (waiting core into ops e ∷ waiters) core))
+      by true y = tt
+      by false y = is_function y (fun_of (read core.vars v)) refl
