@@ -34,5 +34,6 @@ pub mod Setting
 pub mod Storage
 pub mod Making
 pub mod ItemWrites
+pub mod Calls
 pub mod Operations
 pub mod Leading
