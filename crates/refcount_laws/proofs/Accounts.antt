@@ -17,7 +17,7 @@ use Rattle.refcount_laws.proofs.Touching.{is_or_not}
 use Rattle.refcount_laws.proofs.Owning.{kept_set, owned_same, owned_plain, owned_one}
 use Rattle.refcount_laws.proofs.Dead.{same_is, differ_is}
 
-among_both : (v : ℕ) (xs ys : List ℕ) → among v (xs ++ ys) ≡ (among v xs || among v ys)
+pub among_both : (v : ℕ) (xs ys : List ℕ) → among v (xs ++ ys) ≡ (among v xs || among v ys)
 among_both v [] ys = refl
 among_both v (x ∷ xs) ys = ap (λ b. (x == v) || b) (among_both v xs ys) ∙ assoc (x == v) (among v xs) (among v ys)
   where

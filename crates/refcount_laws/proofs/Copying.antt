@@ -100,7 +100,7 @@ module _ (p : LlProgram) (types : List LlType) (a : ℕ) where
   around_ = around_of (plan_of p) types
 
   -- an operand that a variable takes refers to what the variable does, or is NULL
-  taken_by : (t : LlType) (x : COperand) (vars : List Value) (r : Value) → slice_get types a ≡ Some t → takes p types t x ≡ true → hits_by (operand_referred around_ x) (operand vars x) r ≡ hits_by (var_referred around_ a) (operand vars x) r
+  pub taken_by : (t : LlType) (x : COperand) (vars : List Value) (r : Value) → slice_get types a ≡ Some t → takes p types t x ≡ true → hits_by (operand_referred around_ x) (operand vars x) r ≡ hits_by (var_referred around_ a) (operand vars x) r
   taken_by t (Var w) vars r e ok = ap (λ k. hits_by k (read vars w) r) (ap (reference_given marks) (has_type_is t (slice_get types w) ok ∙ sym e))
   taken_by type.Signed (Const (const.Word z)) vars r e ok = ap (λ k. hits_by (reference_given marks k) (Word z) r) (sym e)
   taken_by type.Char (Const (const.Char z)) vars r e ok = ap (λ k. hits_by (reference_given marks k) (Byte z) r) (sym e)
@@ -118,7 +118,7 @@ module _ (p : LlProgram) (types : List LlType) (a : ℕ) where
   taken_by t (Const k) vars r e ok = absurd (cc)
 
   -- where it refers to a struct, so does the variable
-  refers_to : (t : LlType) (x : COperand) (n : ℕ) → slice_get types a ≡ Some t → takes p types t x ≡ true → operand_referred around_ x ≡ Some n → var_referred around_ a ≡ Some n
+  pub refers_to : (t : LlType) (x : COperand) (n : ℕ) → slice_get types a ≡ Some t → takes p types t x ≡ true → operand_referred around_ x ≡ Some n → var_referred around_ a ≡ Some n
   refers_to t (Var w) n e ok h = ap (reference_given marks) (e ∙ sym (has_type_is t (slice_get types w) ok)) ∙ h
   refers_to type.Signed (Const (const.Word z)) n e ok h = absurd (cc)
   refers_to type.Char (Const (const.Char z)) n e ok h = absurd (cc)

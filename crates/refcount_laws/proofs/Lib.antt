@@ -34,6 +34,11 @@ pub mod Setting
 pub mod Storage
 pub mod Making
 pub mod ItemWrites
-pub mod Calls
+pub mod Invoking
 pub mod Operations
 pub mod Leading
+pub mod Leaving
+pub mod Exits
+pub mod Blocks
+pub mod Departing
+pub mod Calls

@@ -8,3 +8,4 @@ pub mod Owned
 pub mod Reach
 pub mod Runs
 pub mod Touched
+pub mod Leaves
