@@ -34,6 +34,7 @@ pub mod Setting
 pub mod Storage
 pub mod Making
 pub mod ItemWrites
+pub mod Invoking
 pub mod Operations
 pub mod Leading
 pub mod Leaving
