@@ -17,7 +17,7 @@ use Rattle.refcount_laws.proofs.Touching.{is_or_not}
 use Rattle.refcount_laws.proofs.Owning.{kept_set, owned_same, owned_plain, owned_one}
 use Rattle.refcount_laws.proofs.Dead.{same_is, differ_is}
 
-among_both : (v : ℕ) (xs ys : List ℕ) → among v (xs ++ ys) ≡ (among v xs || among v ys)
+pub among_both : (v : ℕ) (xs ys : List ℕ) → among v (xs ++ ys) ≡ (among v xs || among v ys)
 among_both v [] ys = refl
 among_both v (x ∷ xs) ys = ap (λ b. (x == v) || b) (among_both v xs ys) ∙ assoc (x == v) (among v xs) (among v ys)
   where
@@ -30,9 +30,10 @@ abbrev pub used_by : LlOp → List LlOp → LlExit → ℕ → Bool
 used_by o ops e w = live ops e w || among w (touched o)
 
 module _ (around : Around) (o : LlOp) (ops : List LlOp) (e : LlExit) where
-  -- an operation that sets nothing
-  pub effect_owned : (vars : List Value) (r : Value) → set_by o ≡ None → owned around (live (o ∷ ops) e) vars r ≡ owned around (used_by o ops e) vars r
-  effect_owned vars r none = owned_same around (live (o ∷ ops) e) (used_by o ops e) vars r same
+  pub effect_used : set_by o ≡ None → (w : ℕ) → live (o ∷ ops) e w ≡ used_by o ops e w
+  effect_used none w =
+      ap (λ s. among w (reads o) || (not (sets s w) && live ops e w)) none ∙ swap (among w (reads o)) (live ops e w)
+      ∙ ap (λ b. live ops e w || b) (sym (among_both w (reads o) (variable_set (set_by o)) ∙ ap (λ s. among w (reads o) || among w (variable_set s)) none))
     where
       swap : (a b : Bool) → (a || (not false && b)) ≡ (b || (a || false))
       swap true true = refl
@@ -40,13 +41,11 @@ module _ (around : Around) (o : LlOp) (ops : List LlOp) (e : LlExit) where
       swap false true = refl
       swap false false = refl
 
-      same : (w : ℕ) → live (o ∷ ops) e w ≡ used_by o ops e w
-      same w =
-          ap (λ s. among w (reads o) || (not (sets s w) && live ops e w)) none ∙ swap (among w (reads o)) (live ops e w)
-          ∙ ap (λ b. live ops e w || b) (sym (among_both w (reads o) (variable_set (set_by o)) ∙ ap (λ s. among w (reads o) || among w (variable_set s)) none))
-
+  -- an operation that sets nothing
+  pub effect_owned : (vars : List Value) (r : Value) → set_by o ≡ None → owned around (live (o ∷ ops) e) vars r ≡ owned around (used_by o ops e) vars r
+  effect_owned vars r none = owned_same around (live (o ∷ ops) e) (used_by o ops e) vars r (λ w. effect_used none w)
   module _ (a : ℕ) (is : set_by o ≡ Some a) where
-    others : (w : ℕ) → w ≢ a → used_by o ops e w ≡ live (o ∷ ops) e w
+    pub others : (w : ℕ) → w ≢ a → used_by o ops e w ≡ live (o ∷ ops) e w
     others w ne =
         ap (λ b. live ops e w || b) (among_both w (reads o) (variable_set (set_by o)) ∙ ap (λ s. among w (reads o) || among w (variable_set s)) is ∙ ap (λ b. among w (reads o) || (b || false)) (differ_is a w (λ q. ne (sym q))))
         ∙ swap (live ops e w) (among w (reads o)) ∙ sym (ap (λ s. among w (reads o) || (not (sets s w) && live ops e w)) is ∙ ap (λ b. among w (reads o) || (not b && live ops e w)) (differ_is a w (λ q. ne (sym q))))

@@ -29,10 +29,10 @@ module _ (p : LlProgram) (based : Based p.structs) where
   abbrev wide : List Shape
   wide = shapes_counted plan
 
-  plain_shape : (n : ℕ) (s : LlStruct) (o : Option ℕ) → slice_get p.structs n ≡ Some s → s.base ≡ o → shape_at plain n ≡ shape_over n (length s.fields) (base_of plain o)
+  pub plain_shape : (n : ℕ) (s : LlStruct) (o : Option ℕ) → slice_get p.structs n ≡ Some s → s.base ≡ o → shape_at plain n ≡ shape_over n (length s.fields) (base_of plain o)
   plain_shape n s o e b = shape_is p.structs based n s e ∙ ap (λ o. shape_over n (length s.fields) (base_of plain o)) b
 
-  wide_shape : (n : ℕ) (s : LlStruct) (o : Option ℕ) (y : Bool) → slice_get p.structs n ≡ Some s → s.base ≡ o → has_count plan n ≡ y → shape_at wide n ≡ shape_over n (length (struct_by y s).fields) (base_of wide o)
+  pub wide_shape : (n : ℕ) (s : LlStruct) (o : Option ℕ) (y : Bool) → slice_get p.structs n ≡ Some s → s.base ≡ o → has_count plan n ≡ y → shape_at wide n ≡ shape_over n (length (struct_by y s).fields) (base_of wide o)
   wide_shape n s o y e b h =
       shape_is (structs_of plan) (counted_based p based) n (struct_by (has_count plan n) s) (struct_there p based n s e)
       ∙ ap (λ o. shape_over n (length (struct_by (has_count plan n) s).fields) (base_of wide o)) (base_of_struct (has_count plan n) s ∙ b) ∙ ap (λ y. shape_over n (length (struct_by y s).fields) (base_of wide o)) h

@@ -63,14 +63,14 @@ module _ (q : LlProgram) (args : List (List ℕ)) (c : Counts) where
     statics = λ s. roomy_by g d.later own own' j k s (fixed_at g.statics s) (fixed_at d.later.statics s) (counted.statics s) (d.counted.statics s) (d.same_statics s) (d.inners (Static s)) (more (Static s)) (room.statics s);
   }
 
-room_for : (q : LlProgram) (c : Counts) (g : Ghost) (own : Value → ℕ) (k : ℕ) (v : Value) → IsCounted q c g own → Roomy g (suc k) → ((a : ℕ) → v ≡ Ptr a → 0 < own (Ptr a)) → HasRoom g v
+pub room_for : (q : LlProgram) (c : Counts) (g : Ghost) (own : Value → ℕ) (k : ℕ) (v : Value) → IsCounted q c g own → Roomy g (suc k) → ((a : ℕ) → v ≡ Ptr a → 0 < count g.blocks a) → HasRoom g v
 room_for q c g own k Unset counted room owned = tt
 room_for q c g own k (Word z) counted room owned = tt
 room_for q c g own k (Byte z) counted room owned = tt
 room_for q c g own k (Flag z) counted room owned = tt
 room_for q c g own k (Fun z) counted room owned = tt
 room_for q c g own k Null counted room owned = tt
-room_for q c g own k (Ptr a) counted room owned = (let lt : 0 < own (Ptr a) = owned a refl in omega (arith, counted.blocks a, lt), omega (arith, room.blocks a))
+room_for q c g own k (Ptr a) counted room owned = (owned a refl, omega (arith, room.blocks a))
 room_for q c g own k (Static s) counted room owned = λ n kind fields items e. (let lt : n + suc k < 2 ^ 63 = subst (λ d. HasRoomBy d (suc k)) e (room.statics s) in omega (arith, lt))
 
 module _ (q : LlProgram) (args : List (List ℕ)) (plan : Plan) (counting : Counting q (counts_of plan)) (types : List LlType) (core : Core) (f b : ℕ) (ex : LlExit) (frames : List Frame) (vars : List Value) where
@@ -107,9 +107,10 @@ module _ (q : LlProgram) (args : List (List ℕ)) (plan : Plan) (counting : Coun
   hits_most (Some n) v r = hit_most r v
 
   -- one operand
-  pub up_run : (g : Ghost) (h : List (Option Block)) (own : Value → ℕ) (x : COperand) (k at : ℕ) (rest : List LlOp) → Shown c h g.blocks → OperandLeads q around g own vars x → Roomy g (suc k) → IsCounted q c g own
+  pub up_run : (g : Ghost) (h : List (Option Block)) (own : Value → ℕ) (x : COperand) (k at : ℕ) (rest : List LlOp) → Shown c h g.blocks → ((n : ℕ) → operand_referred around x ≡ Some n → root_of plan n ≡ n) → ((n : ℕ) → operand_referred around x ≡ Some n → LeadsTo q g n (operand vars x))
+      → ((n a : ℕ) → operand_referred around x ≡ Some n → operand vars x ≡ Ptr a → 0 < count g.blocks a) → Roomy g (suc k) → IsCounted q c g own
       → DoneTo q args c g (λ r. operand_hits around vars x r + own r) (At (up around x rest) ex frames (here core f b at vars h (memory g))) rest ex frames core f b vars
-  up_run g h own x k at rest sh lead room counted = by (operand_referred around x) refl
+  up_run g h own x k at rest sh root lead alive room counted = by (operand_referred around x) refl
     where
       by : (o : Option ℕ) → operand_referred around x ≡ o → DoneTo q args c g (λ r. hits_by o (operand vars x) r + own r) (At (up_by around x o rest) ex frames (here core f b at vars h (memory g))) rest ex frames core f b vars
       by None e = record {
@@ -119,8 +120,11 @@ module _ (q : LlProgram) (args : List (List ℕ)) (plan : Plan) (counting : Coun
       }
       by (Some n) e = record {
         at = at + 1;
-        done = up_done q args c counting g h own n (operand vars x) core f b ex frames x at rest vars sh (operand_marked x n e, lead.root n e) (lead.leads n e) (room_for q c g own k (operand vars x) counted room (λ a is. lead.owned n a e is)) counted refl;
+        done = up_done q args c counting g h own n (operand vars x) core f b ex frames x at rest vars sh (operand_marked x n e, root n e) (lead n e) (room_for q c g own k (operand vars x) counted room (λ a is. alive n a e is)) counted refl;
       }
+
+  owned_alive : (g : Ghost) (own : Value → ℕ) (x : COperand) → OperandLeads q around g own vars x → IsCounted q c g own → (n a : ℕ) → operand_referred around x ≡ Some n → operand vars x ≡ Ptr a → 0 < count g.blocks a
+  owned_alive g own x lead counted n a e is = let lt : 0 < own (Ptr a) = lead.owned n a e is in omega (arith, counted.blocks a, lt)
 
   nothing_run : (g : Ghost) (h : List (Option Block)) (own : Value → ℕ) (at : ℕ) (rest : List LlOp) → Shown c h g.blocks → IsCounted q c g own → DoneTo q args c g (λ r. 0 + own r) (At rest ex frames (here core f b at vars h (memory g))) rest ex frames core f b vars
   nothing_run g h own at rest sh counted = record {
@@ -151,7 +155,7 @@ module _ (q : LlProgram) (args : List (List ℕ)) (plan : Plan) (counting : Coun
       let own1 : Value → ℕ = λ r. operand_hits around vars x r + own r in
       let start : State = At (ups around (x ∷ xs) rest) ex frames (here core f b at vars h (memory g)) in
       let d : DoneTo q args c g own1 start (ups around xs rest) ex frames core f b vars =
-      up_run g h own x (length xs + k) at (ups around xs rest) sh lead.0 (subst (Roomy g) (let z : length (x ∷ xs) + k ≡ suc (length xs + k) = omega arith in z) room) counted in
+      up_run g h own x (length xs + k) at (ups around xs rest) sh lead.0.root lead.0.leads (owned_alive g own x lead.0 counted) (subst (Roomy g) (let z : length (x ∷ xs) + k ≡ suc (length xs + k) = omega arith in z) room) counted in
       let room1 : Roomy d.done.later (length xs + k) =
       roomy_after q args c g own own1 1 (length xs + k) start (λ h s. At (ups around xs rest) ex frames (here core f b d.at vars h s)) counted d.done (λ r. omega (arith, hits_most (operand_referred around x) (operand vars x) r))
       (subst (Roomy g) (let z : length (x ∷ xs) + k ≡ 1 + (length xs + k) = omega arith in z) room) in
@@ -173,7 +177,7 @@ module _ (q : LlProgram) (args : List (List ℕ)) (plan : Plan) (counting : Coun
           let own1 : Value → ℕ = λ r. operand_hits around vars x r + own r in
           let start : State = At (up around x (given around xs rest)) ex frames (here core f b at vars h (memory g)) in
           let d : DoneTo q args c g own1 start (given around xs rest) ex frames core f b vars =
-          up_run g h own x (length xs + k) at (given around xs rest) sh lead.0 (subst (Roomy g) (let z : length (x ∷ xs) + k ≡ suc (length xs + k) = omega arith in z) room) counted in
+          up_run g h own x (length xs + k) at (given around xs rest) sh lead.0.root lead.0.leads (owned_alive g own x lead.0 counted) (subst (Roomy g) (let z : length (x ∷ xs) + k ≡ suc (length xs + k) = omega arith in z) room) counted in
           let room1 : Roomy d.done.later (length xs + k) =
           roomy_after q args c g own own1 1 (length xs + k) start (λ h s. At (given around xs rest) ex frames (here core f b d.at vars h s)) counted d.done (λ r. omega (arith, hits_most (operand_referred around x) (operand vars x) r))
           (subst (Roomy g) (let z : length (x ∷ xs) + k ≡ 1 + (length xs + k) = omega arith in z) room) in

@@ -122,7 +122,7 @@ module _ (p : LlProgram) (based : Based p.structs) where
   pub base_there : (n m : ℕ) (s : LlStruct) → slice_get p.structs n ≡ Some s → s.base ≡ Some m → HasBase structs counted_based n m
   base_there n m s e b = record { s = struct_by (has_count plan n) s; is = struct_there n s e; base = base_of_struct (has_count plan n) s ∙ b }
 
-  base_back : (n m : ℕ) → HasBase structs counted_based n m → HasBase p.structs based n m
+  pub base_back : (n m : ℕ) → HasBase structs counted_based n m → HasBase p.structs based n m
   base_back n m b = let w : Came p.structs n b.s = came_from plan p.structs 0 n b.s b.is in record { s = w.s; is = w.is; base = sym w.base ∙ b.base }
 
   counted_is : (n : ℕ) (s : LlStruct) → slice_get p.structs n ≡ Some s → is_counted plan n ≡ is_made p.structs p.graphs (root p.structs n)
@@ -133,11 +133,11 @@ module _ (p : LlProgram) (based : Based p.structs) where
   counted_base n m b s2 e = counted_is n b.s b.is ∙ ap (is_made p.structs p.graphs) (root_of_base p.structs based n m b) ∙ sym (counted_is m s2 e)
 
   -- what a struct begins with
-  record Rooted (k n : ℕ) : Type 0 where
-    counted : is_counted plan k ≡ true
-    root : root_of plan k ≡ n
+  pub record Rooted (k n : ℕ) : Type 0 where
+    pub counted : is_counted plan k ≡ true
+    pub root : root_of plan k ≡ n
 
-  rooted : (f k n : ℕ) → k < f → is_counted plan n ≡ true → root_of plan n ≡ n → begins_with (shapes_counted plan) k n ≡ true → Rooted k n
+  pub rooted : (f k n : ℕ) → k < f → is_counted plan n ≡ true → root_of plan n ≡ n → begins_with (shapes_counted plan) k n ≡ true → Rooted k n
   rooted zero k n lt c r h = absurd (omega (arith, lt))
   rooted (suc f) k n lt c r h = by (λ j l x. rooted f j n l c r x) (begins_by structs counted_based k n h)
     where
@@ -203,7 +203,7 @@ module _ (p : LlProgram) (based : Based p.structs) where
           ap (λ x. place x (field_number plan n k)) (shape_here s e (Some m) b) ∙ ap (λ j. (shape_at (shapes_counted plan) m).size + (j - 1)) number in
           omega (arith, is, low)
 
-  place_behind_two : (n k : ℕ) → is_counted plan n ≡ true → place (shape_at (shapes_counted plan) n) (field_number plan n k) ≡ suc (suc (place_in plan n (field_number plan n k)))
+  pub place_behind_two : (n k : ℕ) → is_counted plan n ≡ true → place (shape_at (shapes_counted plan) n) (field_number plan n k) ≡ suc (suc (place_in plan n (field_number plan n k)))
   place_behind_two n k c = let low : 2 ≤ place (shape_at (shapes_counted plan) n) (field_number plan n k) = place_low n k c in omega (arith, low)
 
   -- a root has its fields at their numbers
@@ -222,12 +222,12 @@ module _ (p : LlProgram) (based : Based p.structs) where
   -- ---- fields that are references
 
   module _ (leads : structs_lead plan p.structs ≡ true) where
-    leads_at : (ss : List LlStruct) (n : ℕ) (s : LlStruct) → structs_lead plan ss ≡ true → slice_get ss n ≡ Some s → (all_lead plan s.fields && is_root_given plan (reference_given plan.counted s.items)) ≡ true
+    pub leads_at : (ss : List LlStruct) (n : ℕ) (s : LlStruct) → structs_lead plan ss ≡ true → slice_get ss n ≡ Some s → (all_lead plan s.fields && is_root_given plan (reference_given plan.counted s.items)) ≡ true
     leads_at [] n s h e = absurd (cc)
     leads_at (t ∷ ss) zero s h e = let f : t ≡ s = cc in subst (λ t. (all_lead plan t.fields && is_root_given plan (reference_given plan.counted t.items)) ≡ true) f (and_left _ _ h)
     leads_at (t ∷ ss) (suc n) s h e = leads_at ss n s (and_right _ _ h) e
 
-    given_root : (o : Option ℕ) (m : ℕ) → o ≡ Some m → is_root_given plan o ≡ true → root_of plan m ≡ m
+    pub given_root : (o : Option ℕ) (m : ℕ) → o ≡ Some m → is_root_given plan o ≡ true → root_of plan m ≡ m
     given_root None m e h = absurd (cc)
     given_root (Some k) m e h = let f : k ≡ m = cc in subst (λ k. root_of plan k ≡ k) f (is_same (root_of plan k) k h)
 

@@ -63,6 +63,14 @@ module _ (q : LlProgram) (args : List (List ℕ)) where
         (let f : k + 1 ≡ suc k = omega arith in ap (λ j. run q args j s text events) f) ∙ one_more k s text events ∙ ap (follow (run q args k) text events) e ∙ ap (run q args k t text) (sym (none_behind events));
   }
 
+  pub on_count : {s t u : State} (x : Leads q args s t) (y : Leads q args t u) → (leads_on x y).count ≡ y.count + x.count
+  unfolding leads_on
+  on_count x y = refl
+
+  pub goes_count : (s t : State) (e : step q args s ≡ Goes t) → (goes s t e).count ≡ 1
+  unfolding goes
+  goes_count s t e = refl
+
   pub frees : (s t : State) (number : ℕ) → step q args s ≡ Tells (Freed number) t → Leads q args s t
   frees s t number e = record {
     count = 1;

@@ -29,7 +29,7 @@ use Rattle.refcount_laws.proofs.Leading.{lead_set, lead_kept, lead_by_kind, fiel
 use Rattle.refcount_laws.proofs.Moving.{own_same}
 use Rattle.refcount_laws.proofs.Doing.{done_before, done_on, down_done, up_done}
 
-apart_same : (h : Reference) (held : List Reference) (fields : List Value) (w : Value) → Apart h held → field_references held (slice_set fields h.at w) ≡ field_references held fields
+pub apart_same : (h : Reference) (held : List Reference) (fields : List Value) (w : Value) → Apart h held → field_references held (slice_set fields h.at w) ≡ field_references held fields
 apart_same h [] fields w a = refl
 apart_same h (k ∷ held) fields w a =
     ap (λ v. v ∷ field_references held (slice_set fields h.at w)) (set_other fields h.at k.at w Unset (λ e. a.0 (sym e))) ∙ ap (λ l. read fields k.at ∷ l) (apart_same h held fields w a.1)
@@ -45,7 +45,7 @@ once_counts h (k ∷ held) fields w r (inl (e, a)) lt =
 once_counts h (k ∷ held) fields w r (inr (ne, o)) lt = omega (arith, ap (hit r) (set_other fields h.at k.at w Unset (λ e. ne (sym e))), once_counts h held fields w r o lt)
 
 module _ (q : LlProgram) (g : Ghost) (h : Reference) (fields : List Value) (w : Value) (lead : LeadsTo q g h.to w) (lt : h.at < length fields) where
-  apart_lead : (held : List Reference) → Apart h held → FieldsLead q g held fields → FieldsLead q g held (slice_set fields h.at w)
+  pub apart_lead : (held : List Reference) → Apart h held → FieldsLead q g held fields → FieldsLead q g held (slice_set fields h.at w)
   apart_lead [] a f = tt
   apart_lead (k ∷ held) a f = (subst (LeadsTo q g k.to) (sym (set_other fields h.at k.at w Unset (λ e. a.0 (sym e)))) f.0, apart_lead held a.1 f.1)
 
@@ -91,7 +91,7 @@ module _ (q : LlProgram) (args : List (List ℕ)) (c : Counts) (g : Ghost) (own 
   pub kinds_then : (b : ℕ) → (bare_at then_.blocks b).kind ≡ (bare_at g.blocks b).kind
   kinds_then b = ⊎_elim (λ e. subst (λ b. (bare_at then_.blocks b).kind ≡ (bare_at g.blocks b).kind) e (ap (λ d. (bare d).kind) slot_then ∙ sym (ap (λ d. (bare d).kind) is))) (λ ne. ap (λ d. (bare d).kind) (slot_else b ne)) (is_or_not a b)
 
-  counts_then : (b : ℕ) → count then_.blocks b ≡ count g.blocks b
+  pub counts_then : (b : ℕ) → count then_.blocks b ≡ count g.blocks b
   counts_then b = ⊎_elim (λ e. subst (λ b. count then_.blocks b ≡ count g.blocks b) e (ap count_of slot_then ∙ sym (ap count_of is))) (λ ne. ap count_of (slot_else b ne)) (is_or_not a b)
 
   pub inner_then : (r : Value) → inner c then_.blocks r + occurs r (references c block1) ≡ inner c g.blocks r + occurs r (references c block2)

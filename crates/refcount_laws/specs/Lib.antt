@@ -1,7 +1,11 @@
 pub mod Ghost
 pub mod Graphs
 pub mod Made
+pub mod Before
+pub mod Calls
+pub mod Matches
 pub mod Owned
 pub mod Reach
 pub mod Runs
 pub mod Touched
+pub mod Leaves
