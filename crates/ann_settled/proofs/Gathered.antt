@@ -20,7 +20,7 @@ pub gathered : (p : Program) (gs : Graphs) (t : Tables) (q : Planned) (s : State
     → IsSettled p gs t end.annotation s
 gathered p gs t q s nodes end e closed complete free h =
     subst (λ n. IsSettled p gs t n s) (sym (ap (λ x. x.annotation) h))
-    (subst (λ r. IsSettled p gs t (annotation s nodes r.plan.places) s) (sym e)
+    (subst (λ r. IsSettled p gs t (annotation s r.plan.classes nodes r.plan.places) s) (sym e)
     (record {
       read = refl;
       complete = subst (λ r. is_complete r s ≡ true) e complete;

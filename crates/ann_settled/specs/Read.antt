@@ -1,5 +1,6 @@
 -- The annotation that stands in the cells and marks.
-use Rattle.std.specs.Prelude.{ℕ, suc, Bool, false, List, [], ◌∷◌, ◌++◌, map, slice_get, unwrap_or}
+use Rattle.std.specs.Prelude.{ℕ, suc, ◌==◌, if◌then◌else◌, Bool, false, List, [], ◌∷◌, ◌++◌, map, slice_get, unwrap_or, Option, Some, None}
+use Rattle.class_desc.specs.Tables.{Tables, home}
 use Rattle.ann_element.specs.declared.element.Element.{Element}
 use Rattle.ann_element.specs.declared.element.Element.TheVariants as element
 use Rattle.ann_element.specs.declared.annotation.Annotation.{Annotation}
@@ -11,6 +12,11 @@ element_at cells place = unwrap_or (slice_get cells place) element.Unreached
 
 abbrev pub mark_at : List Bool → ℕ → Bool
 mark_at marks place = unwrap_or (slice_get marks place) false
+
+-- the class is the attribute's home
+abbrev pub at_home : ℕ → Option ℕ → Bool
+at_home c None = false
+at_home c (Some h) = h == c
 
 module _ (s : State) where
   abbrev pub cell : ℕ → Element
@@ -25,24 +31,28 @@ module _ (s : State) where
   abbrev pub marks : List ℕ → List Bool
   marks row = map mark row
 
-  abbrev pub attributes_of : ℕ → List (List ℕ × ℕ) → List (ℕ × List ℕ × Element)
-  attributes_of c [] = []
-  attributes_of c (entry ∷ entries) = (c, entry.0, cell entry.1) ∷ attributes_of c entries
+  -- an attribute stands at its home
+  abbrev pub own : Tables → ℕ → List ℕ × ℕ → List (ℕ × List ℕ × Element)
+  own t c entry = if at_home c (home t c entry.0) then (c, entry.0, cell entry.1) ∷ [] else []
+
+  abbrev pub attributes_of : Tables → ℕ → List (List ℕ × ℕ) → List (ℕ × List ℕ × Element)
+  attributes_of t c [] = []
+  attributes_of t c (entry ∷ entries) = own t c entry ++ attributes_of t c entries
 
   -- the attributes of classes from c on
-  abbrev pub attributes : ℕ → List (List (List ℕ × ℕ)) → List (ℕ × List ℕ × Element)
-  attributes c [] = []
-  attributes c (row ∷ rows) = attributes_of c row ++ attributes (suc c) rows
+  abbrev pub attributes : Tables → ℕ → List (List (List ℕ × ℕ)) → List (ℕ × List ℕ × Element)
+  attributes t c [] = []
+  attributes t c (row ∷ rows) = attributes_of t c row ++ attributes t (suc c) rows
 
   -- with the elements that nodes have
-  abbrev pub annotation : List Element → Places → Annotation
-  annotation nodes p = record {
+  abbrev pub annotation : Tables → List Element → Places → Annotation
+  annotation t nodes p = record {
     nodes = nodes;
     unbound = marks p.unbound;
     params = map cells p.params;
     results = cells p.results;
     reached = marks p.reached;
-    attributes = attributes 0 p.attributes;
+    attributes = attributes t 0 p.attributes;
     items = cells p.items;
     keys = cells p.keys;
     made = marks p.made;

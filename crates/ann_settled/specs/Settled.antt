@@ -22,10 +22,10 @@ is_complete p s = (length s.cells == p.cells) && (length s.marks == p.marks)
 -- The annotation is what stands in these cells and marks, one for each part of the program; all that the rules of its graphs ask holds there; and no
 -- parameter, result, attribute, item, key or result of an operation is in conflict.
 pub record IsSettled (p : Program) (gs : Graphs) (t : Tables) (n : Annotation) (s : State) : Type 0 where
-  pub read : n ≡ annotation s n.nodes (plan p gs t).places
+  pub read : n ≡ annotation s t n.nodes (plan p gs t).places
   pub complete : is_complete (planned p gs t) s ≡ true
   pub closed : Closed t.classes (rules (whole (plan p gs t))) (assignment s)
   pub free : all_free (plan p gs t) (assignment s) ≡ true
 
 abbrev pub finished : Planned → State → List Element → Settled
-finished p s nodes = record { graphs = p.plan.graphs; classes = p.plan.classes; annotation = annotation s nodes p.plan.places }
+finished p s nodes = record { graphs = p.plan.graphs; classes = p.plan.classes; annotation = annotation s p.plan.classes nodes p.plan.places }

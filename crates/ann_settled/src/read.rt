@@ -1,9 +1,11 @@
 // The annotation that stands in the cells and marks.
 ghost use Rattle.std.specs.Prelude.{◌≡◌, ◌++◌, map, IfOk, OnOk};
+ghost use Rattle.class_desc.specs.Tables.{home};
 ghost use Rattle.ann_settled.specs.Read as spec;
 
 use ann_element::{Annotation, Element, copy_element};
 use ann_needs::{Places, State};
+use class_desc::Classes;
 use rpy_base::{NoMem, Seq, Text};
 use rpy_tree::ClassId;
 use std::alloc::Global;
@@ -66,18 +68,45 @@ fn read_mark_rows(alloc: Global, s: &State, rows: &[Seq<usize>]) -> Result<Seq<S
     Ok(lists)
 }
 
+fn is_home(classes: &Classes, class: ClassId, name: &Text) -> bool
+    ensures { result ≡ spec.at_home class (home classes.now class name.now) }
+{
+    match classes.home(class, name) {
+        None => false,
+        Some(home) => home == class,
+    }
+}
+
+// An attribute stands at its home.
+fn add_attribute(
+    alloc: Global,
+    s: &State,
+    classes: &Classes,
+    class: ClassId,
+    entry: &(Text, usize),
+    list: &mut Seq<(ClassId, Text, Element)>,
+) -> Result<(), NoMem>
+    ensures { OnOk result (list.new ≡ list.old ++ spec.own s.now classes.now class entry.now) }
+{
+    if !is_home(classes, class, &entry.0) {
+        return Ok(());
+    }
+    let e = cell_of(alloc, s.cells.as_slice(), entry.1)?;
+    list.push((class, entry.0.copy(alloc)?, e))
+}
+
 fn add_attributes(
     alloc: Global,
     s: &State,
+    classes: &Classes,
     class: ClassId,
     row: &[(Text, usize)],
     list: &mut Seq<(ClassId, Text, Element)>,
 ) -> Result<(), NoMem>
-    ensures { OnOk result (list.new ≡ list.old ++ spec.attributes_of s.now class row.now) }
+    ensures { OnOk result (list.new ≡ list.old ++ spec.attributes_of s.now classes.now class row.now) }
 {
     for entry in row {
-        let e = cell_of(alloc, s.cells.as_slice(), entry.1)?;
-        list.push((class, entry.0.copy(alloc)?, e))?;
+        add_attribute(alloc, s, classes, class, entry, list)?;
     }
     Ok(())
 }
@@ -95,13 +124,14 @@ fn narrow(class: usize) -> Result<ClassId, NoMem>
 fn read_attributes(
     alloc: Global,
     s: &State,
+    classes: &Classes,
     rows: &[Seq<(Text, usize)>],
 ) -> Result<Seq<(ClassId, Text, Element)>, NoMem>
-    ensures { IfOk result (λ list. list ≡ spec.attributes s.now 0 rows.now) }
+    ensures { IfOk result (λ list. list ≡ spec.attributes s.now classes.now 0 rows.now) }
 {
     let mut list = Seq::new(alloc);
     for (class, row) in rows.iter().enumerate() {
-        add_attributes(alloc, s, narrow(class)?, row.as_slice(), &mut list)?;
+        add_attributes(alloc, s, classes, narrow(class)?, row.as_slice(), &mut list)?;
     }
     Ok(list)
 }
@@ -110,16 +140,17 @@ fn read_attributes(
 pub fn read(
     alloc: Global,
     s: State,
+    classes: &Classes,
     places: &Places,
     nodes: Seq<Element>,
 ) -> Result<Annotation, NoMem>
-    ensures { IfOk result (λ annotation. annotation ≡ spec.annotation s nodes places.now) }
+    ensures { IfOk result (λ annotation. annotation ≡ spec.annotation s classes.now nodes places.now) }
 {
     let unbound = read_marks(alloc, &s, places.unbound.as_slice())?;
     let params = read_cell_rows(alloc, &s, places.params.as_slice())?;
     let results = read_cells(alloc, &s, places.results.as_slice())?;
     let reached = read_marks(alloc, &s, places.reached.as_slice())?;
-    let attributes = read_attributes(alloc, &s, places.attributes.as_slice())?;
+    let attributes = read_attributes(alloc, &s, classes, places.attributes.as_slice())?;
     let items = read_cells(alloc, &s, places.items.as_slice())?;
     let keys = read_cells(alloc, &s, places.keys.as_slice())?;
     let made = read_marks(alloc, &s, places.made.as_slice())?;

@@ -112,7 +112,7 @@ fn read_out(
 ) -> Result<Settled, NoMem>
     ensures { IfOk result (λ end. end ≡ spec.finished planned s nodes) }
 {
-    let annotation = read(alloc, s, &planned.plan.places, nodes)?;
+    let annotation = read(alloc, s, &planned.plan.classes, &planned.plan.places, nodes)?;
     let Planned {
         plan,
         cells: _,
