@@ -36,6 +36,8 @@ pub mod Making
 pub mod ItemWrites
 pub mod Invoking
 pub mod Operations
+pub mod Dispatching
+pub mod Invoked
 pub mod Leading
 pub mod Leaving
 pub mod Exits

@@ -2,6 +2,7 @@ pub mod Ghost
 pub mod Graphs
 pub mod Made
 pub mod Before
+pub mod Ready
 pub mod Calls
 pub mod Matches
 pub mod Owned
