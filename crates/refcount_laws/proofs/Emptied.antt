@@ -127,7 +127,9 @@ use Rattle.refcount_transform.specs.declared.slots.Slots.{Slots}
 use Rattle.refcount_transform.specs.Plan.{own_some, slots_of, counted_structs, behind}
 use Rattle.refcount_transform.specs.Made as made
 use Rattle.refcount_transform.specs.Made.{kind_read, value_read, slot_drop, slots_body, slots_graph, slots_made, made_from}
-use Rattle.refcount_transform.specs.Changes.{exc_clear, exc_clear_by}
+use Rattle.refcount_transform.specs.Changes.{exc_clear, exc_clear_by, emptied, emptied_by, up}
+use Rattle.refcount_laws.proofs.Given.{up_run, roomy_after, hit_most}
+use Rattle.refcount_laws.specs.Owned.{operand_hits, DoneTo}
 use Rattle.std.specs.Prelude.{is_some}
 use Rattle.refcount_laws.specs.Matches.{Comes}
 use Rattle.refcount_laws.proofs.Following.{near_kept, value_leads, comes_before, effect_end}
@@ -306,3 +308,150 @@ module _ (p : LlProgram) (ok : IsWellTyped p) (leads : leads_to_roots p ≡ true
           no_slots None None f r = omega arith
           no_slots None (Some n) f r = absurd (cc)
           no_slots (Some n) v f r = absurd (cc)
+
+  -- the slots take what two variables hold, and drop what they held
+  module _ (x y : ℕ) (is_kind : var_referred around x ≡ the_plan.slots.kind) (is_value : var_referred around y ≡ the_plan.slots.value) (kind_set : is_unset (read core.vars x) ≡ false) (value_set : is_unset (read core.vars y) ≡ false)
+      (lead_kind : SlotLeads p core the_plan.slots.kind core.exc_type) (lead_value : SlotLeads p core the_plan.slots.value core.exc_value) (d : Before p types with_slots (op.ExcSet x y) ops e core qcore g h) (room : Roomy g 2) where
+    abbrev set_p : Core
+    set_p = record core { at = core.at + 1; exc_type = read core.vars x; exc_value = read core.vars y }
+
+    abbrev set_q : Core
+    set_q = record qcore { exc_type = read core.vars x; exc_value = read core.vars y }
+
+    abbrev last_ops : List LlOp
+    last_ops = op.ExcSet x y ∷ dead around (touched (op.ExcSet x y)) ops e rest
+
+    abbrev uses : ℕ → Bool
+    uses = live (op.ExcSet x y ∷ ops) e
+
+    abbrev had : Value → ℕ
+    had = λ r. owned around uses core.vars r + with_slots r
+
+    abbrev had1 : Value → ℕ
+    had1 = λ r. operand_hits around core.vars (Var x) r + had r
+
+    abbrev had2 : Value → ℕ
+    had2 = λ r. operand_hits around core.vars (Var y) r + had1 r
+
+    x_used : uses x ≡ true
+    x_used = ap (λ z. (z || (among x (y ∷ []))) || (not (sets None x) && live ops e x)) (same_is x)
+
+    y_used : uses y ≡ true
+    y_used = ap (λ z. ((x == y) || (z || false)) || (not (sets None y) && live ops e y)) (same_is y) ∙ all (x == y) (not (sets None y) && live ops e y)
+      where
+        all : (a b : Bool) → ((a || (true || false)) || b) ≡ true
+        all true b = refl
+        all false b = refl
+
+    var_lead : (w n : ℕ) → uses w ≡ true → var_referred around w ≡ Some n → LeadsTo (counted p) g n (read core.vars w)
+    var_lead w n u f = value_leads p based counting_ args types d.roots core.blocks core.statics g d.stands.near n (read core.vars w) (given_marked the_plan.counted (slice_get types w) n f) (d.roots w n f) (d.pointing.at w n u f)
+
+    var_there : (w n m : ℕ) → uses w ≡ true → var_referred around w ≡ Some n → read core.vars w ≡ Ptr m → 0 < owned around uses core.vars (Ptr m)
+    var_there w n m u f is =
+        let lt : w < length core.vars = (let l : w < length types = inside types w n f in omega (arith, l, d.fits)) in owned_has around 0 uses core.vars w n m lt u f is
+      where
+        inside : (ts : List LlType) (v n : ℕ) → reference_given the_plan.counted (slice_get ts v) ≡ Some n → v < length ts
+        inside [] v n e = absurd (cc)
+        inside (t ∷ ts) zero n e = omega arith
+        inside (t ∷ ts) (suc v) n e = omega (arith, inside ts v n e)
+
+    abbrev start_set : State
+    start_set = At (up around (Var x) (up around (Var y) (emptied the_plan.slots last_ops))) ex frames (here qcore core.function b at core.vars h (memory g))
+
+    first_up : DoneTo (counted p) args (counts_of the_plan) g had1 start_set (up around (Var y) (emptied the_plan.slots last_ops)) ex frames qcore core.function b core.vars
+    first_up = up_run (counted p) args the_plan counting_ types qcore core.function b ex frames core.vars g h had (Var x) 1 at (up around (Var y) (emptied the_plan.slots last_ops)) d.stands.shown (λ n f. d.roots x n f) (λ n f. var_lead x n x_used f)
+        (λ n m f is. (let l : 0 < owned around uses core.vars (Ptr m) = var_there x n m x_used f is in omega (arith, l, d.counts.blocks m))) room d.counts
+
+    abbrev g1 : Ghost
+    g1 = first_up.done.later
+
+    room1 : Roomy g1 1
+    room1 = roomy_after (counted p) args (counts_of the_plan) g had had1 1 1 start_set (λ h s. At (up around (Var y) (emptied the_plan.slots last_ops)) ex frames (here qcore core.function b first_up.at core.vars h s)) d.counts first_up.done (λ r. one_most (var_referred around x) (read core.vars x) r (had r)) room
+      where
+        one_most : (o : Option ℕ) (v r : Value) (n : ℕ) → hits_by o v r + n ≤ n + 1
+        one_most None v r n = omega arith
+        one_most (Some k) v r n = omega (arith, hit_most r v)
+
+    second_up : DoneTo (counted p) args (counts_of the_plan) g1 had2 (At (up around (Var y) (emptied the_plan.slots last_ops)) ex frames (here qcore core.function b first_up.at core.vars first_up.done.blocks (memory g1))) (emptied the_plan.slots last_ops) ex frames qcore
+        core.function b core.vars
+    second_up = up_run (counted p) args the_plan counting_ types qcore core.function b ex frames core.vars g1 first_up.done.blocks had1 (Var y) 0 first_up.at (emptied the_plan.slots last_ops) first_up.done.shown (λ n f. d.roots y n f)
+        (λ n f. lead_kept (counted p) (counts_of the_plan) g g1 first_up.done.same first_up.done.same_statics n (read core.vars y) (var_lead y n y_used f))
+        (λ n m f is. (let l : 0 < owned around uses core.vars (Ptr m) = var_there y n m y_used f is in omega (arith, l, first_up.done.counted.blocks m))) room1 first_up.done.counted
+
+    abbrev g2 : Ghost
+    g2 = second_up.done.later
+
+    -- what is owned once the old exception is dropped
+    abbrev had3 : Value → ℕ
+    had3 = λ r. operand_hits around core.vars (Var y) r + (operand_hits around core.vars (Var x) r + (owned around uses core.vars r + own r))
+
+    counts2 : IsCounted (counted p) (counts_of the_plan) g2 (λ r. slot_hits the_plan qcore.exc_type qcore.exc_value r + had3 r)
+    counts2 = own_same (counted p) args (counts_of the_plan) g2 had2 (λ r. slot_hits the_plan qcore.exc_type qcore.exc_value r + had3 r)
+        (λ r. omega (arith, ap (λ v. hits_by the_plan.slots.kind v r) d.stands.exc_type, ap (λ v. hits_by the_plan.slots.value v r) d.stands.exc_value)) second_up.done.counted
+
+    slot_in : (o : Option ℕ) (v w : Value) → w ≡ v → SlotLeads p core o v → (n : ℕ) → o ≡ Some n → (is_counted the_plan n ≡ true) × (root_of the_plan n ≡ n) × LeadsTo (counted p) g2 n w
+    slot_in o v w same lead n f =
+        let l : (is_counted the_plan n ≡ true) × (root_of the_plan n ≡ n) × PointsTo p core.blocks core.statics n v = lead n f in
+        let at_g : LeadsTo (counted p) g n v = value_leads p based counting_ args types d.roots core.blocks core.statics g d.stands.near n v l.0 l.1 l.2 in
+        (l.0, l.1, subst (LeadsTo (counted p) g2 n) (sym same)
+        (lead_kept (counted p) (counts_of the_plan) g1 g2 second_up.done.same second_up.done.same_statics n v (lead_kept (counted p) (counts_of the_plan) g g1 first_up.done.same first_up.done.same_statics n v at_g)))
+
+    -- the slots may have been emptied by then
+    record Cleared : Type 0 where
+      left : Core
+      steps : left.steps ≡ core.steps
+      at_ : ℕ
+      done : Done (counted p) args (counts_of the_plan) g2 had3 (At (emptied the_plan.slots last_ops) ex frames (here qcore core.function b second_up.at core.vars second_up.done.blocks (memory g2))) (λ h s. At last_ops ex frames (here left core.function b at_ core.vars h s))
+
+    cleared : (z : Bool) → own_some the_plan.slots ≡ z → Cleared
+    cleared true some = record {
+      left = record qcore { exc_type = Null; exc_value = Null };
+      steps = d.stands.steps;
+      at_ = second_up.at + 1;
+      done =
+          subst (λ l. Done (counted p) args (counts_of the_plan) g2 had3 (At l ex frames (here qcore core.function b second_up.at core.vars second_up.done.blocks (memory g2))) (λ h s. At last_ops ex frames (here (record qcore { exc_type = Null; exc_value = Null }) core.function b (second_up.at + 1) core.vars h s)))
+          (sym (ap (λ z. emptied_by the_plan.slots z last_ops) some))
+          (clear_done p counting_ args qcore g2 second_up.done.blocks had3 second_up.done.shown counts2 (slot_in the_plan.slots.kind core.exc_type qcore.exc_type d.stands.exc_type lead_kind) (slot_in the_plan.slots.value core.exc_value qcore.exc_value d.stands.exc_value lead_value)
+          core.function b ex frames second_up.at last_ops core.vars some);
+    }
+    cleared false none = record {
+      left = qcore;
+      steps = d.stands.steps;
+      at_ = second_up.at;
+      done =
+          subst (λ l. Done (counted p) args (counts_of the_plan) g2 had3 (At l ex frames (here qcore core.function b second_up.at core.vars second_up.done.blocks (memory g2))) (λ h s. At last_ops ex frames (here qcore core.function b second_up.at core.vars h s)))
+          (sym (ap (λ z. emptied_by the_plan.slots z last_ops) none))
+          (done_nothing (counted p) args (counts_of the_plan) g2 second_up.done.blocks had3 (At last_ops ex frames (here qcore core.function b second_up.at core.vars second_up.done.blocks (memory g2))) (λ h s. At last_ops ex frames (here qcore core.function b second_up.at core.vars h s)) second_up.done.shown
+          (own_same (counted p) args (counts_of the_plan) g2 (λ r. slot_hits the_plan qcore.exc_type qcore.exc_value r + had3 r) had3 (λ r. no_slots the_plan.slots.kind the_plan.slots.value none r) counts2)
+          (stays (counted p) args (At last_ops ex frames (here qcore core.function b second_up.at core.vars second_up.done.blocks (memory g2)))));
+    }
+      where
+        no_slots : (k v : Option ℕ) → (is_some k || is_some v) ≡ false → (r : Value) → hits_by k qcore.exc_type r + hits_by v qcore.exc_value r + had3 r ≡ had3 r
+        no_slots None None f r = omega arith
+        no_slots None (Some n) f r = absurd (cc)
+        no_slots (Some n) v f r = absurd (cc)
+
+    pub exc_set_followed : Comes p args types (live ops e) (λ r. slot_hits the_plan (read core.vars x) (read core.vars y) r + own r) start_set rest ex frames b set_p
+    exc_set_followed =
+        let c : Cleared = cleared (own_some the_plan.slots) refl in
+        let g3 : Ghost = c.done.later in
+        let after : Value → ℕ = λ r. slot_hits the_plan (read core.vars x) (read core.vars y) r + own r in
+        let behind : List LlOp = dead around (touched (op.ExcSet x y)) ops e rest in
+        let final : Core = record c.left { exc_type = read core.vars x; exc_value = read core.vars y } in
+        comes_before p based counting_ args types d.roots after (op.ExcSet x y) ops rest e ex frames b (live ops e) start_set (At behind ex frames (here final core.function b (c.at_ + 1) core.vars c.done.blocks (memory g3))) set_p
+        (leads_on (counted p) args first_up.done.leads (leads_on (counted p) args second_up.done.leads (leads_on (counted p) args c.done.leads
+        (goes (counted p) args (At last_ops ex frames (here c.left core.function b c.at_ core.vars c.done.blocks (memory g3))) (At behind ex frames (here final core.function b (c.at_ + 1) core.vars c.done.blocks (memory g3)))
+        (ap (λ z. goes_on (At behind ex frames) (cond (z || is_unset (read core.vars y)) (Stuck IsUnset) (Onward (here final core.function b (c.at_ + 1) core.vars c.done.blocks (memory g3))))) kind_set
+        ∙ ap (λ z. goes_on (At behind ex frames) (cond z (Stuck IsUnset) (Onward (here final core.function b (c.at_ + 1) core.vars c.done.blocks (memory g3))))) value_set)))))
+        (effect_end p based counting_ args types d.roots after (op.ExcSet x y) ops rest e ex frames b set_p final g3 c.done.blocks (c.at_ + 1) refl d.fits
+        (record {
+          near = near_kept the_plan g2 g3 c.done.same c.done.same_statics core.blocks core.statics c.done.size c.done.size_statics
+              (near_kept the_plan g1 g2 second_up.done.same second_up.done.same_statics core.blocks core.statics second_up.done.size second_up.done.size_statics
+              (near_kept the_plan g g1 first_up.done.same first_up.done.same_statics core.blocks core.statics first_up.done.size first_up.done.size_statics d.stands.near));
+          shown = c.done.shown;
+          steps = c.steps;
+          exc_type = refl;
+          exc_value = refl;
+        })
+        (record { at = d.pointing.at; refers = d.pointing.refers })
+        (own_same (counted p) args (counts_of the_plan) g3 had3 (λ r. owned around uses core.vars r + after r) (λ r. omega (arith, ap (λ o. hits_by o (read core.vars x) r) is_kind, ap (λ o. hits_by o (read core.vars y) r) is_value)) c.done.counted))
