@@ -455,3 +455,17 @@ module _ (p : LlProgram) (ok : IsWellTyped p) (leads : leads_to_roots p ≡ true
         })
         (record { at = d.pointing.at; refers = d.pointing.refers })
         (own_same (counted p) args (counts_of the_plan) g3 had3 (λ r. owned around uses core.vars r + after r) (λ r. omega (arith, ap (λ o. hits_by o (read core.vars x) r) is_kind, ap (λ o. hits_by o (read core.vars y) r) is_value)) c.done.counted))
+
+  pub exc_set_one : (x y : ℕ) → var_referred around x ≡ the_plan.slots.kind → var_referred around y ≡ the_plan.slots.value → SlotLeads p core the_plan.slots.kind core.exc_type → SlotLeads p core the_plan.slots.value core.exc_value → Roomy g 2
+      → Before p types with_slots (op.ExcSet x y) ops e core qcore g h → told.IsFollowed p args types (λ r. slot_hits the_plan (read core.vars x) (read core.vars y) r + own r) (op.ExcSet x y) ops rest e ex frames b at core qcore g h
+  exc_set_one x y is_kind is_value lead_kind lead_value room d = by (is_unset (read core.vars x)) refl (is_unset (read core.vars y)) refl
+    where
+      by : (u : Bool) → is_unset (read core.vars x) ≡ u → (w : Bool) → is_unset (read core.vars y) ≡ w
+          → Follows p args types (live ops e) (λ r. slot_hits the_plan (read core.vars x) (read core.vars y) r + own r) (At (changed around (op.ExcSet x y) (dead around (touched (op.ExcSet x y)) ops e rest)) ex frames (here qcore core.function b at core.vars h (memory g))) rest ex frames b
+          (cond (u || w) (Stuck IsUnset) (Onward (record core { at = core.at + 1; exc_type = read core.vars x; exc_value = read core.vars y })))
+      by true u w v = tt
+      by false u true v = tt
+      by false u false v = exc_set_followed x y is_kind is_value u v lead_kind lead_value d room
+
+  pub exc_clear_one : SlotLeads p core the_plan.slots.kind core.exc_type → SlotLeads p core the_plan.slots.value core.exc_value → Before p types with_slots op.ExcClear ops e core qcore g h → told.IsFollowed p args types own op.ExcClear ops rest e ex frames b at core qcore g h
+  exc_clear_one lead_kind lead_value d = exc_clear_followed lead_kind lead_value d
