@@ -31,7 +31,7 @@ use Rattle.refcount_laws.proofs.Doing.{done_on, done_nothing, up_done}
 use Rattle.refcount_laws.proofs.Places.{given_marked, reference_marked}
 
 -- one count rises by one at most, where nothing else is owned
-hit_most : (r v : Value) → hit r v ≤ 1
+pub hit_most : (r v : Value) → hit r v ≤ 1
 hit_most (Ptr a) (Ptr b) = most b a
   where
     most : (m n : ℕ) → one m n ≤ 1

@@ -37,6 +37,7 @@ pub mod ItemWrites
 pub mod Invoking
 pub mod Operations
 pub mod Dispatching
+pub mod Emptied
 pub mod Invoked
 pub mod Leading
 pub mod Leaving

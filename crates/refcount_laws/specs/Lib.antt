@@ -4,6 +4,7 @@ pub mod Made
 pub mod Before
 pub mod Ready
 pub mod Calls
+pub mod Slots
 pub mod Matches
 pub mod Owned
 pub mod Reach

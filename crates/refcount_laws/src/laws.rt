@@ -25,6 +25,7 @@ ghost use Rattle.refcount_laws.specs.Before.{Before, IsFollowed, NoBlocksIn};
 ghost use Rattle.refcount_laws.specs.Ready.{Ready};
 ghost use Rattle.refcount_laws.specs.Calls.{OperandsPoint, CallFollows};
 ghost use Rattle.refcount_laws.specs.Owned.{Roomy};
+ghost use Rattle.refcount_laws.specs.Slots.{slot_hits, SlotLeads};
 ghost use Rattle.refcount_laws.specs.Touched.{Shown, Done};
 
 /// The counted program of a well-typed one, whose references lead to root structs, has for each struct
@@ -71,4 +72,11 @@ pub fn operations_are_followed()
 pub fn calls_are_followed()
     ensures graph { (p : LlProgram) → IsWellTyped p → leads_to_roots p ≡ true → (args : List (List ℕ)) (types : List LlType) (own : Value → ℕ) (ops rest : List LlOp) (e ex : LlExit) (frames waits : List Frame) (b at : ℕ) (core qcore : Core) (g : Ghost) (h : List (Option Block)) (into : Option ℕ) (f : ℕ) (xs : List COperand) → OperandsPoint p types core xs → Roomy g (length xs) → Before p types own (op.Call into f xs) ops e core qcore g h → CallFollows p args types own (op.Call into f xs) f xs into ops rest e ex frames waits b at core qcore g h }
     ensures value { (p : LlProgram) → IsWellTyped p → leads_to_roots p ≡ true → (args : List (List ℕ)) (types : List LlType) (own : Value → ℕ) (ops rest : List LlOp) (e ex : LlExit) (frames waits : List Frame) (b at : ℕ) (core qcore : Core) (g : Ghost) (h : List (Option Block)) (into : Option ℕ) (result : LlType) (params : List LlType) (v f : ℕ) (xs : List COperand) → OperandsPoint p types core xs → Roomy g (length xs) → fun_of (read core.vars v) ≡ Some f → Before p types own (op.CallFn into result params v xs) ops e core qcore g h → CallFollows p args types own (op.CallFn into result params v xs) f xs into ops rest e ex frames waits b at core qcore g h }
+{}
+
+/// The operations that set and clear the exception slots are followed: what the slots held is dropped,
+/// and what they hold then is owned.
+pub fn slots_are_followed()
+    ensures clear { (p : LlProgram) → IsWellTyped p → leads_to_roots p ≡ true → (args : List (List ℕ)) (types : List LlType) (own : Value → ℕ) (ops rest : List LlOp) (e ex : LlExit) (frames : List Frame) (b at : ℕ) (core qcore : Core) (g : Ghost) (h : List (Option Block)) → SlotLeads p core (plan_of p).slots.kind core.exc_type → SlotLeads p core (plan_of p).slots.value core.exc_value → Before p types (λ r. slot_hits (plan_of p) core.exc_type core.exc_value r + own r) op.ExcClear ops e core qcore g h → IsFollowed p args types own op.ExcClear ops rest e ex frames b at core qcore g h }
+    ensures set { (p : LlProgram) → IsWellTyped p → leads_to_roots p ≡ true → (args : List (List ℕ)) (types : List LlType) (own : Value → ℕ) (ops rest : List LlOp) (e ex : LlExit) (frames : List Frame) (b at : ℕ) (core qcore : Core) (g : Ghost) (h : List (Option Block)) (x y : ℕ) → var_referred (around_of (plan_of p) types) x ≡ (plan_of p).slots.kind → var_referred (around_of (plan_of p) types) y ≡ (plan_of p).slots.value → SlotLeads p core (plan_of p).slots.kind core.exc_type → SlotLeads p core (plan_of p).slots.value core.exc_value → Roomy g 2 → Before p types (λ r. slot_hits (plan_of p) core.exc_type core.exc_value r + own r) (op.ExcSet x y) ops e core qcore g h → IsFollowed p args types (λ r. slot_hits (plan_of p) (read core.vars x) (read core.vars y) r + own r) (op.ExcSet x y) ops rest e ex frames b at core qcore g h }
 {}
