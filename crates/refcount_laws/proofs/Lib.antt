@@ -46,3 +46,5 @@ pub mod Blocks
 pub mod Departing
 pub mod Calls
 pub mod Calling
+pub mod Keeping
+pub mod Stepping
