@@ -342,3 +342,63 @@ module _ (p : LlProgram) (ok : IsWellTyped p) (leads : leads_to_roots p ≡ true
       (leaves p e frames core) (leaves_keeps p frames core e ready.explicit)
       (exit_leaves p based counting args both.graph ready.roots closed ready.inputs (beside p calls frames core) frames others core both.qcore ready.fits both.there ready.links g h core.block both.at both.next both.stands
       (and_left _ _ (and_left _ _ (and_left _ _ ok))) ready.apart ready.lead ready.room ready.one e ready.explicit ready.ok ready.pointing ready.returns both.counts both.ways))
+
+  -- ---- an operation, by what it is
+
+  graph_good : (graphs : List LlGraph) (f : ℕ) (graph : LlGraph) → Rattle.ll_code.specs.Typed.graphs_ok p graphs ≡ true → slice_get graphs f ≡ Some graph → Rattle.ll_code.specs.Typed.graph_ok p graph ≡ true
+  graph_good [] f graph good e = absurd (cc)
+  graph_good (x ∷ graphs) zero graph good e = let same : x ≡ graph = cc in subst (λ x. Rattle.ll_code.specs.Typed.graph_ok p x ≡ true) same (and_left _ _ good)
+  graph_good (x ∷ graphs) (suc f) graph good e = graph_good graphs f graph (and_right _ _ good) e
+
+  params_named : (f : ℕ) (graph : LlGraph) → slice_get p.graphs f ≡ Some graph → params_ok p graph.types 0 graph.params ≡ true
+  params_named f graph e = and_right _ _ (and_left _ _ (and_left _ _ (graph_good p.graphs f graph (and_right _ _ (and_left _ _ ok)) e)))
+
+  module _ (calls : List Call) (others frames : List Frame) (ops : List LlOp) (e : LlExit) (core : Core) (s : State) (g : Ghost) (h : List (Option Block)) where
+    abbrev Stepped : LlOp → Type 0
+    Stepped o = (both : BothAt p calls others (o ∷ ops) e frames core s g h) → ReadyAt p both.graph (beside p calls frames core) o ops e core g → NextStands p args s (operates p args o ops e frames core)
+
+    enough : (n : ℕ) → Roomy g n → Roomy g (n + 0)
+    enough n room = subst (Roomy g) (let z : n ≡ n + 0 = omega arith in z) room
+
+    operating : (o : LlOp) → Stepped o
+    operating (op.Set a x) both ready = in_block calls others frames ops e core g h (op.Set a x) s both ready refl ready.ready refl
+    operating (op.Unary a y x) both ready = in_block calls others frames ops e core g h (op.Unary a y x) s both ready refl ready.ready refl
+    operating (op.Binary a y x z) both ready = in_block calls others frames ops e core g h (op.Binary a y x z) s both ready refl ready.ready refl
+    operating (op.GetField a n v i) both ready = in_block calls others frames ops e core g h (op.GetField a n v i) s both ready refl ready.ready refl
+    operating (op.SetField n v i x) both ready = in_block calls others frames ops e core g h (op.SetField n v i x) s both ready refl ready.ready refl
+    operating (op.GetItem a n v x) both ready = in_block calls others frames ops e core g h (op.GetItem a n v x) s both ready refl ready.ready refl
+    operating (op.SetItem n v y x) both ready = in_block calls others frames ops e core g h (op.SetItem n v y x) s both ready refl ready.ready refl
+    operating (op.New a m n) both ready = in_block calls others frames ops e core g h (op.New a m n) s both ready refl ready.ready refl
+    operating (op.NewArray a m n x) both ready = in_block calls others frames ops e core g h (op.NewArray a m n x) s both ready refl ready.ready refl
+    operating (op.Step x) both ready = in_block calls others frames ops e core g h (op.Step x) s both ready refl ready.ready refl
+    operating (op.ExcType a n) both ready = in_block calls others frames ops e core g h (op.ExcType a n) s both ready refl ready.ready refl
+    operating (op.ExcValue a n) both ready = in_block calls others frames ops e core g h (op.ExcValue a n) s both ready refl ready.ready refl
+    operating (op.Argc a) both ready = in_block calls others frames ops e core g h (op.Argc a) s both ready refl ready.ready refl
+    operating (op.ArgLen a x) both ready = in_block calls others frames ops e core g h (op.ArgLen a x) s both ready refl ready.ready refl
+    operating (op.Arg a x y) both ready = in_block calls others frames ops e core g h (op.Arg a x y) s both ready refl ready.ready refl
+    operating (op.Put x) both ready = in_block calls others frames ops e core g h (op.Put x) s both ready refl ready.ready refl
+    operating (op.Call into f xs) both ready =
+        subst (λ s. NextStands p args s (operates p args (op.Call into f xs) ops e frames core)) (sym both.is)
+        (in_call calls others frames ops e core g h (op.Call into f xs) s both ready into refl (operates p args (op.Call into f xs) ops e frames core)
+        (call_followed p based counting args both.graph.types ready.roots (beside p calls frames core) ops (ops_of (around_of (plan_of p) both.graph.types) ops e) e (exit_of (around_of (plan_of p) both.graph.types) both.next e) frames others core.block core both.qcore g h both.at ready.fits both.stands into f xs ready.ok
+        (params_named f) ready.pointing ready.ready.0 (enough (length xs) ready.ready.1) both.counts))
+    operating (op.CallFn into result params v xs) both ready =
+        subst (λ s. NextStands p args s (operates p args (op.CallFn into result params v xs) ops e frames core)) (sym both.is)
+        (in_call calls others frames ops e core g h (op.CallFn into result params v xs) s both ready into refl (operates p args (op.CallFn into result params v xs) ops e frames core)
+        (call_fn_followed p based counting args both.graph.types ready.roots (beside p calls frames core) ops (ops_of (around_of (plan_of p) both.graph.types) ops e) e (exit_of (around_of (plan_of p) both.graph.types) both.next e) frames others core.block core both.qcore g h both.at ready.fits both.stands into result params v xs ready.ok
+        params_named ready.pointing ready.ready.0 (enough (length xs) ready.ready.1) both.counts))
+    operating (op.ExcSet a b) both ready = absurd ready.ready
+    operating op.ExcClear both ready = absurd ready.ready
+    operating (op.Free a) both ready = absurd ready.ready
+    operating (op.Raise a) both ready = absurd ready.ready
+
+  -- one step, wherever it is taken
+  pub step_stands : (calls : List Call) (others : List Frame) (s t : State) (g : Ghost) (h : List (Option Block)) → StandsFor p calls others s t g h → ReadyFor p calls s g → NextStands p args t (step p args s)
+  step_stands calls others (At [] e frames core) t g h both ready = leaving calls others frames e core t g h both (ready both.graph both.there)
+  step_stands calls others (At (o ∷ ops) e frames core) t g h both ready = operating calls others frames ops e core t g h o both (ready both.graph both.there)
+  step_stands calls others (Calling f values frames core) t g h both ready = entering calls others frames f values core t g h both (ready both.graph both.there)
+  step_stands calls others (Returning value [] core) t g h both ready = ending calls others value core t g h both
+  step_stands (call ∷ calls) (other ∷ others) (Returning value (frame ∷ frames) core) t g h both ready = returning call calls others frames frame other value core t g h both (ready both.graph both.there)
+  step_stands [] others (Returning value (frame ∷ frames) core) t g h both ready = absurd both.waits
+  step_stands (call ∷ calls) [] (Returning value (frame ∷ frames) core) t g h both ready = absurd both.waits
+  step_stands calls others (Throwing value frames core) t g h both ready = absurd both
