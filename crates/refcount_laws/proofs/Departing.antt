@@ -123,7 +123,7 @@ module _ (p : LlProgram) (types : List LlType) where
   around_ = around_of (plan_of p) types
 
   -- an operand that a type takes refers to what the type does, or is NULL
-  result_taken : (t : LlType) (x : COperand) (vars : List Value) (r : Value) → takes p types t x ≡ true → hits_by (operand_referred around_ x) (operand vars x) r ≡ hits_by (reference_given marks (Some t)) (operand vars x) r
+  pub result_taken : (t : LlType) (x : COperand) (vars : List Value) (r : Value) → takes p types t x ≡ true → hits_by (operand_referred around_ x) (operand vars x) r ≡ hits_by (reference_given marks (Some t)) (operand vars x) r
   result_taken t (Var w) vars r ok = ap (λ k. hits_by k (read vars w) r) (ap (reference_given marks) (has_type_is t (slice_get types w) ok))
   result_taken type.Signed (Const (const.Word z)) vars r ok = refl
   result_taken type.Char (Const (const.Char z)) vars r ok = refl

@@ -45,3 +45,6 @@ pub mod Exits
 pub mod Blocks
 pub mod Departing
 pub mod Calls
+pub mod Calling
+pub mod Keeping
+pub mod Stepping

@@ -11,3 +11,4 @@ pub mod Reach
 pub mod Runs
 pub mod Touched
 pub mod Leaves
+pub mod Whole
