@@ -232,7 +232,15 @@ module _ (p : LlProgram) where
         (λ n e. ((lead_value n e).0, (lead_value n e).1, lead_kept q c g d1.later d1.same d1.same_statics n core.exc_value (lead_value n e).2, second_is kind value core.exc_type core.exc_value n e)) d1.counted in
         let all : Done q args c g own emptied last = done_on q args c g own1 own emptied mid last d1 d2 in
         record {
-          later = all.later; blocks = all.blocks; same = all.same; same_statics = all.same_statics; size = all.size; size_statics = all.size_statics; inners = all.inners; counted = all.counted; shown = all.shown;
+          later = all.later;
+          blocks = all.blocks;
+          same = all.same;
+          same_statics = all.same_statics;
+          size = all.size;
+          size_statics = all.size_statics;
+          inners = all.inners;
+          counted = all.counted;
+          shown = all.shown;
           leads = leads_on q args to (leads_on q args all.leads (return_step q args emptied_core f b ex frames clear 0 at (later_at value (later_at kind (at2 + 1))) ops vars both all.blocks (memory all.later)));
         }
       where
@@ -392,9 +400,12 @@ module _ (p : LlProgram) (ok : IsWellTyped p) (leads : leads_to_roots p ≡ true
     slot_in : (o : Option ℕ) (v w : Value) → w ≡ v → SlotLeads p core o v → (n : ℕ) → o ≡ Some n → (is_counted the_plan n ≡ true) × (root_of the_plan n ≡ n) × LeadsTo (counted p) g2 n w
     slot_in o v w same lead n f =
         let l : (is_counted the_plan n ≡ true) × (root_of the_plan n ≡ n) × PointsTo p core.blocks core.statics n v = lead n f in
-        let at_g : LeadsTo (counted p) g n v = value_leads p based counting_ args types d.roots core.blocks core.statics g d.stands.near n v l.0 l.1 l.2 in
-        (l.0, l.1, subst (LeadsTo (counted p) g2 n) (sym same)
-        (lead_kept (counted p) (counts_of the_plan) g1 g2 second_up.done.same second_up.done.same_statics n v (lead_kept (counted p) (counts_of the_plan) g g1 first_up.done.same first_up.done.same_statics n v at_g)))
+        let at_g : LeadsTo (counted p) g n v = value_leads p based counting_ args types d.roots core.blocks core.statics g d.stands.near n v l.0 l.1 l.2 in (
+          l.0,
+          l.1,
+          subst (LeadsTo (counted p) g2 n) (sym same)
+              (lead_kept (counted p) (counts_of the_plan) g1 g2 second_up.done.same second_up.done.same_statics n v (lead_kept (counted p) (counts_of the_plan) g g1 first_up.done.same first_up.done.same_statics n v at_g)),
+        )
 
     -- the slots may have been emptied by then
     record Cleared : Type 0 where

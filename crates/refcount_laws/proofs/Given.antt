@@ -142,7 +142,15 @@ module _ (q : LlProgram) (args : List (List ℕ)) (plan : Plan) (counting : Coun
       record {
         at = m.at;
         done = record {
-          later = x.later; blocks = x.blocks; same = x.same; same_statics = x.same_statics; size = x.size; size_statics = x.size_statics; inners = x.inners; shown = x.shown; leads = x.leads;
+          later = x.later;
+          blocks = x.blocks;
+          same = x.same;
+          same_statics = x.same_statics;
+          size = x.size;
+          size_statics = x.size_statics;
+          inners = x.inners;
+          shown = x.shown;
+          leads = x.leads;
           counted = own_same q args c x.later own2 own3 e x.counted;
         };
       }

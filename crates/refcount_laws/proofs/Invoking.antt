@@ -146,12 +146,14 @@ module _ (p : LlProgram) (based : Based p.structs) (counting : Counting (counted
 
   operands_lead : (uses : ℕ → Bool) (xs : List COperand) → ((w : ℕ) → among w (variables_in xs) ≡ true → uses w ≡ true) → OperandsPoint p types core xs → OperandsLead q around g (λ r. owned around uses core.vars r + own r) core.vars xs
   operands_lead uses [] u points = tt
-  operands_lead uses (x ∷ xs) u points =
-      (record {
-        root = λ n f. (points.0 n f).0;
-        leads = λ n f. value_leads p based counting args types roots core.blocks core.statics g stands.near n (operand core.vars x) (operand_marked x n f) (points.0 n f).0 (points.0 n f).1;
-        owned = λ n a f is. operand_owned uses x (λ w m. u w (first_in w (variables_of x) (variables_in xs) m)) n a f is;
-      }, operands_lead uses xs (λ w m. u w (second_in w (variables_of x) (variables_in xs) m)) points.1)
+  operands_lead uses (x ∷ xs) u points = (
+    record {
+      root = λ n f. (points.0 n f).0;
+      leads = λ n f. value_leads p based counting args types roots core.blocks core.statics g stands.near n (operand core.vars x) (operand_marked x n f) (points.0 n f).0 (points.0 n f).1;
+      owned = λ n a f is. operand_owned uses x (λ w m. u w (first_in w (variables_of x) (variables_in xs) m)) n a f is;
+    },
+    operands_lead uses xs (λ w m. u w (second_in w (variables_of x) (variables_in xs) m)) points.1,
+  )
 
   -- up to the call itself
   module _ (o : LlOp) (xs : List COperand) (reads_xs : (w : ℕ) → among w (variables_in xs) ≡ true → live (o ∷ ops) e w ≡ true) (points : OperandsPoint p types core xs) (room : Roomy g (length xs + k))
@@ -224,12 +226,12 @@ module _ (p : LlProgram) (based : Based p.structs) (counting : Counting (counted
         signed graph there set true y =
             comes_calling (op.CallFn into result params v xs) xs (λ w m. reads_later (op.CallFn into result params v xs) w (second_in w (v ∷ []) (variables_in xs) m)) points room counts f into
             (λ at h s.
-                let waiter : Frame = waiting (here qcore core.function b at core.vars h s) into rest_fn ex in
-                let qc : Core = here qcore core.function b at core.vars h s in
-                ap (λ y. cond y (Sticks IsUnset) (called_value q (c_result result) (map c_type params) (fun_of (read core.vars v)) (operands core.vars xs) (waiter ∷ frames) qc)) set
-                ∙ ap (λ o. called_value q (c_result result) (map c_type params) o (operands core.vars xs) (waiter ∷ frames) qc) is_f
-                ∙ ap (called_as (c_result result) (map c_type params) f (operands core.vars xs) (waiter ∷ frames) qc) (graph_there p f graph there)
-                ∙ ap (λ y. cond y (Goes (Calling f (operands core.vars xs) (waiter ∷ frames) qc)) (Sticks Signature)) y)
+            let waiter : Frame = waiting (here qcore core.function b at core.vars h s) into rest_fn ex in
+            let qc : Core = here qcore core.function b at core.vars h s in
+            ap (λ y. cond y (Sticks IsUnset) (called_value q (c_result result) (map c_type params) (fun_of (read core.vars v)) (operands core.vars xs) (waiter ∷ frames) qc)) set
+            ∙ ap (λ o. called_value q (c_result result) (map c_type params) o (operands core.vars xs) (waiter ∷ frames) qc) is_f
+            ∙ ap (called_as (c_result result) (map c_type params) f (operands core.vars xs) (waiter ∷ frames) qc) (graph_there p f graph there)
+            ∙ ap (λ y. cond y (Goes (Calling f (operands core.vars xs) (waiter ∷ frames) qc)) (Sticks Signature)) y)
 
         graphs : (set : (is_unset (read core.vars v) || any_unset (operands core.vars xs)) ≡ false) → (o : Option LlGraph) → slice_get p.graphs f ≡ o
             → CallLeads p args types (live (op.CallFn into result params v xs ∷ ops) e) own start_fn f xs into rest_fn ex frames b core (called_as (c_result result) (map c_type params) f (operands core.vars xs) (waiting core into ops e ∷ waits) core o)

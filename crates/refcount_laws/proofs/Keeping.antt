@@ -130,4 +130,3 @@ module _ (core : Core) where
     does_moves (op.Call into f xs) plain = tt
     does_moves (op.CallFn into result params b xs) plain = tt
     does_moves (op.Raise a) plain = tt
-

@@ -38,6 +38,7 @@ pub mod Invoking
 pub mod Operations
 pub mod Dispatching
 pub mod Emptied
+pub mod Clearing
 pub mod Invoked
 pub mod Leading
 pub mod Leaving

@@ -5,6 +5,5 @@ mod laws;
 
 pub use laws::{
     calls_are_followed, counted_programs_have_their_graphs, dropped_references_release,
-    operations_are_followed, references_are_counted, references_are_written,
-    slots_are_followed,
+    operations_are_followed, references_are_counted, references_are_written, slots_are_followed,
 };
