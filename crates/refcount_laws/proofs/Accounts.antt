@@ -44,6 +44,7 @@ module _ (around : Around) (o : LlOp) (ops : List LlOp) (e : LlExit) where
   -- an operation that sets nothing
   pub effect_owned : (vars : List Value) (r : Value) → set_by o ≡ None → owned around (live (o ∷ ops) e) vars r ≡ owned around (used_by o ops e) vars r
   effect_owned vars r none = owned_same around (live (o ∷ ops) e) (used_by o ops e) vars r (λ w. effect_used none w)
+
   module _ (a : ℕ) (is : set_by o ≡ Some a) where
     pub others : (w : ℕ) → w ≢ a → used_by o ops e w ≡ live (o ∷ ops) e w
     others w ne =

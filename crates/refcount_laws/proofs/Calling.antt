@@ -78,7 +78,7 @@ use Rattle.ll_code.specs.declared.program.LlOp.TheVariants as op
 use Rattle.ll_code.specs.declared.program.LlType.TheVariants as type
 use Rattle.refcount_transform.specs.Plan.{reference_to}
 use Rattle.refcount_transform.specs.Changes.{changed, ups}
-use Rattle.refcount_laws.specs.Leaves.{AllPoint, ComesCalling, EntersBy}
+use Rattle.refcount_laws.specs.Leaves.{AllPoint, ComesToCall, EntersBy}
 use Rattle.refcount_laws.proofs.Given.{ups_run}
 use Rattle.refcount_laws.proofs.Blocks.{graph_placed}
 use Rattle.csub_tree.specs.declared.stuck.StuckReason.TheVariants.{Signature}
@@ -205,7 +205,7 @@ module _ (p : LlProgram) (based : Based p.structs) (counting : Counting (counted
       → ((at : ℕ) (h : List (Option Block)) (s : List Block) → step q args (At (o ∷ dead around (touched o) ops e rest) ex frames (here qcore core.function b at core.vars h s))
           ≡ Goes (Calling f (operands core.vars xs) (waiting (here qcore core.function b at core.vars h s) into (dead around (touched o) ops e rest) ex ∷ frames) (here qcore core.function b at core.vars h s)))
       → Pointing p types core.blocks core.statics (live (o ∷ ops) e) core.vars → AllPoint p types core xs → Roomy g (length xs + 0) → IsCounted q counts_ g (λ r. owned around (live (o ∷ ops) e) core.vars r + own r)
-      → ComesCalling p args (λ r. given_to (around_of plan others) 0 (operands core.vars xs) r + (owned around (live (o ∷ ops) e) core.vars r + own r)) (At (changed around o (dead around (touched o) ops e rest)) ex frames (here qcore core.function b at core.vars h (memory g))) f (operands core.vars xs) into (dead around (touched o) ops e rest) ex b frames core
+      → ComesToCall p args (λ r. given_to (around_of plan others) 0 (operands core.vars xs) r + (owned around (live (o ∷ ops) e) core.vars r + own r)) (At (changed around o (dead around (touched o) ops e rest)) ex frames (here qcore core.function b at core.vars h (memory g))) f (operands core.vars xs) into (dead around (touched o) ops e rest) ex b frames core
   calls o f into xs others is used same moves pointing points room counts =
       let had : Value → ℕ = λ r. owned around (live (o ∷ ops) e) core.vars r + own r in
       let behind : List LlOp = dead around (touched o) ops e rest in
@@ -231,7 +231,7 @@ module _ (p : LlProgram) (based : Based p.structs) (counting : Counting (counted
       }
 
   abbrev pub Entered : LlOp → Option ℕ → Next → Type 0
-  Entered o into next = EntersBy p args types own o ops rest e ex b at frames core qcore g h into next
+  Entered o into next = EntersBy p args types own o ops rest e ex b at waiters frames core qcore g h into next
 
   in_call : (xs : List COperand) (w : ℕ) → among w (variables_in xs) ≡ true → (more : Bool) → (among w (variables_in xs) || more) ≡ true
   in_call xs w m more = ap (λ b. b || more) m
@@ -248,7 +248,7 @@ module _ (p : LlProgram) (based : Based p.structs) (counting : Counting (counted
       by true y = tt
       by false y =
           let w : (graph : LlGraph) × (slice_get p.graphs f ≡ Some graph) × (all_given p types graph.types graph.params xs ≡ true) = at_graph (slice_get p.graphs f) refl ok in
-          (w.0, w.1, calls (op.Call into f xs) f into xs w.0.types refl (λ w m. in_call xs w m _) (λ r. given_same p types w.0.types 0 w.0.params xs core.vars r (params w.0 w.1) w.2)
+          (f, operands core.vars xs, w.0, w.1, refl, calls (op.Call into f xs) f into xs w.0.types refl (λ w m. in_call xs w m _) (λ r. given_same p types w.0.types 0 w.0.params xs core.vars r (params w.0 w.1) w.2)
           (λ at h s. ap (λ y. cond y (Sticks IsUnset) (Goes (Calling f (operands core.vars xs) (waiting (here qcore core.function b at core.vars h s) into (dead around (touched (op.Call into f xs)) ops e rest) ex ∷ frames) (here qcore core.function b at core.vars h s)))) y)
           pointing points room counts)
 
@@ -278,7 +278,7 @@ module _ (p : LlProgram) (based : Based p.structs) (counting : Counting (counted
           → Entered o into (cond y (Goes (Calling f values (waiting core into ops e ∷ waiters) core)) (Sticks Signature))
       found f is_fun y graph there false same = tt
       found f is_fun y graph there true same =
-          (graph, there, calls o f into xs graph.types refl (λ w m. in_call_fn w m)
+          (f, values, graph, there, refl, calls o f into xs graph.types refl (λ w m. in_call_fn w m)
           (λ r. taken_same p types graph.types 0 graph.params params xs core.vars r (named f graph there) (and_right _ _ same) (and_right _ _ ok))
           (λ at h s. ap (λ y. cond y (Sticks IsUnset) (called_value q (c_result result) (map c_type params) (fun_of (read core.vars v)) values (waiting (mine at h s) into behind ex ∷ frames) (mine at h s))) y
           ∙ ap (λ o. called_value q (c_result result) (map c_type params) o values (waiting (mine at h s) into behind ex ∷ frames) (mine at h s)) is_fun

@@ -31,7 +31,7 @@ use Rattle.refcount_laws.proofs.Doing.{done_on, done_nothing, up_done}
 use Rattle.refcount_laws.proofs.Places.{given_marked, reference_marked}
 
 -- one count rises by one at most, where nothing else is owned
-hit_most : (r v : Value) → hit r v ≤ 1
+pub hit_most : (r v : Value) → hit r v ≤ 1
 hit_most (Ptr a) (Ptr b) = most b a
   where
     most : (m n : ℕ) → one m n ≤ 1
@@ -142,7 +142,15 @@ module _ (q : LlProgram) (args : List (List ℕ)) (plan : Plan) (counting : Coun
       record {
         at = m.at;
         done = record {
-          later = x.later; blocks = x.blocks; same = x.same; same_statics = x.same_statics; size = x.size; size_statics = x.size_statics; inners = x.inners; shown = x.shown; leads = x.leads;
+          later = x.later;
+          blocks = x.blocks;
+          same = x.same;
+          same_statics = x.same_statics;
+          size = x.size;
+          size_statics = x.size_statics;
+          inners = x.inners;
+          shown = x.shown;
+          leads = x.leads;
           counted = own_same q args c x.later own2 own3 e x.counted;
         };
       }

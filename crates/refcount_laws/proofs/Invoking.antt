@@ -77,7 +77,7 @@ use Rattle.refcount_transform.specs.Changes.{ups}
 use Rattle.refcount_transform.specs.Blocks.{graph_of}
 use Rattle.refcount_transform.specs.Made.{all_made}
 use Rattle.refcount_laws.specs.Owned.{OperandsLead, all_hits}
-use Rattle.refcount_laws.specs.Calls.{OperandsPoint, ComesCalling}
+use Rattle.refcount_laws.specs.Calls.{OperandsPoint, ComesCalling, CallLeads}
 use Rattle.refcount_laws.proofs.Given.{ups_run}
 use Rattle.refcount_laws.proofs.Numbers.{get_left, length_mapped}
 use Rattle.refcount_laws.proofs.Copying.{owned_has}
@@ -90,11 +90,6 @@ graph_there p f graph e = behind p.graphs f e
     behind [] f e = absurd (cc)
     behind (x ∷ l) zero e = let g : x ≡ graph = cc in ap (λ x. Some (graph_of (plan_of p) x)) g
     behind (x ∷ l) (suc f) e = behind l f e
-
--- what a call leads to
-abbrev pub CallFollows : LlProgram → List (List ℕ) → List LlType → (ℕ → Bool) → (Value → ℕ) → State → ℕ → List COperand → Option ℕ → List LlOp → LlExit → List Frame → ℕ → Core → List Frame → Next → Type 0
-CallFollows p args types uses own from f xs into rest ex frames b core inner (Goes state) = ComesCalling p args types uses own from f xs into rest ex frames b core
-CallFollows p args types uses own from f xs into rest ex frames b core inner other = Unit {0}
 
 module _ (p : LlProgram) (based : Based p.structs) (counting : Counting (counted p) (counts_of (plan_of p))) (args : List (List ℕ)) (types : List LlType) (roots : AllRoots p types) (own : Value → ℕ) (ops rest : List LlOp) (e : LlExit) (ex : LlExit)
     (frames : List Frame) (b : ℕ) (core qcore : Core) (g : Ghost) (h : List (Option Block)) (at : ℕ) (fits : length core.vars ≡ length types) (stands : Stands p core qcore g h) (k : ℕ) where
@@ -151,12 +146,14 @@ module _ (p : LlProgram) (based : Based p.structs) (counting : Counting (counted
 
   operands_lead : (uses : ℕ → Bool) (xs : List COperand) → ((w : ℕ) → among w (variables_in xs) ≡ true → uses w ≡ true) → OperandsPoint p types core xs → OperandsLead q around g (λ r. owned around uses core.vars r + own r) core.vars xs
   operands_lead uses [] u points = tt
-  operands_lead uses (x ∷ xs) u points =
-      (record {
-        root = λ n f. (points.0 n f).0;
-        leads = λ n f. value_leads p based counting args types roots core.blocks core.statics g stands.near n (operand core.vars x) (operand_marked x n f) (points.0 n f).0 (points.0 n f).1;
-        owned = λ n a f is. operand_owned uses x (λ w m. u w (first_in w (variables_of x) (variables_in xs) m)) n a f is;
-      }, operands_lead uses xs (λ w m. u w (second_in w (variables_of x) (variables_in xs) m)) points.1)
+  operands_lead uses (x ∷ xs) u points = (
+    record {
+      root = λ n f. (points.0 n f).0;
+      leads = λ n f. value_leads p based counting args types roots core.blocks core.statics g stands.near n (operand core.vars x) (operand_marked x n f) (points.0 n f).0 (points.0 n f).1;
+      owned = λ n a f is. operand_owned uses x (λ w m. u w (first_in w (variables_of x) (variables_in xs) m)) n a f is;
+    },
+    operands_lead uses xs (λ w m. u w (second_in w (variables_of x) (variables_in xs) m)) points.1,
+  )
 
   -- up to the call itself
   module _ (o : LlOp) (xs : List COperand) (reads_xs : (w : ℕ) → among w (variables_in xs) ≡ true → live (o ∷ ops) e w ≡ true) (points : OperandsPoint p types core xs) (room : Roomy g (length xs + k))
@@ -198,13 +195,13 @@ module _ (p : LlProgram) (based : Based p.structs) (counting : Counting (counted
   reads_later o w f = ap (λ z. z || (not (sets (set_by o) w) && live ops e w)) f
 
   pub call_followed : (into : Option ℕ) (f : ℕ) (xs : List COperand) (waits : List Frame) → OperandsPoint p types core xs → Roomy g (length xs + k) → IsCounted q (counts_of plan) g (λ r. owned around (live (op.Call into f xs ∷ ops) e) core.vars r + own r)
-      → CallFollows p args types (live (op.Call into f xs ∷ ops) e) own (At (changed around (op.Call into f xs) (dead around (touched (op.Call into f xs)) ops e rest)) ex frames (here qcore core.function b at core.vars h (memory g))) f xs into
-      (dead around (touched (op.Call into f xs)) ops e rest) ex frames b core waits (operates p args (op.Call into f xs) ops e waits core)
+      → CallLeads p args types (live (op.Call into f xs ∷ ops) e) own (At (changed around (op.Call into f xs) (dead around (touched (op.Call into f xs)) ops e rest)) ex frames (here qcore core.function b at core.vars h (memory g))) f xs into
+      (dead around (touched (op.Call into f xs)) ops e rest) ex frames b core (operates p args (op.Call into f xs) ops e waits core)
   call_followed into f xs waits points room counts = by (any_unset (operands core.vars xs)) refl
     where
       by : (y : Bool) → any_unset (operands core.vars xs) ≡ y
-          → CallFollows p args types (live (op.Call into f xs ∷ ops) e) own (At (changed around (op.Call into f xs) (dead around (touched (op.Call into f xs)) ops e rest)) ex frames (here qcore core.function b at core.vars h (memory g))) f xs into
-          (dead around (touched (op.Call into f xs)) ops e rest) ex frames b core waits (cond y (Sticks IsUnset) (Goes (Calling f (operands core.vars xs) (waiting core into ops e ∷ waits) core)))
+          → CallLeads p args types (live (op.Call into f xs ∷ ops) e) own (At (changed around (op.Call into f xs) (dead around (touched (op.Call into f xs)) ops e rest)) ex frames (here qcore core.function b at core.vars h (memory g))) f xs into
+          (dead around (touched (op.Call into f xs)) ops e rest) ex frames b core (cond y (Sticks IsUnset) (Goes (Calling f (operands core.vars xs) (waiting core into ops e ∷ waits) core)))
       by true y = tt
       by false y =
           comes_calling (op.Call into f xs) xs (λ w m. reads_later (op.Call into f xs) w m) points room counts f into
@@ -220,31 +217,31 @@ module _ (p : LlProgram) (based : Based p.structs) (counting : Counting (counted
     start_fn = At (changed around (op.CallFn into result params v xs) rest_fn) ex frames (here qcore core.function b at core.vars h (memory g))
 
     pub call_fn_followed : (f : ℕ) → fun_of (read core.vars v) ≡ Some f
-        → CallFollows p args types (live (op.CallFn into result params v xs ∷ ops) e) own start_fn f xs into rest_fn ex frames b core waits (operates p args (op.CallFn into result params v xs) ops e waits core)
+        → CallLeads p args types (live (op.CallFn into result params v xs ∷ ops) e) own start_fn f xs into rest_fn ex frames b core (operates p args (op.CallFn into result params v xs) ops e waits core)
     call_fn_followed f is_f = by (is_unset (read core.vars v) || any_unset (operands core.vars xs)) refl
       where
         signed : (graph : LlGraph) → slice_get p.graphs f ≡ Some graph → (is_unset (read core.vars v) || any_unset (operands core.vars xs)) ≡ false → (y : Bool) → (same_result (c_result graph.result) (c_result result) && same_types (param_types graph) (map c_type params)) ≡ y
-            → CallFollows p args types (live (op.CallFn into result params v xs ∷ ops) e) own start_fn f xs into rest_fn ex frames b core waits (cond y (Goes (Calling f (operands core.vars xs) (waiting core into ops e ∷ waits) core)) (Sticks Signature))
+            → CallLeads p args types (live (op.CallFn into result params v xs ∷ ops) e) own start_fn f xs into rest_fn ex frames b core (cond y (Goes (Calling f (operands core.vars xs) (waiting core into ops e ∷ waits) core)) (Sticks Signature))
         signed graph there set false y = tt
         signed graph there set true y =
             comes_calling (op.CallFn into result params v xs) xs (λ w m. reads_later (op.CallFn into result params v xs) w (second_in w (v ∷ []) (variables_in xs) m)) points room counts f into
             (λ at h s.
-                let waiter : Frame = waiting (here qcore core.function b at core.vars h s) into rest_fn ex in
-                let qc : Core = here qcore core.function b at core.vars h s in
-                ap (λ y. cond y (Sticks IsUnset) (called_value q (c_result result) (map c_type params) (fun_of (read core.vars v)) (operands core.vars xs) (waiter ∷ frames) qc)) set
-                ∙ ap (λ o. called_value q (c_result result) (map c_type params) o (operands core.vars xs) (waiter ∷ frames) qc) is_f
-                ∙ ap (called_as (c_result result) (map c_type params) f (operands core.vars xs) (waiter ∷ frames) qc) (graph_there p f graph there)
-                ∙ ap (λ y. cond y (Goes (Calling f (operands core.vars xs) (waiter ∷ frames) qc)) (Sticks Signature)) y)
+            let waiter : Frame = waiting (here qcore core.function b at core.vars h s) into rest_fn ex in
+            let qc : Core = here qcore core.function b at core.vars h s in
+            ap (λ y. cond y (Sticks IsUnset) (called_value q (c_result result) (map c_type params) (fun_of (read core.vars v)) (operands core.vars xs) (waiter ∷ frames) qc)) set
+            ∙ ap (λ o. called_value q (c_result result) (map c_type params) o (operands core.vars xs) (waiter ∷ frames) qc) is_f
+            ∙ ap (called_as (c_result result) (map c_type params) f (operands core.vars xs) (waiter ∷ frames) qc) (graph_there p f graph there)
+            ∙ ap (λ y. cond y (Goes (Calling f (operands core.vars xs) (waiter ∷ frames) qc)) (Sticks Signature)) y)
 
         graphs : (set : (is_unset (read core.vars v) || any_unset (operands core.vars xs)) ≡ false) → (o : Option LlGraph) → slice_get p.graphs f ≡ o
-            → CallFollows p args types (live (op.CallFn into result params v xs ∷ ops) e) own start_fn f xs into rest_fn ex frames b core waits (called_as (c_result result) (map c_type params) f (operands core.vars xs) (waiting core into ops e ∷ waits) core o)
+            → CallLeads p args types (live (op.CallFn into result params v xs ∷ ops) e) own start_fn f xs into rest_fn ex frames b core (called_as (c_result result) (map c_type params) f (operands core.vars xs) (waiting core into ops e ∷ waits) core o)
         graphs set None there = tt
         graphs set (Some graph) there = signed graph there set (same_result (c_result graph.result) (c_result result) && same_types (param_types graph) (map c_type params)) refl
 
         by : (y : Bool) → (is_unset (read core.vars v) || any_unset (operands core.vars xs)) ≡ y
-            → CallFollows p args types (live (op.CallFn into result params v xs ∷ ops) e) own start_fn f xs into rest_fn ex frames b core waits
+            → CallLeads p args types (live (op.CallFn into result params v xs ∷ ops) e) own start_fn f xs into rest_fn ex frames b core
             (cond y (Sticks IsUnset) (called_value p (c_result result) (map c_type params) (fun_of (read core.vars v)) (operands core.vars xs) (waiting core into ops e ∷ waits) core))
         by true y = tt
         by false y =
-            subst (λ o. CallFollows p args types (live (op.CallFn into result params v xs ∷ ops) e) own start_fn f xs into rest_fn ex frames b core waits (called_value p (c_result result) (map c_type params) o (operands core.vars xs) (waiting core into ops e ∷ waits) core)) (sym is_f)
+            subst (λ o. CallLeads p args types (live (op.CallFn into result params v xs ∷ ops) e) own start_fn f xs into rest_fn ex frames b core (called_value p (c_result result) (map c_type params) o (operands core.vars xs) (waiting core into ops e ∷ waits) core)) (sym is_f)
             (graphs y (slice_get p.graphs f) refl)

@@ -261,7 +261,7 @@ module _ (p : LlProgram) (based : Based p.structs) (counting : Counting (counted
     -- the whole operation: what is done where the items are no references, or where they are
     module _ (rest_of : List LlOp) (plain : changed around (op.SetItem n v y x) behind ≡ rest_of)
         (one : (a i : ℕ) (block : Block) → read core.vars v ≡ Ptr a → reached core (shapes_of p.structs) n (Ptr a) ≡ Ok block → i < length block.items → operand core.vars y ≡ Word (pos i) → is_unset (operand core.vars x) ≡ false
-            → Comes p args types (live ops e) own (q_here rest_of) rest ex frames b (core_after a block i))
+        → Comes p args types (live ops e) own (q_here rest_of) rest ex frames b (core_after a block i))
         (in_block : (s : ℕ) → read core.vars v ≡ Static s → ⊥) where
       abbrev FollowsItem : After → Type 0
       FollowsItem after = Follows p args types (live ops e) own (q_here rest_of) rest ex frames b after

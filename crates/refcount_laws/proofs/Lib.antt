@@ -36,6 +36,10 @@ pub mod Making
 pub mod ItemWrites
 pub mod Invoking
 pub mod Operations
+pub mod Dispatching
+pub mod Emptied
+pub mod Clearing
+pub mod Invoked
 pub mod Leading
 pub mod Leaving
 pub mod Exits
@@ -43,3 +47,6 @@ pub mod Blocks
 pub mod Departing
 pub mod Calls
 pub mod Calling
+pub mod Keeping
+pub mod Stepping
+pub mod Running

@@ -494,21 +494,24 @@ module _ (p : LlProgram) (based : Based p.structs) (counting : Counting (counted
         → Pointing p types core.blocks core.statics (live (o ∷ ops) e) core.vars → IsCounted the_q (counts_of the_plan) g (λ r. owned around (live (o ∷ ops) e) core.vars r + own r)
         → Follows p args types (live ops e) own (At (changed around o behind) ex frames (here qcore core.function b at core.vars h (memory g))) rest ex frames b (Told (Made number n (plain_size + count)) (record core1 { at = core.at + 1; vars = vars2 }))
     made_followed plain moves pointing counts =
-        subst (λ l. Follows p args types (live ops e) own (At l ex frames (here qcore core.function b at core.vars h (memory g))) rest ex frames b (Told (Made number n (plain_size + count)) (record core1 { at = core.at + 1; vars = vars2 }))) (sym plain)
-        (At (o ∷ header the_plan a n behind) ex frames (here qcore core.function b at core.vars h (memory g)), made_state, stays the_q args (At (o ∷ header the_plan a n behind) ex frames (here qcore core.function b at core.vars h (memory g))),
-        moves ∙ ap (λ k. Tells (Made number n k) made_state) (let z : wide_size + count ≡ plain_size + count + 2 = omega (arith, wide) in z),
-        comes_before p based counting args types roots own o ops rest e ex frames b (live ops e) made_state (At behind ex frames (here qcore core.function b d.at vars2 (h ++ shown (counts_of the_plan) new_slot ∷ []) (memory g)))
-        (record core1 { at = core.at + 1; vars = vars2 }) written_down
-        (value_end p based counting args types roots own o ops rest e ex frames b a sets_it core1 qcore (grown g new_slot) (h ++ shown (counts_of the_plan) new_slot ∷ []) d.at (Ptr number) inside fits (λ n r. unread)
-        (record {
-          near = near_grown p core.blocks core.statics g new_slot made_block stands.near near_new;
-          shown = grown_shown the_q (counts_of the_plan) g new_slot (λ r. owned around (live (o ∷ ops) e) core.vars r + own r) counts h stands.shown;
-          steps = stands.steps;
-          exc_type = stands.exc_type;
-          exc_value = stands.exc_value;
-        })
-        (record { at = λ v k u r. points_grown p core.blocks core.statics made_block k (read core.vars v) (pointing.at v k u r); refers = pointing.refers })
-        (λ k r. (made_block, new_at core.blocks (Some made_block) None, (let f : Some m ≡ Some k = sym refers ∙ r in let j : m ≡ k = cc in subst (λ k. begins_with (shapes_of p.structs) n k ≡ true) j begins_m))) (λ j r. (m, refers))
-        (own_same the_q args (counts_of the_plan) (grown g new_slot) (λ r. hit r (Ptr (length g.blocks)) + (owned around (live (o ∷ ops) e) core.vars r + own r)) (λ r. hits_by (var_referred around a) (Ptr number) r + (owned around (live (o ∷ ops) e) core.vars r + own r))
-        (λ r. ap (λ k. hit r (Ptr k) + (owned around (live (o ∷ ops) e) core.vars r + own r)) (sym stands.near.size) ∙ ap (λ k. hits_by k (Ptr number) r + (owned around (live (o ∷ ops) e) core.vars r + own r)) (sym refers))
-        (grown_counted the_q (counts_of the_plan) g new_slot (λ r. owned around (live (o ∷ ops) e) core.vars r + own r) counts refl nothing whole_new))))
+        subst (λ l. Follows p args types (live ops e) own (At l ex frames (here qcore core.function b at core.vars h (memory g))) rest ex frames b (Told (Made number n (plain_size + count)) (record core1 { at = core.at + 1; vars = vars2 }))) (sym plain) (
+          At (o ∷ header the_plan a n behind) ex frames (here qcore core.function b at core.vars h (memory g)),
+          made_state,
+          stays the_q args (At (o ∷ header the_plan a n behind) ex frames (here qcore core.function b at core.vars h (memory g))),
+          moves ∙ ap (λ k. Tells (Made number n k) made_state) (let z : wide_size + count ≡ plain_size + count + 2 = omega (arith, wide) in z),
+          comes_before p based counting args types roots own o ops rest e ex frames b (live ops e) made_state (At behind ex frames (here qcore core.function b d.at vars2 (h ++ shown (counts_of the_plan) new_slot ∷ []) (memory g)))
+              (record core1 { at = core.at + 1; vars = vars2 }) written_down
+              (value_end p based counting args types roots own o ops rest e ex frames b a sets_it core1 qcore (grown g new_slot) (h ++ shown (counts_of the_plan) new_slot ∷ []) d.at (Ptr number) inside fits (λ n r. unread)
+              (record {
+                near = near_grown p core.blocks core.statics g new_slot made_block stands.near near_new;
+                shown = grown_shown the_q (counts_of the_plan) g new_slot (λ r. owned around (live (o ∷ ops) e) core.vars r + own r) counts h stands.shown;
+                steps = stands.steps;
+                exc_type = stands.exc_type;
+                exc_value = stands.exc_value;
+              })
+              (record { at = λ v k u r. points_grown p core.blocks core.statics made_block k (read core.vars v) (pointing.at v k u r); refers = pointing.refers })
+              (λ k r. (made_block, new_at core.blocks (Some made_block) None, (let f : Some m ≡ Some k = sym refers ∙ r in let j : m ≡ k = cc in subst (λ k. begins_with (shapes_of p.structs) n k ≡ true) j begins_m))) (λ j r. (m, refers))
+              (own_same the_q args (counts_of the_plan) (grown g new_slot) (λ r. hit r (Ptr (length g.blocks)) + (owned around (live (o ∷ ops) e) core.vars r + own r)) (λ r. hits_by (var_referred around a) (Ptr number) r + (owned around (live (o ∷ ops) e) core.vars r + own r))
+              (λ r. ap (λ k. hit r (Ptr k) + (owned around (live (o ∷ ops) e) core.vars r + own r)) (sym stands.near.size) ∙ ap (λ k. hits_by k (Ptr number) r + (owned around (live (o ∷ ops) e) core.vars r + own r)) (sym refers))
+              (grown_counted the_q (counts_of the_plan) g new_slot (λ r. owned around (live (o ∷ ops) e) core.vars r + own r) counts refl nothing whole_new))),
+        )

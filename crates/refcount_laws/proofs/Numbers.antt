@@ -98,7 +98,7 @@ module _ (plan : Plan) where
 
   -- the graphs of one struct
   module _ (n : ℕ) (s : LlStruct) (is : slice_get plan.structs n ≡ Some s) (own : (root_of plan n == n) ≡ is_none s.base) where
-    abbrev puts : List LlGraph
+    abbrev pub puts : List LlGraph
     puts = map (put_graph plan) (own_held plan n)
 
     abbrev items : List LlGraph
@@ -107,7 +107,7 @@ module _ (plan : Plan) where
     abbrev refs : List LlGraph
     refs = references_made n (root_of plan n == n)
 
-    puts_count : length puts ≡ references_in plan.counted s.fields
+    pub puts_count : length puts ≡ references_in plan.counted s.fields
     puts_count = length_mapped (put_graph plan) (own_held plan n) ∙ held_count n 0 (fields_of plan n) ∙ ap (λ o. references_in plan.counted (fields_given o)) is
 
     items_are : items_referred plan n ≡ reference_given plan.counted s.items

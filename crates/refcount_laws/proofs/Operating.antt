@@ -189,11 +189,15 @@ module _ (p : LlProgram) (based : Based p.structs) (counting : Counting (counted
           ∙ ap (λ y. goes_on (At (dead around (touched (op.Step x)) ops e rest) ex frames) (cond y (Onward (here (record qcore { steps = core.steps - cost }) core.function b (at + 1) core.vars h (memory g))) (Over Running (here (record qcore { steps = core.steps }) core.function b at core.vars h (memory g))))) f))
           (effect_end p based counting args types roots own (op.Step x) ops rest e ex frames b (record core { at = core.at + 1; steps = core.steps - cost }) (record qcore { steps = core.steps - cost }) g h (at + 1) refl fits
           (record { near = stands.near; shown = stands.shown; steps = refl; exc_type = stands.exc_type; exc_value = stands.exc_value }) pointing counts)
-      paid cost false f w pointing counts =
-          (before (op.Step x), here (record qcore { steps = core.steps }) core.function b at core.vars h (memory g), stays q args (before (op.Step x)),
-          ap (λ w. goes_on (At (dead around (touched (op.Step x)) ops e rest) ex frames) (st.on (st.pay_steps (here qcore core.function b at core.vars h (memory g))) w)) w
-          ∙ ap (λ n. goes_on (At (dead around (touched (op.Step x)) ops e rest) ex frames) (cond (nat_le cost n) (Onward (here (record qcore { steps = n - cost }) core.function b (at + 1) core.vars h (memory g))) (Over Running (here (record qcore { steps = n }) core.function b at core.vars h (memory g))))) stands.steps
-          ∙ ap (λ y. goes_on (At (dead around (touched (op.Step x)) ops e rest) ex frames) (cond y (Onward (here (record qcore { steps = core.steps - cost }) core.function b (at + 1) core.vars h (memory g))) (Over Running (here (record qcore { steps = core.steps }) core.function b at core.vars h (memory g))))) f, refl)
+      paid cost false f w pointing counts = (
+        before (op.Step x),
+        here (record qcore { steps = core.steps }) core.function b at core.vars h (memory g),
+        stays q args (before (op.Step x)),
+        ap (λ w. goes_on (At (dead around (touched (op.Step x)) ops e rest) ex frames) (st.on (st.pay_steps (here qcore core.function b at core.vars h (memory g))) w)) w
+            ∙ ap (λ n. goes_on (At (dead around (touched (op.Step x)) ops e rest) ex frames) (cond (nat_le cost n) (Onward (here (record qcore { steps = n - cost }) core.function b (at + 1) core.vars h (memory g))) (Over Running (here (record qcore { steps = n }) core.function b at core.vars h (memory g))))) stands.steps
+            ∙ ap (λ y. goes_on (At (dead around (touched (op.Step x)) ops e rest) ex frames) (cond y (Onward (here (record qcore { steps = core.steps - cost }) core.function b (at + 1) core.vars h (memory g))) (Over Running (here (record qcore { steps = core.steps }) core.function b at core.vars h (memory g))))) f,
+        refl,
+      )
 
       by : (w : Option ℤ) → word_of (operand core.vars x) ≡ w → IsFollowed (op.Step x) (st.on (st.pay_steps core) w)
       by None f = λ pointing counts. tt
@@ -205,12 +209,15 @@ module _ (p : LlProgram) (based : Based p.structs) (counting : Counting (counted
     where
       put : (byte : ℕ) (y : Bool) → nat_lt byte 256 ≡ y → word_of (operand core.vars x) ≡ Some (pos byte) → IsFollowed (op.Put x) (cond y (PutsByte byte (record core { at = core.at + 1 })) (Stuck BadWord))
       put byte false f w pointing counts = tt
-      put byte true f w pointing counts =
-          (before (op.Put x), behind (op.Put x) core.vars, stays q args (before (op.Put x)),
-          ap (λ w. goes_on (At (dead around (touched (op.Put x)) ops e rest) ex frames) (st.on (st.put_word (here qcore core.function b at core.vars h (memory g))) w)) w
-          ∙ ap (λ y. goes_on (At (dead around (touched (op.Put x)) ops e rest) ex frames) (cond y (PutsByte byte (here qcore core.function b (at + 1) core.vars h (memory g))) (Stuck BadWord))) f,
-          effect_end p based counting args types roots own (op.Put x) ops rest e ex frames b (record core { at = core.at + 1 }) qcore g h (at + 1) refl fits
-          (record { near = stands.near; shown = stands.shown; steps = stands.steps; exc_type = stands.exc_type; exc_value = stands.exc_value }) pointing counts)
+      put byte true f w pointing counts = (
+        before (op.Put x),
+        behind (op.Put x) core.vars,
+        stays q args (before (op.Put x)),
+        ap (λ w. goes_on (At (dead around (touched (op.Put x)) ops e rest) ex frames) (st.on (st.put_word (here qcore core.function b at core.vars h (memory g))) w)) w
+            ∙ ap (λ y. goes_on (At (dead around (touched (op.Put x)) ops e rest) ex frames) (cond y (PutsByte byte (here qcore core.function b (at + 1) core.vars h (memory g))) (Stuck BadWord))) f,
+        effect_end p based counting args types roots own (op.Put x) ops rest e ex frames b (record core { at = core.at + 1 }) qcore g h (at + 1) refl fits
+            (record { near = stands.near; shown = stands.shown; steps = stands.steps; exc_type = stands.exc_type; exc_value = stands.exc_value }) pointing counts,
+      )
 
       by : (w : Option ℤ) → word_of (operand core.vars x) ≡ w → IsFollowed (op.Put x) (st.on (st.put_word core) w)
       by None f = λ pointing counts. tt

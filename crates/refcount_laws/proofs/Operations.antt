@@ -115,7 +115,7 @@ use Rattle.refcount_laws.proofs.Getting.{get_field_followed, get_item_followed}
 use Rattle.refcount_laws.proofs.Storage.{set_plain_followed, set_reference_followed}
 use Rattle.refcount_laws.proofs.Making.{made_followed}
 
-structs_typed : (p : LlProgram) → IsWellTyped p → structs_ok p.structs 0 p.structs ≡ true
+pub structs_typed : (p : LlProgram) → IsWellTyped p → structs_ok p.structs 0 p.structs ≡ true
 structs_typed p ok = and_left _ _ (and_left _ _ (and_left _ _ ok))
 
 module _ (p : LlProgram) (ok : IsWellTyped p) (leads : leads_to_roots p ≡ true) (args : List (List ℕ)) (types : List LlType) (own : Value → ℕ) (ops rest : List LlOp) (e ex : LlExit) (frames : List Frame) (b at : ℕ) (core qcore : Core) (g : Ghost)

@@ -9,13 +9,13 @@ use Rattle.ll_code.specs.declared.program.LlProgram.{LlProgram}
 use Rattle.ll_code.specs.Typed.{IsWellTyped}
 use Rattle.ll_laws.proofs.Values.{and_left}
 use Rattle.refcount_transform.specs.declared.plan.Held.{Held}
-use Rattle.refcount_transform.specs.Plan.{Plan, plan_of, one_if, references_before, reference_to, is_counted, counts_at, root_of, referred, fields_of, field_number, held_if, held_from, own_held, items_referred}
-use Rattle.refcount_transform.specs.Made.{put_graph, items_made, references_made, made_for}
+use Rattle.refcount_transform.specs.Plan.{Plan, plan_of, references_in, one_if, references_before, reference_to, is_counted, counts_at, root_of, referred, fields_of, field_number, held_if, held_from, own_held, items_referred}
+use Rattle.refcount_transform.specs.Made.{put_graph, put_item_graph, clear_graph, items_made, references_made, made_for}
 use Rattle.refcount_transform.specs.Counted.{counted}
-use Rattle.refcount_laws.specs.Graphs.{StandsWith, put_types, put_block}
+use Rattle.refcount_laws.specs.Graphs.{StandsWith, put_types, put_block, put_item_types, put_item_block}
 use Rattle.refcount_laws.specs.Made.{reference_of, counts_of}
-use Rattle.refcount_laws.proofs.Numbers.{length_two, length_mapped, get_left, Based, all_based}
-use Rattle.refcount_laws.proofs.Standing.{place, first_number, made_there}
+use Rattle.refcount_laws.proofs.Numbers.{length_two, length_mapped, get_left, get_right, Based, all_based, is_own_root, puts_count}
+use Rattle.refcount_laws.proofs.Standing.{at_struct, place, first_number, made_there}
 
 mapped_at : {A B : Type 0} (f : A → B) (xs : List A) (k : ℕ) (x : A) → slice_get xs k ≡ Some x → slice_get (map f xs) k ≡ Some (f x)
 mapped_at f [] k x e = absurd (cc)
@@ -80,3 +80,27 @@ pub counted_puts : (p : LlProgram) → IsWellTyped p → (n : ℕ) → is_counte
     (put_types (counts_of (plan_of p)) (reference_of (plan_of p) (record { owner = n; number = field_number (plan_of p) n k; to = m })))
     (put_block (counts_of (plan_of p)) (reference_of (plan_of p) (record { owner = n; number = field_number (plan_of p) n k; to = m })) ∷ [])
 counted_puts p ok n c = put_stands p (all_based p.structs (and_left _ _ (and_left _ _ (and_left _ _ ok)))) n c
+
+module _ (p : LlProgram) (based : Based p.structs) (n : ℕ) (is_one : is_counted (plan_of p) n ≡ true) (m : ℕ) (refers : items_referred (plan_of p) n ≡ Some m) where
+  abbrev plan_ : Plan
+  plan_ = plan_of p
+
+  abbrev puts_ : List LlGraph
+  puts_ = map (put_graph plan_) (own_held plan_ n)
+
+  items_are : items_made plan_ n (items_referred plan_ n) ≡ put_item_graph plan_ n m ∷ clear_graph plan_ n ∷ []
+  items_are = ap (items_made plan_ n) refers
+
+  item_there : slice_get (counted p).graphs (counts_at plan_ n).items ≡ Some (put_item_graph plan_ n m)
+  item_there =
+      let refs_ : List LlGraph = references_made n (root_of plan_ n == n) in
+      let items_ : List LlGraph = items_made plan_ n (items_referred plan_ n) in
+      let long : length items_ ≡ 2 = ap length items_are in
+      let size : length puts_ ≡ references_in plan_.counted (at_struct p based n is_one).s.fields = puts_count plan_ n (at_struct p based n is_one).s (at_struct p based n is_one).is (is_own_root p.structs based n (at_struct p based n is_one).s (at_struct p based n is_one).is) in
+      ap (λ c. slice_get (counted p).graphs c.items) (place p based n is_one).is
+      ∙ ap (slice_get (counted p).graphs) (let z : first_number p based n is_one + 1 + references_in plan_.counted (at_struct p based n is_one).s.fields ≡ first_number p based n is_one + suc (length puts_ + 0) = omega (arith, size) in z)
+      ∙ made_there p based n is_one (suc (length puts_ + 0)) (omega (arith, length_two (puts_ ++ items_) refs_, length_two puts_ items_, long)) ∙ get_left (puts_ ++ items_) refs_ (length puts_ + 0) (omega (arith, length_two puts_ items_, long))
+      ∙ get_right puts_ items_ 0 ∙ ap (λ l. slice_get l 0) items_are
+
+  pub put_item_stands : StandsWith (counted p) (counts_at plan_ n).items (0 ∷ 1 ∷ 2 ∷ []) (put_item_types (counts_of plan_) n m) (put_item_block (counts_of plan_) n m ∷ [])
+  put_item_stands = record { graph = put_item_graph plan_ n m; there = item_there; taken = refl; result = refl; typed = refl; laid = refl }

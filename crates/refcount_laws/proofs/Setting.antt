@@ -251,8 +251,12 @@ module _ (p : LlProgram) (based : Based p.structs) (counting : Counting (counted
 
       same_refs : (r2 : Value) → occurs r2 (references c (record { kind = w.kind; fields = fields2; items = w.items })) + hit r2 Null ≡ occurs r2 (references c bare_w) + hit r2 Null
       same_refs r2 =
-          omega (arith, occurs_both r2 (field_references (c.held w.kind) fields2) (item_references (c.items w.kind) w.items), occurs_both r2 (field_references (c.held w.kind) w.fields) (item_references (c.items w.kind) w.items),
-          ap (occurs r2) (apart_same r (c.held w.kind) w.fields v apart))
+          omega (
+            arith,
+            occurs_both r2 (field_references (c.held w.kind) fields2) (item_references (c.items w.kind) w.items),
+            occurs_both r2 (field_references (c.held w.kind) w.fields) (item_references (c.items w.kind) w.items),
+            ap (occurs r2) (apart_same r (c.held w.kind) w.fields v apart),
+          )
 
       pub plain_counts : IsCounted q c g2 had
       plain_counts =

@@ -116,8 +116,10 @@ module _ (p : LlProgram) (based : Based p.structs) (n : ℕ) (s : LlStruct) (e :
       let z : place ≡ place + 0 = omega arith in
       let x : place_in plan n (field_number plan n (place + 0)) ≡ begin + (place + 0) = own_at (place + 0) in
       subst (λ o. OnceIn (reference_of plan (record { owner = n; number = field_number plan n (place + 0); to = m })) (map (reference_of plan) (held_if n (field_number plan n place) o (held_from plan n (suc place) ts)))) (sym (ap (reference_to plan.counted) g ∙ r))
-      (inl (ap (λ k. reference_of plan (record { owner = n; number = field_number plan n k; to = m })) z,
-      low_apart (reference_of plan (record { owner = n; number = field_number plan n (place + 0); to = m })) (begin + suc place) (map (reference_of plan) (held_from plan n (suc place) ts)) (omega (arith, x)) (own_low (suc place) ts)))
+      (inl (
+        ap (λ k. reference_of plan (record { owner = n; number = field_number plan n k; to = m })) z,
+        low_apart (reference_of plan (record { owner = n; number = field_number plan n (place + 0); to = m })) (begin + suc place) (map (reference_of plan) (held_from plan n (suc place) ts)) (omega (arith, x)) (own_low (suc place) ts),
+      ))
   own_once place (u ∷ ts) (suc j) m t f r =
       by (referred plan u) (subst (λ k. OnceIn (reference_of plan (record { owner = n; number = field_number plan n k; to = m })) (map (reference_of plan) (held_from plan n (suc place) ts))) (let z : suc place + j ≡ place + suc j = omega arith in z) (own_once (suc place) ts j m t f r))
     where

@@ -31,7 +31,7 @@ use Rattle.refcount_laws.proofs.Numbers.{length_mapped, get_right, Based, is_own
 
 -- ---- numbers
 
-slots_clear : (counted : List Bool) (graphs : List LlGraph) (n : ℕ) → (slots_of counted graphs n).clear ≡ n
+pub slots_clear : (counted : List Bool) (graphs : List LlGraph) (n : ℕ) → (slots_of counted graphs n).clear ≡ n
 slots_clear counted [] n = refl
 slots_clear counted (graph ∷ graphs) n = by (set_by_blocks graph.blocks) (slots_clear counted graphs n)
   where

@@ -4,14 +4,15 @@ use Rattle.std.specs.Prelude.{◌≡◌, ℕ, ◌+◌, Bool, List, [], ◌∷◌
 use Rattle.csub_tree.specs.State.{Value, Block, Core}
 use Rattle.csub_tree.specs.Statement.{operand, operands}
 use Rattle.csub_tree.specs.declared.tree.COperand.{COperand}
-use Rattle.ll_code.specs.State.{Frame, State, Calling}
-use Rattle.ll_code.specs.Machine.{waiting}
+use Rattle.ll_code.specs.State.{Frame, State, Calling, At, Next, Goes}
+use Rattle.ll_code.specs.Machine.{waiting, operates}
 use Rattle.ll_code.specs.declared.program.LlType.{LlType}
 use Rattle.ll_code.specs.declared.program.LlOp.{LlOp}
 use Rattle.ll_code.specs.declared.program.LlExit.{LlExit}
 use Rattle.ll_code.specs.declared.program.LlProgram.{LlProgram}
 use Rattle.refcount_transform.specs.Plan.{plan_of, root_of}
-use Rattle.refcount_transform.specs.Changes.{around_of, operand_referred}
+use Rattle.refcount_transform.specs.Changes.{around_of, operand_referred, changed, touched, dead}
+use Rattle.ll_live.specs.Live.{live}
 use Rattle.refcount_transform.specs.Counted.{counted}
 use Rattle.refcount_laws.specs.Made.{counts_of}
 use Rattle.refcount_laws.specs.Ghost.{Ghost, memory, IsCounted}
@@ -35,3 +36,13 @@ pub record ComesCalling (p : LlProgram) (args : List (List ℕ)) (types : List L
   pub counts : IsCounted (counted p) (counts_of (plan_of p)) g (λ r. all_hits (around_of (plan_of p) types) core.vars xs r + (owned (around_of (plan_of p) types) uses core.vars r + own r))
   pub leads : Leads (counted p) args from
       (Calling f (operands core.vars xs) (waiting (here qcore core.function block at core.vars h (memory g)) into rest ex ∷ frames) (here qcore core.function block at core.vars h (memory g)))
+
+abbrev pub CallLeads : LlProgram → List (List ℕ) → List LlType → (ℕ → Bool) → (Value → ℕ) → State → ℕ → List COperand → Option ℕ → List LlOp → LlExit → List Frame → ℕ → Core → Next → Type 0
+CallLeads p args types uses own from f xs into rest ex frames b core (Goes state) = ComesCalling p args types uses own from f xs into rest ex frames b core
+CallLeads p args types uses own from f xs into rest ex frames b core other = Unit {0}
+
+-- what a call leads to; where it is stuck nothing is said
+abbrev pub CallFollows : LlProgram → List (List ℕ) → List LlType → (Value → ℕ) → LlOp → ℕ → List COperand → Option ℕ → List LlOp → List LlOp → LlExit → LlExit → List Frame → List Frame → ℕ → ℕ → Core → Core → Ghost → List (Option Block) → Type 0
+CallFollows p args types own o f xs into ops rest e ex frames waits b at core qcore g h =
+    CallLeads p args types (live (o ∷ ops) e) own (At (changed (around_of (plan_of p) types) o (dead (around_of (plan_of p) types) (touched o) ops e rest)) ex frames (here qcore core.function b at core.vars h (memory g))) f xs into
+    (dead (around_of (plan_of p) types) (touched o) ops e rest) ex frames b core (operates p args o ops e waits core)

@@ -91,7 +91,7 @@ AllPoint p types core (x ∷ xs) =
     ((n : ℕ) → operand_referred (around_of (plan_of p) types) x ≡ Some n → (root_of (plan_of p) n ≡ n) × PointsTo p core.blocks core.statics n (operand core.vars x)) × AllPoint p types core xs
 
 -- it comes to the call, which waits with these operations behind it
-pub record ComesCalling (p : LlProgram) (args : List (List ℕ)) (own : Value → ℕ) (from : State) (f : ℕ) (values : List Value) (into : Option ℕ) (behind : List LlOp) (ex : LlExit) (b : ℕ) (frames : List Frame) (core : Core) : Type 0 where
+pub record ComesToCall (p : LlProgram) (args : List (List ℕ)) (own : Value → ℕ) (from : State) (f : ℕ) (values : List Value) (into : Option ℕ) (behind : List LlOp) (ex : LlExit) (b : ℕ) (frames : List Frame) (core : Core) : Type 0 where
   pub qcore : Core
   pub g : Ghost
   pub h : List (Option Block)
@@ -101,10 +101,10 @@ pub record ComesCalling (p : LlProgram) (args : List (List ℕ)) (own : Value �
   pub leads : Leads (counted p) args from (Calling f values (waiting (here qcore core.function b at core.vars h (memory g)) into behind ex ∷ frames) (here qcore core.function b at core.vars h (memory g)))
 
 -- a call in the program: its operands are given to the variables of the graph, and what was owned is owned still
-abbrev pub EntersBy : LlProgram → List (List ℕ) → List LlType → (Value → ℕ) → LlOp → List LlOp → List LlOp → LlExit → LlExit → ℕ → ℕ → List Frame → Core → Core → Ghost → List (Option Block) → Option ℕ → Next → Type 0
-EntersBy p args types own o ops rest e ex b at frames core qcore g h into (Goes (Calling f values waiting core')) =
-    (graph : LlGraph) × (slice_get p.graphs f ≡ Some graph)
-    × ComesCalling p args (λ r. given_to (around_of (plan_of p) graph.types) 0 values r + (owned (around_of (plan_of p) types) (live (o ∷ ops) e) core.vars r + own r))
+abbrev pub EntersBy : LlProgram → List (List ℕ) → List LlType → (Value → ℕ) → LlOp → List LlOp → List LlOp → LlExit → LlExit → ℕ → ℕ → List Frame → List Frame → Core → Core → Ghost → List (Option Block) → Option ℕ → Next → Type 0
+EntersBy p args types own o ops rest e ex b at waits frames core qcore g h into (Goes state) =
+    (f : ℕ) × (values : List Value) × (graph : LlGraph) × (slice_get p.graphs f ≡ Some graph) × (state ≡ Calling f values (waiting core into ops e ∷ waits) core)
+    × ComesToCall p args (λ r. given_to (around_of (plan_of p) graph.types) 0 values r + (owned (around_of (plan_of p) types) (live (o ∷ ops) e) core.vars r + own r))
         (At (changed (around_of (plan_of p) types) o (dead (around_of (plan_of p) types) (touched o) ops e rest)) ex frames (here qcore core.function b at core.vars h (memory g))) f values into (dead (around_of (plan_of p) types) (touched o) ops e rest) ex b frames core
-EntersBy p args types own o ops rest e ex b at frames core qcore g h into (Sticks reason) = Unit {0}
-EntersBy p args types own o ops rest e ex b at frames core qcore g h into other = ⊥
+EntersBy p args types own o ops rest e ex b at waits frames core qcore g h into (Sticks reason) = Unit {0}
+EntersBy p args types own o ops rest e ex b at waits frames core qcore g h into other = ⊥

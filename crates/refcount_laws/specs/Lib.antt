@@ -2,10 +2,14 @@ pub mod Ghost
 pub mod Graphs
 pub mod Made
 pub mod Before
+pub mod Ready
 pub mod Calls
+pub mod Slots
 pub mod Matches
 pub mod Owned
 pub mod Reach
 pub mod Runs
 pub mod Touched
 pub mod Leaves
+pub mod Whole
+pub mod Run

@@ -1,12 +1,17 @@
 // Laws of the graphs that count references, over all programs that have them.
-ghost use Rattle.std.specs.Prelude.{◌≡◌, ◌≢◌, ◌<◌, ℕ, suc, ◌+◌, true, List, ◌∷◌, [], Option, Some, None, slice_get, slice_set, length};
-ghost use Rattle.csub_tree.specs.State.{Value, Ptr, Static, Block, Core};
+ghost use Rattle.std.specs.Prelude.{◌≡◌, ◌≢◌, ◌<◌, ℕ, suc, ◌+◌, true, List, ◌∷◌, [], Option, Some, None, slice_get, slice_set, length, map};
+ghost use Rattle.csub_tree.specs.State.{Value, Ptr, Static, Block, Core, Event};
 ghost use Rattle.csub_tree.specs.Layout.{shape_at, place, begins_with};
-ghost use Rattle.csub_tree.specs.Statement.{operand, read};
-ghost use Rattle.ll_code.specs.Machine.{shapes_of};
+ghost use Rattle.csub_tree.specs.Statement.{operand, read, fun_of};
+ghost use Rattle.ll_code.specs.Machine.{shapes_of, step};
 ghost use Rattle.ll_code.specs.declared.program.LlStruct.{LlStruct};
 ghost use Rattle.csub_tree.specs.declared.tree.COperand.{COperand};
-ghost use Rattle.ll_code.specs.State.{Frame, At};
+ghost use Rattle.ll_code.specs.State.{Frame, State, At};
+ghost use Rattle.ll_code.specs.Meaning.{run};
+ghost use Rattle.csub_tree.specs.Meaning.{made_in};
+ghost use Rattle.ll_held.specs.Quiet.{ReadsInputs};
+ghost use Rattle.refcount_laws.specs.Whole.{Call, StandsFor, ReadyFor, NextStands};
+ghost use Rattle.refcount_laws.specs.Run.{ReadyAlong, RunStands, wider};
 ghost use Rattle.ll_code.specs.Typed.{IsWellTyped, operation_ok, field_of, items_of};
 ghost use Rattle.ll_code.specs.declared.program.LlType.{LlType};
 ghost use Rattle.refcount_transform.specs.declared.plan.Held.{Held};
@@ -21,8 +26,11 @@ ghost use Rattle.refcount_laws.specs.Graphs.{Reference, Counts, Counting, Stands
 ghost use Rattle.refcount_laws.specs.Ghost.{Ghost, S, slot_at, count, hit, memory, LeadsTo, HasRoom, IsCounted, OnceIn, written};
 ghost use Rattle.refcount_laws.specs.Made.{counts_of, reference_of, leads_to_roots};
 ghost use Rattle.refcount_laws.specs.Runs.{here};
-ghost use Rattle.refcount_laws.specs.Matches.{PointsTo};
-ghost use Rattle.refcount_laws.specs.Before.{Before, IsFollowed, is_of_words, MayStand, SetsUnread, MayTakeField, MayTakeItem, NoBlocksIn};
+ghost use Rattle.refcount_laws.specs.Before.{Before, IsFollowed, NoBlocksIn};
+ghost use Rattle.refcount_laws.specs.Ready.{Ready};
+ghost use Rattle.refcount_laws.specs.Calls.{OperandsPoint, CallFollows};
+ghost use Rattle.refcount_laws.specs.Owned.{Roomy};
+ghost use Rattle.refcount_laws.specs.Slots.{slot_hits, SlotLeads};
 ghost use Rattle.refcount_laws.specs.Touched.{Shown, Done};
 
 /// The counted program of a well-typed one, whose references lead to root structs, has for each struct
@@ -56,31 +64,39 @@ pub fn references_are_written()
     ensures { (q : LlProgram) (args : List (List ℕ)) (c : Counts) → Counting q c → (r : Reference) (put : ℕ) → StandsWith q put (0 ∷ 1 ∷ []) (put_types c r) (put_block c r ∷ []) → (g : Ghost) (h : List (Option Block)) (own : Value → ℕ) (a n kind : ℕ) (fields items : List Value) → slot_at g.blocks a ≡ S (suc n) kind fields items → IsField q c kind r → OnceIn r (c.held kind) → ((m : ℕ) → c.items kind ≡ Some m → c.number_at kind ≢ r.at) → (w : Value) → Shown c h g.blocks → IsCounted q c g own → 0 < own (Ptr a) → LeadsTo q g r.to w → HasRoom g w → (core : Core) (f b : ℕ) (ex : LlExit) (frames : List Frame) (x y : COperand) (at : ℕ) (ops : List LlOp) (vars : List Value) → operand vars x ≡ Ptr a → operand vars y ≡ w → Done q args c (written g a (S (suc n) kind (slice_set fields r.at w) items)) own (At (op.Call None put (x ∷ y ∷ []) ∷ ops) ex frames (here core f b at vars h (memory g))) (λ h2 s2. At ops ex frames (here core f b (at + 1) vars h2 s2)) }
 {}
 
-/// An operation on words, steps, arguments or output is followed in the counted program: the same
-/// output and steps, and counts that are right for what is live then.
-pub fn operations_on_words_are_followed()
-    ensures { (p : LlProgram) → IsWellTyped p → leads_to_roots p ≡ true → (args : List (List ℕ)) (types : List LlType) (own : Value → ℕ) (ops rest : List LlOp) (e ex : LlExit) (frames : List Frame) (b at : ℕ) (core qcore : Core) (g : Ghost) (h : List (Option Block)) → (o : LlOp) → operation_ok p types o ≡ true → is_of_words o ≡ true → Before p types own (o) ops e core qcore g h → IsFollowed p args types own (o) ops rest e ex frames b at core qcore g h }
+/// An operation that stays in its block, where it is ready, is followed in the counted program: the
+/// same output, ending and steps; the same block made, with two cells more; memory that is that of the
+/// program but for the counts; and counts that are right for what is live then, and for what is owned
+/// besides.
+pub fn operations_are_followed()
+    ensures { (p : LlProgram) → IsWellTyped p → leads_to_roots p ≡ true → (args : List (List ℕ)) (types : List LlType) (own : Value → ℕ) (ops rest : List LlOp) (e ex : LlExit) (frames : List Frame) (b at : ℕ) (core qcore : Core) (g : Ghost) (h : List (Option Block)) → NoBlocksIn core.statics → (o : LlOp) → operation_ok p types o ≡ true → Ready p types own core o → Before p types own o ops e core qcore g h → IsFollowed p args types own o ops rest e ex frames b at core qcore g h }
 {}
 
-/// An operation that copies a reference, out of a variable, a slot, a field or an item, is followed:
-/// the reference is counted, and what is no longer live is dropped.
-pub fn copies_are_followed()
-    ensures set { (p : LlProgram) → IsWellTyped p → leads_to_roots p ≡ true → (args : List (List ℕ)) (types : List LlType) (own : Value → ℕ) (ops rest : List LlOp) (e ex : LlExit) (frames : List Frame) (b at : ℕ) (core qcore : Core) (g : Ghost) (h : List (Option Block)) → (a : ℕ) (x : COperand) → operation_ok p types (op.Set a x) ≡ true → SetsUnread p types a (op.Set a x) → MayStand p types core a (operand core.vars x) → Before p types own (op.Set a x) ops e core qcore g h → IsFollowed p args types own (op.Set a x) ops rest e ex frames b at core qcore g h }
-    ensures exc_type { (p : LlProgram) → IsWellTyped p → leads_to_roots p ≡ true → (args : List (List ℕ)) (types : List LlType) (own : Value → ℕ) (ops rest : List LlOp) (e ex : LlExit) (frames : List Frame) (b at : ℕ) (core qcore : Core) (g : Ghost) (h : List (Option Block)) → (a n : ℕ) → a < length core.vars → MayStand p types core a core.exc_type → ((m : ℕ) → core.exc_type ≡ Ptr m → 0 < own (Ptr m)) → Before p types own (op.ExcType a n) ops e core qcore g h → IsFollowed p args types own (op.ExcType a n) ops rest e ex frames b at core qcore g h }
-    ensures exc_value { (p : LlProgram) → IsWellTyped p → leads_to_roots p ≡ true → (args : List (List ℕ)) (types : List LlType) (own : Value → ℕ) (ops rest : List LlOp) (e ex : LlExit) (frames : List Frame) (b at : ℕ) (core qcore : Core) (g : Ghost) (h : List (Option Block)) → (a n : ℕ) → a < length core.vars → MayStand p types core a core.exc_value → ((m : ℕ) → core.exc_value ≡ Ptr m → 0 < own (Ptr m)) → Before p types own (op.ExcValue a n) ops e core qcore g h → IsFollowed p args types own (op.ExcValue a n) ops rest e ex frames b at core qcore g h }
-    ensures field { (p : LlProgram) → IsWellTyped p → leads_to_roots p ≡ true → (args : List (List ℕ)) (types : List LlType) (own : Value → ℕ) (ops rest : List LlOp) (e ex : LlExit) (frames : List Frame) (b at : ℕ) (core qcore : Core) (g : Ghost) (h : List (Option Block)) → (a n v i : ℕ) (t : LlType) → field_of (slice_get p.structs n) i ≡ Some t → slice_get types a ≡ Some t → SetsUnread p types a (op.GetField a n v i) → NoBlocksIn core.statics → MayTakeField p types core a n v i → Before p types own (op.GetField a n v i) ops e core qcore g h → IsFollowed p args types own (op.GetField a n v i) ops rest e ex frames b at core qcore g h }
-    ensures item { (p : LlProgram) → IsWellTyped p → leads_to_roots p ≡ true → (args : List (List ℕ)) (types : List LlType) (own : Value → ℕ) (ops rest : List LlOp) (e ex : LlExit) (frames : List Frame) (b at : ℕ) (core qcore : Core) (g : Ghost) (h : List (Option Block)) → (a n v : ℕ) (x : COperand) (t : LlType) → items_of (slice_get p.structs n) ≡ Some t → slice_get types a ≡ Some t → SetsUnread p types a (op.GetItem a n v x) → NoBlocksIn core.statics → MayTakeItem p types core a n v → Before p types own (op.GetItem a n v x) ops e core qcore g h → IsFollowed p args types own (op.GetItem a n v x) ops rest e ex frames b at core qcore g h }
+/// A call is followed up to where its graph is called: who is called owns each operand that is a
+/// reference, and who waits what the call reads and what is live behind it.
+pub fn calls_are_followed()
+    ensures graph { (p : LlProgram) → IsWellTyped p → leads_to_roots p ≡ true → (args : List (List ℕ)) (types : List LlType) (own : Value → ℕ) (ops rest : List LlOp) (e ex : LlExit) (frames waits : List Frame) (b at : ℕ) (core qcore : Core) (g : Ghost) (h : List (Option Block)) (into : Option ℕ) (f : ℕ) (xs : List COperand) → OperandsPoint p types core xs → Roomy g (length xs) → Before p types own (op.Call into f xs) ops e core qcore g h → CallFollows p args types own (op.Call into f xs) f xs into ops rest e ex frames waits b at core qcore g h }
+    ensures value { (p : LlProgram) → IsWellTyped p → leads_to_roots p ≡ true → (args : List (List ℕ)) (types : List LlType) (own : Value → ℕ) (ops rest : List LlOp) (e ex : LlExit) (frames waits : List Frame) (b at : ℕ) (core qcore : Core) (g : Ghost) (h : List (Option Block)) (into : Option ℕ) (result : LlType) (params : List LlType) (v f : ℕ) (xs : List COperand) → OperandsPoint p types core xs → Roomy g (length xs) → fun_of (read core.vars v) ≡ Some f → Before p types own (op.CallFn into result params v xs) ops e core qcore g h → CallFollows p args types own (op.CallFn into result params v xs) f xs into ops rest e ex frames waits b at core qcore g h }
 {}
 
-/// A field of a block that is written is followed, but for the number of items of an array of
-/// references: a reference by the graph that counts the new one and drops the old.
-pub fn writes_of_fields_are_followed()
-    ensures plain { (p : LlProgram) → IsWellTyped p → leads_to_roots p ≡ true → (args : List (List ℕ)) (types : List LlType) (own : Value → ℕ) (ops rest : List LlOp) (e ex : LlExit) (frames : List Frame) (b at : ℕ) (core qcore : Core) (g : Ghost) (h : List (Option Block)) → (n v i : ℕ) (x : COperand) (t : LlType) → field_of (slice_get p.structs n) i ≡ Some t → ((kind m : ℕ) → (counts_of (plan_of p)).items kind ≡ Some m → (counts_of (plan_of p)).number_at kind ≢ place (shape_at (shapes_of p.structs) n) i) → field_referred (plan_of p) n i ≡ None → ((s : ℕ) → read core.vars v ≡ Static s → ⊥) → Before p types own (op.SetField n v i x) ops e core qcore g h → IsFollowed p args types own (op.SetField n v i x) ops rest e ex frames b at core qcore g h }
-    ensures reference { (p : LlProgram) → IsWellTyped p → leads_to_roots p ≡ true → (args : List (List ℕ)) (types : List LlType) (own : Value → ℕ) (ops rest : List LlOp) (e ex : LlExit) (frames : List Frame) (b at : ℕ) (core qcore : Core) (g : Ghost) (h : List (Option Block)) → (n v i : ℕ) (x : COperand) (t : LlType) → field_of (slice_get p.structs n) i ≡ Some t → ((kind m : ℕ) → (counts_of (plan_of p)).items kind ≡ Some m → (counts_of (plan_of p)).number_at kind ≢ place (shape_at (shapes_of p.structs) n) i) → (m : ℕ) → field_referred (plan_of p) n i ≡ Some m → ((s : ℕ) → read core.vars v ≡ Static s → ⊥) → PointsTo p core.blocks core.statics m (operand core.vars x) → ((z : ℕ) → operand core.vars x ≡ Ptr z → 0 < count g.blocks z) → Before p types own (op.SetField n v i x) ops e core qcore g h → IsFollowed p args types own (op.SetField n v i x) ops rest e ex frames b at core qcore g h }
+/// The operations that set and clear the exception slots are followed: what the slots held is dropped,
+/// and what they hold then is owned.
+pub fn slots_are_followed()
+    ensures clear { (p : LlProgram) → IsWellTyped p → leads_to_roots p ≡ true → (args : List (List ℕ)) (types : List LlType) (own : Value → ℕ) (ops rest : List LlOp) (e ex : LlExit) (frames : List Frame) (b at : ℕ) (core qcore : Core) (g : Ghost) (h : List (Option Block)) → SlotLeads p core (plan_of p).slots.kind core.exc_type → SlotLeads p core (plan_of p).slots.value core.exc_value → Before p types (λ r. slot_hits (plan_of p) core.exc_type core.exc_value r + own r) op.ExcClear ops e core qcore g h → IsFollowed p args types own op.ExcClear ops rest e ex frames b at core qcore g h }
+    ensures set { (p : LlProgram) → IsWellTyped p → leads_to_roots p ≡ true → (args : List (List ℕ)) (types : List LlType) (own : Value → ℕ) (ops rest : List LlOp) (e ex : LlExit) (frames : List Frame) (b at : ℕ) (core qcore : Core) (g : Ghost) (h : List (Option Block)) (x y : ℕ) → var_referred (around_of (plan_of p) types) x ≡ (plan_of p).slots.kind → var_referred (around_of (plan_of p) types) y ≡ (plan_of p).slots.value → SlotLeads p core (plan_of p).slots.kind core.exc_type → SlotLeads p core (plan_of p).slots.value core.exc_value → Roomy g 2 → Before p types (λ r. slot_hits (plan_of p) core.exc_type core.exc_value r + own r) (op.ExcSet x y) ops e core qcore g h → IsFollowed p args types (λ r. slot_hits (plan_of p) (read core.vars x) (read core.vars y) r + own r) (op.ExcSet x y) ops rest e ex frames b at core qcore g h }
 {}
 
-/// A new block without items is followed: the same number and struct, and two cells more, which hold
-/// one reference and the graph that releases it; its fields that are references are NULL.
-pub fn new_blocks_are_followed()
-    ensures { (p : LlProgram) → IsWellTyped p → leads_to_roots p ≡ true → (args : List (List ℕ)) (types : List LlType) (own : Value → ℕ) (ops rest : List LlOp) (e ex : LlExit) (frames : List Frame) (b at : ℕ) (core qcore : Core) (g : Ghost) (h : List (Option Block)) → (a m n to : ℕ) (s : LlStruct) → slice_get p.structs n ≡ Some s → is_counted (plan_of p) n ≡ true → var_referred (around_of (plan_of p) types) a ≡ Some to → begins_with (shapes_of p.structs) n to ≡ true → a < length core.vars → reference_given (plan_of p).counted (items_of (slice_get p.structs n)) ≡ None → Before p types own (op.New a m n) ops e core qcore g h → IsFollowed p args types own (op.New a m n) ops rest e ex frames b at core qcore g h }
+/// A step of a program is followed in the counted one, where the one state stands for the other and is
+/// ready: operations, calls, graphs that are entered, returns, exits and endings. The counted program
+/// comes, some steps on, to a state that stands for the next one, with the same output, the same block
+/// made with two cells more, and counts that are right for what is owned then.
+pub fn steps_are_followed()
+    ensures { (p : LlProgram) → IsWellTyped p → leads_to_roots p ≡ true → ReadsInputs p → (args : List (List ℕ)) (calls : List Call) (others : List Frame) (s t : State) (g : Ghost) (h : List (Option Block)) → StandsFor p calls others s t g h → ReadyFor p calls s g → NextStands p args t (step p args s) }
+{}
+
+/// So is a run, for as many steps as each state is ready: the counted program comes to the same ending,
+/// with the same output and steps left, or to a state that stands for the one that the program comes
+/// to; the same blocks are made.
+pub fn runs_are_followed()
+    ensures { (p : LlProgram) → IsWellTyped p → leads_to_roots p ≡ true → ReadsInputs p → (args : List (List ℕ)) (k : ℕ) (calls : List Call) (others : List Frame) (s t : State) (g : Ghost) (h : List (Option Block)) (text : List ℕ) (events told : List Event) → StandsFor p calls others s t g h → ReadyAlong p args k s → made_in events ≡ map wider (made_in told) → RunStands p args t text events (run p args k s text told) }
 {}

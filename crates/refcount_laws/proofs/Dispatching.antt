@@ -1,0 +1,250 @@
+-- Operations that stay in their block are followed.
+use Rattle.std.proofs.Common.{◌≡◌, ◌≢◌, ◌⊎◌, inl, inr, ⊎_elim, ◌<◌, ◌≤◌, ℕ, zero, suc, ◌+◌, ◌-◌, Bool, true, false, ◌||◌, List, [], ◌∷◌, ◌++◌, length, map, Option, Some, None, Ok, Err, refl, sym, ap, ◌∙◌, subst, arith}
+use Rattle.std.specs.Prelude.{slice_get, slice_set, slice_index_or, ◌==◌}
+use Rattle.csub_tree.specs.State.{Value, Unset, Word, Byte, Flag, Fun, Null, Ptr, Static, Block, Core, After, Onward, Puts as PutsByte, Told, Over, Stuck}
+use Rattle.csub_tree.specs.Layout.{begins_with}
+use Rattle.csub_tree.specs.Operation.{Answer, is_unset}
+use Rattle.csub_tree.specs.Statement as st
+use Rattle.csub_tree.specs.Statement.{read, operand}
+use Rattle.csub_tree.specs.declared.tree.COperand.{COperand}
+use Rattle.csub_tree.specs.declared.tree.COperand.TheVariants.{Var, Const}
+use Rattle.ll_code.specs.State.{Frame, State, At, Goes}
+use Rattle.ll_code.specs.Machine.{step, does, goes_on, shapes_of}
+use Rattle.ll_code.specs.declared.program.LlOp.{LlOp}
+use Rattle.ll_code.specs.declared.program.LlOp.TheVariants as op
+use Rattle.ll_code.specs.declared.program.LlExit.{LlExit}
+use Rattle.ll_code.specs.declared.program.LlType.{LlType}
+use Rattle.ll_code.specs.declared.program.LlProgram.{LlProgram}
+use Rattle.ll_live.specs.Live.{among, reads, set_by, sets, live}
+use Rattle.refcount_transform.specs.Plan.{Plan, plan_of, is_counted, root_of, reference_given}
+use Rattle.refcount_transform.specs.Changes.{Around, around_of, var_referred, operand_referred, up, touched, dead}
+use Rattle.refcount_transform.specs.Counted.{counted}
+use Rattle.refcount_laws.specs.Graphs.{Counts, Counting}
+use Rattle.refcount_laws.specs.Made.{counts_of}
+use Rattle.refcount_laws.specs.Ghost.{Ghost, Slot, Fixed, Alone, F, as_first, fixed_at, bare_at, count, memory, hit, LeadsTo, IsCounted}
+use Rattle.refcount_laws.specs.Runs.{Leads, here}
+use Rattle.refcount_laws.specs.Touched.{block_in, Shown, Done}
+use Rattle.refcount_laws.specs.Owned.{owned, Leading, DoneTo, hits_by, operand_hits, OperandLeads, Roomy}
+use Rattle.refcount_laws.specs.Matches.{Near, AllNear, NearBlock, NearStatic, NearMemory, PointsTo, Pointing, AllRoots, Stands, Comes, Follows}
+use Rattle.refcount_laws.proofs.Cells.{set_here, set_other, set_length}
+use Rattle.refcount_laws.proofs.Steps.{stays, leads_on, goes}
+use Rattle.refcount_laws.proofs.Touching.{is_or_not, there_inside}
+use Rattle.refcount_laws.proofs.Leading.{Counted, as_counted}
+use Rattle.refcount_laws.proofs.Moving.{own_same}
+use Rattle.refcount_laws.proofs.Numbers.{Based}
+use Rattle.refcount_laws.proofs.Places.{rooted, Rooted, given_marked}
+use Rattle.refcount_laws.proofs.Alike.{begins_same}
+use Rattle.refcount_laws.proofs.Dead.{dead_run, left_with}
+use Rattle.refcount_laws.proofs.Given.{up_run}
+use Rattle.refcount_laws.proofs.Accounts.{used_by, effect_used, effect_owned, value_owned, others}
+use Rattle.std.specs.Prelude.{ℤ, pos, negsuc, cond, nat_le, nat_lt, option_map}
+use Rattle.rpy_base.specs.declared.outcome.Outcome.TheVariants.{Running}
+use Rattle.csub_tree.specs.Operation.{word_of, unary_of, binary_of}
+use Rattle.csub_tree.specs.declared.stuck.StuckReason.TheVariants.{Unset as IsUnset, Word as BadWord, Argument}
+use Rattle.csub_tree.specs.declared.tree.CUnary.{CUnary}
+use Rattle.csub_tree.specs.declared.tree.CUnary.TheVariants as unary
+use Rattle.csub_tree.specs.declared.tree.CBinary.{CBinary}
+use Rattle.csub_tree.specs.declared.tree.CBinary.TheVariants as binary
+use Rattle.ll_code.specs.State.{Puts, Ends}
+use Rattle.ll_code.specs.Typed.{operation_ok, unary_gives, binary_gives, has_type}
+use Rattle.csub_tree.specs.Checked.{gives_bool}
+use Rattle.ll_code.specs.declared.program.LlType.TheVariants as type
+use Rattle.ll_laws.specs.Fits.{Fits, AnswerFits}
+use Rattle.ll_laws.proofs.Values.{and_left, and_right, has_type_is, unary_fits, binary_fits}
+use Rattle.refcount_transform.specs.Plan.{reference_to}
+use Rattle.refcount_transform.specs.Changes.{changed}
+use Rattle.refcount_laws.proofs.Following.{near_kept, value_leads, finish, comes_before, effect_end, value_end, plain_end, answered_follows}
+use Rattle.std.specs.Prelude.{not, ◌&&◌}
+use Rattle.csub_tree.specs.declared.tree.CConst.TheVariants as const
+use Rattle.ll_code.specs.Typed.{given_takes, takes, is_of_any}
+use Rattle.ll_live.specs.Live.{variables_of}
+use Rattle.ll_laws.proofs.Values.{is_same}
+use Rattle.refcount_laws.specs.Ghost.{one, inner}
+use Rattle.refcount_laws.proofs.Ghosts.{one_self}
+use Rattle.refcount_laws.proofs.Owning.{owned_one}
+use Rattle.refcount_laws.proofs.Dead.{same_is, differ_is}
+use Rattle.refcount_laws.proofs.Following.{copy_end}
+use Rattle.refcount_laws.proofs.Operating.{typed_inside, before, IsFollowed}
+use Rattle.std.proofs.lemmas.Option.{slice_get_within}
+use Rattle.std.specs.Prelude.{Result}
+use Rattle.csub_tree.specs.declared.stuck.StuckReason.{StuckReason}
+use Rattle.ll_laws.proofs.Values.{is_less}
+use Rattle.csub_tree.specs.Layout.{shape_at, place}
+use Rattle.csub_tree.specs.Statement.{block_at, reached, as_struct, on_block}
+use Rattle.csub_tree.specs.declared.stuck.StuckReason.TheVariants.{Outside, Kind}
+use Rattle.ll_code.specs.Typed.{field_of, items_of, has_given, structs_ok}
+use Rattle.ll_code.specs.declared.program.LlStruct.{LlStruct}
+use Rattle.ll_laws.specs.Fields.{fields_of}
+use Rattle.ll_laws.proofs.Cells.{Laid, all_laid}
+use Rattle.ll_held.proofs.Calming.{reached_there}
+use Rattle.refcount_transform.specs.Plan.{shifted, held_of}
+use Rattle.refcount_laws.specs.Made.{shapes_counted, reference_of}
+use Rattle.refcount_laws.specs.Ghost.{S, bare, shown, shown_fixed, slot_at, occurs, field_references, item_references, references, IsWhole}
+use Rattle.refcount_laws.proofs.Cells.{past}
+use Rattle.refcount_laws.proofs.Ghosts.{There, there, occurs_both}
+use Rattle.refcount_laws.proofs.Leading.{static_there}
+use Rattle.refcount_laws.proofs.Steps.{get_step, item_step}
+use Rattle.refcount_laws.proofs.Standing.{StructAt, marked_there}
+use Rattle.refcount_laws.proofs.Alike.{place_same}
+use Rattle.refcount_laws.proofs.Members.{HasPlace, has_hits, inner_has, field_held, counted_begins, counted_alike, place_plain}
+use Rattle.refcount_laws.proofs.Copying.{owned_has, no_null, MayHold, IsFollowedBy, exc_type_followed, exc_value_followed, set_followed}
+use Rattle.std.specs.Prelude.{replicate}
+use Rattle.csub_tree.specs.Statement.{stored}
+use Rattle.refcount_transform.specs.Plan.{counts_at, field_referred, put_of, field_number}
+use Rattle.refcount_transform.specs.Changes.{set_field_by, set_item_by}
+use Rattle.refcount_laws.specs.Graphs.{Reference, StandsWith, IsField, put_block, put_types, put_item_block, put_item_types}
+use Rattle.refcount_laws.specs.Ghost.{HasRoom, no_slot, count_of, written, Apart, OnceIn, FieldsLead, ItemsLead}
+use Rattle.refcount_laws.proofs.Ghosts.{inside}
+use Rattle.refcount_laws.proofs.Leading.{fields_by_kind, items_by_kind}
+use Rattle.refcount_laws.proofs.Steps.{put_step}
+use Rattle.refcount_laws.proofs.Given.{room_for}
+use Rattle.refcount_laws.proofs.Writing.{apart_same, apart_lead, slot_then, kinds_then, written_counted, written_shown, put_done}
+use Rattle.refcount_laws.proofs.Storing.{put_item_done, store_step}
+use Rattle.refcount_laws.proofs.Getting.{near_set, pointer_set, reached_begins, var_alive, struct_of, struct_with}
+use Rattle.csub_tree.specs.State.{Made, Static}
+use Rattle.ll_code.specs.State.{Tells}
+use Rattle.ll_code.specs.Typed.{IsWellTyped}
+use Rattle.refcount_transform.specs.Changes.{header}
+use Rattle.refcount_laws.specs.Made.{leads_to_roots}
+use Rattle.refcount_laws.specs.Before as told
+use Rattle.refcount_laws.specs.Before.{Before, is_of_words, MayStand, SetsUnread, MayTakeField, MayTakeItem, NoBlocksIn}
+use Rattle.refcount_laws.proofs.Numbers.{all_based}
+use Rattle.refcount_laws.proofs.Places.{counted_counting}
+use Rattle.refcount_laws.proofs.Operating.{unary_followed, binary_followed, argc_followed, arg_len_followed, arg_followed, step_followed, put_followed}
+use Rattle.refcount_laws.proofs.Getting.{get_field_followed, get_item_followed}
+use Rattle.refcount_laws.proofs.Storage.{set_plain_followed, set_reference_followed}
+use Rattle.refcount_laws.proofs.Making.{made_followed}
+use Rattle.refcount_transform.specs.Plan.{items_referred}
+use Rattle.refcount_transform.specs.Changes.{cleared_by}
+use Rattle.ll_code.specs.Typed.{points}
+use Rattle.refcount_laws.specs.Ready.{InBlock, MayBeGiven, IsNoNumber, MayMake, MayTakeSlot, Ready}
+use Rattle.refcount_laws.proofs.Putting.{put_item_stands}
+use Rattle.refcount_laws.proofs.ItemWrites.{set_plain_item_followed, set_reference_item_followed}
+use Rattle.refcount_laws.proofs.Operations.{structs_typed, words_one, set_one, exc_type_one, exc_value_one, get_field_one, get_item_one, set_plain_one, set_reference_one, new_one}
+
+module _ (p : LlProgram) (ok : IsWellTyped p) (leads : leads_to_roots p ≡ true) (args : List (List ℕ)) (types : List LlType) (own : Value → ℕ) (ops rest : List LlOp) (e ex : LlExit) (frames : List Frame) (b at : ℕ) (core qcore : Core) (g : Ghost)
+    (h : List (Option Block)) (apart : NoBlocksIn core.statics) where
+  abbrev pub Followed : LlOp → Type 0
+  Followed o = operation_ok p types o ≡ true → Ready p types own core o → Before p types own o ops e core qcore g h → told.IsFollowed p args types own o ops rest e ex frames b at core qcore g h
+
+  based : Based p.structs
+  based = all_based p.structs (structs_typed p ok)
+
+  counting : Counting (counted p) (counts_of (plan_of p))
+  counting = counted_counting p ok leads
+
+  -- a type that is given
+  record Given (o : Option LlType) (a : ℕ) : Type 0 where
+    t : LlType
+    is : o ≡ Some t
+    typed : slice_get types a ≡ Some t
+
+  given_by : (o : Option LlType) (a : ℕ) → has_given types a o ≡ true → Given o a
+  given_by None a f = absurd (cc)
+  given_by (Some t) a f = record { t = t; is = refl; typed = has_type_is t (slice_get types a) f }
+
+  record Taken (o : Option LlType) : Type 0 where
+    t : LlType
+    is : o ≡ Some t
+
+  taken_from : (o : Option LlType) (x : COperand) → given_takes p types o x ≡ true → Taken o
+  taken_from None x f = absurd (cc)
+  taken_from (Some t) x f = record { t = t; is = refl }
+
+  -- an operand that a live variable holds leads to a block that is there
+  operand_alive : (uses : ℕ → Bool) (x : COperand) → ((w : ℕ) → among w (variables_of x) ≡ true → uses w ≡ true) → length core.vars ≡ length types → Pointing p types core.blocks core.statics uses core.vars
+      → IsCounted (counted p) (counts_of (plan_of p)) g (λ r. owned (around_of (plan_of p) types) uses core.vars r + own r) → (z : ℕ) → operand core.vars x ≡ Ptr z → 0 < count g.blocks z
+  operand_alive uses (Var w) u fits pointing counts z is =
+      let used : uses w ≡ true = u w (ap (λ b. b || false) (same_is w)) in
+      let d : (n : ℕ) × (var_referred (around_of (plan_of p) types) w ≡ Some n) = pointing.refers w z used is in
+      let lt : w < length core.vars = (let l : w < length types = inside types w d.0 d.1 in omega (arith, l, fits)) in
+      let has : 0 < owned (around_of (plan_of p) types) uses core.vars (Ptr z) = owned_has (around_of (plan_of p) types) 0 uses core.vars w d.0 z lt used d.1 is in
+      omega (arith, has, counts.blocks z)
+    where
+      inside : (ts : List LlType) (v n : ℕ) → reference_given (plan_of p).counted (slice_get ts v) ≡ Some n → v < length ts
+      inside [] v n e = absurd (cc)
+      inside (t ∷ ts) zero n e = omega arith
+      inside (t ∷ ts) (suc v) n e = omega (arith, inside ts v n e)
+  operand_alive uses (Const (const.Word y)) u fits pointing counts z is = absurd (cc)
+  operand_alive uses (Const (const.Char y)) u fits pointing counts z is = absurd (cc)
+  operand_alive uses (Const (const.Bool y)) u fits pointing counts z is = absurd (cc)
+  operand_alive uses (Const const.Null) u fits pointing counts z is = absurd (cc)
+  operand_alive uses (Const (const.Static s y)) u fits pointing counts z is = absurd (cc)
+  operand_alive uses (Const (const.Fun y)) u fits pointing counts z is = absurd (cc)
+
+  or_some : (a b : Bool) → b ≡ true → (a || b) ≡ true
+  or_some true b f = refl
+  or_some false b f = f
+
+  or_first : (a b : Bool) → a ≡ true → (a || b) ≡ true
+  or_first true b f = refl
+  or_first false b f = absurd (cc)
+
+  in_second : (w : ℕ) (xs ys : List ℕ) → among w ys ≡ true → among w (xs ++ ys) ≡ true
+  in_second w [] ys f = f
+  in_second w (x ∷ xs) ys f = or_some (x == w) (among w (xs ++ ys)) (in_second w xs ys f)
+
+  set_field_any : (n v i : ℕ) (x : COperand) → Followed (op.SetField n v i x)
+  set_field_any n v i x typed (in_block, no_number, may) d = by (taken_from (field_of (slice_get p.structs n) i) x (and_right (points (slice_get types v)) (given_takes p types (field_of (slice_get p.structs n) i) x) typed)) (field_referred (plan_of p) n i) refl may
+    where
+      by : Taken (field_of (slice_get p.structs n) i) → (o : Option ℕ) → field_referred (plan_of p) n i ≡ o → MayBeGiven p core o x → told.IsFollowed p args types own (op.SetField n v i x) ops rest e ex frames b at core qcore g h
+      by taken None f may = set_plain_one p ok leads args types own ops rest e ex frames b at core qcore g h n v i x taken.t taken.is no_number f in_block d
+      by taken (Some m) f may =
+          set_reference_one p ok leads args types own ops rest e ex frames b at core qcore g h n v i x taken.t taken.is no_number m f in_block may
+          (operand_alive (live (op.SetField n v i x ∷ ops) e) x (λ w u. or_first (among w (v ∷ variables_of x)) (not (sets None w) && live ops e w) (or_some (v == w) (among w (variables_of x)) u)) d.fits d.pointing d.counts) d
+
+  set_item_any : (n v : ℕ) (y x : COperand) → Followed (op.SetItem n v y x)
+  set_item_any n v y x typed (in_block, may, c) d =
+      by (taken_from (items_of (slice_get p.structs n)) x (and_right (points (slice_get types v) && takes p types type.Signed y) (given_takes p types (items_of (slice_get p.structs n)) x) typed)) (items_referred (plan_of p) n) refl may
+    where
+      alive : (z : ℕ) → operand core.vars x ≡ Ptr z → 0 < count g.blocks z
+      alive = operand_alive (live (op.SetItem n v y x ∷ ops) e) x (λ w u. or_first (among w (v ∷ variables_of y ++ variables_of x)) (not (sets None w) && live ops e w) (or_some (v == w) (among w (variables_of y ++ variables_of x)) (in_second w (variables_of y) (variables_of x) u))) d.fits d.pointing d.counts
+
+      by : Taken (items_of (slice_get p.structs n)) → (o : Option ℕ) → items_referred (plan_of p) n ≡ o → MayBeGiven p core o x → told.IsFollowed p args types own (op.SetItem n v y x) ops rest e ex frames b at core qcore g h
+      by taken None f may = set_plain_item_followed p based counting args types d.roots own ops rest e ex frames b core qcore g h at d.fits d.stands 0 d.room (structs_typed p ok) n v y x taken.t taken.is f in_block d.pointing d.counts
+      by taken (Some m) f may =
+          set_reference_item_followed p based counting args types d.roots own ops rest e ex frames b core qcore g h at d.fits d.stands 0 d.room (structs_typed p ok) n v y x taken.t taken.is m f (put_item_stands p based n c m f) in_block may
+          (counting.items n m c f).to.1 (counting.items n m c f).to.0 alive d.pointing d.counts
+
+  -- an array whose items are no references
+  new_array_any : (a m n : ℕ) (x : COperand) → Followed (op.NewArray a m n x)
+  new_array_any a m n x typed (make, unread) d = by (word_of (operand core.vars x)) refl
+    where
+      plain : changed (around_of (plan_of p) types) (op.NewArray a m n x) (dead (around_of (plan_of p) types) (touched (op.NewArray a m n x)) ops e rest)
+          ≡ op.NewArray a m n x ∷ header (plan_of p) a n (dead (around_of (plan_of p) types) (touched (op.NewArray a m n x)) ops e rest)
+      plain = ap (λ o. op.NewArray a m n x ∷ header (plan_of p) a n (cleared_by (plan_of p) a n x o (dead (around_of (plan_of p) types) (touched (op.NewArray a m n x)) ops e rest))) make.no_items
+
+      by : (w : Option ℤ) → word_of (operand core.vars x) ≡ w
+          → Follows p args types (live ops e) own (At (changed (around_of (plan_of p) types) (op.NewArray a m n x) (dead (around_of (plan_of p) types) (touched (op.NewArray a m n x)) ops e rest)) ex frames (here qcore core.function b at core.vars h (memory g))) rest ex frames b
+          (st.on (st.new_items core (shapes_of p.structs) a n) w)
+      by None f = tt
+      by (Some (negsuc k)) f = tt
+      by (Some (pos k)) f =
+          made_followed p based counting args types d.roots own ops rest e ex frames b core qcore g h at d.fits d.stands (op.NewArray a m n x) a n k make.struct make.there make.counted refl make.to make.refers make.begins (unread make.to make.refers) make.inside make.no_items plain
+          (ap (λ w. goes_on (At (header (plan_of p) a n (dead (around_of (plan_of p) types) (touched (op.NewArray a m n x)) ops e rest)) ex frames) (st.on (st.new_items (here qcore core.function b at core.vars h (memory g)) (shapes_counted (plan_of p)) a n) w)) f
+          ∙ ap (λ j. Tells (Made j n ((shape_at (shapes_counted (plan_of p)) n).size + k))
+          (At (header (plan_of p) a n (dead (around_of (plan_of p) types) (touched (op.NewArray a m n x)) ops e rest)) ex frames (here qcore core.function b (at + 1) (slice_set core.vars a (Ptr j)) (h ++ Some (record { kind = n; fields = replicate (shape_at (shapes_counted (plan_of p)) n).size Unset; items = replicate k Unset }) ∷ []) (memory g))))
+          (d.stands.shown.size ∙ sym d.stands.near.size)) d.pointing d.counts
+
+  pub operation_followed : (o : LlOp) → Followed o
+  operation_followed (op.Set a x) typed (unread, may) d = set_one p ok leads args types own ops rest e ex frames b at core qcore g h a x typed unread may d
+  operation_followed (op.GetField a n v i) typed (unread, may) d =
+      let t : Given (field_of (slice_get p.structs n) i) a = given_by (field_of (slice_get p.structs n) i) a (and_right (points (slice_get types v)) (has_given types a (field_of (slice_get p.structs n) i)) typed) in
+      get_field_one p ok leads args types own ops rest e ex frames b at core qcore g h a n v i t.t t.is t.typed unread apart may d
+  operation_followed (op.GetItem a n v x) typed (unread, may) d =
+      let t : Given (items_of (slice_get p.structs n)) a = given_by (items_of (slice_get p.structs n)) a (and_right (points (slice_get types v) && takes p types type.Signed x) (has_given types a (items_of (slice_get p.structs n))) typed) in
+      get_item_one p ok leads args types own ops rest e ex frames b at core qcore g h a n v x t.t t.is t.typed unread apart may d
+  operation_followed (op.SetField n v i x) typed ready d = set_field_any n v i x typed ready d
+  operation_followed (op.SetItem n v y x) typed ready d = set_item_any n v y x typed ready d
+  operation_followed (op.New a m n) typed make d = new_one p ok leads args types own ops rest e ex frames b at core qcore g h a m n make.to make.struct make.there make.counted make.refers make.begins make.inside make.no_items d
+  operation_followed (op.NewArray a m n x) typed ready d = new_array_any a m n x typed ready d
+  operation_followed (op.ExcType a n) typed take d = exc_type_one p ok leads args types own ops rest e ex frames b at core qcore g h a n take.inside take.may take.held d
+  operation_followed (op.ExcValue a n) typed take d = exc_value_one p ok leads args types own ops rest e ex frames b at core qcore g h a n take.inside take.may take.held d
+  operation_followed (op.Unary a o x) typed ready d = words_one p ok leads args types own ops rest e ex frames b at core qcore g h (op.Unary a o x) typed refl d
+  operation_followed (op.Binary a o x y) typed ready d = words_one p ok leads args types own ops rest e ex frames b at core qcore g h (op.Binary a o x y) typed refl d
+  operation_followed (op.Step x) typed ready d = words_one p ok leads args types own ops rest e ex frames b at core qcore g h (op.Step x) typed refl d
+  operation_followed (op.Argc a) typed ready d = words_one p ok leads args types own ops rest e ex frames b at core qcore g h (op.Argc a) typed refl d
+  operation_followed (op.ArgLen a x) typed ready d = words_one p ok leads args types own ops rest e ex frames b at core qcore g h (op.ArgLen a x) typed refl d
+  operation_followed (op.Arg a x y) typed ready d = words_one p ok leads args types own ops rest e ex frames b at core qcore g h (op.Arg a x y) typed refl d
+  operation_followed (op.Put x) typed ready d = words_one p ok leads args types own ops rest e ex frames b at core qcore g h (op.Put x) typed refl d
+  operation_followed other typed ready d = absurd ready
