@@ -49,3 +49,4 @@ pub mod Calls
 pub mod Calling
 pub mod Keeping
 pub mod Stepping
+pub mod Beginning
