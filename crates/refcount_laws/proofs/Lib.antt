@@ -49,4 +49,5 @@ pub mod Calls
 pub mod Calling
 pub mod Keeping
 pub mod Stepping
+pub mod Running
 pub mod Beginning

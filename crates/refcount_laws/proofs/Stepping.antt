@@ -1,7 +1,7 @@
 -- One step of a program, in the counted one.
 use Rattle.csub_tree.specs.Operation.{flag_of, is_unset}
 use Rattle.csub_tree.specs.State.{Event}
-use Rattle.csub_tree.specs.State.{Value, Unset, Ptr, Block, Core}
+use Rattle.csub_tree.specs.State.{Value, Unset, Null, Ptr, Block, Core}
 use Rattle.csub_tree.specs.Statement.{read, operand, operands, any_unset}
 use Rattle.csub_tree.specs.declared.stuck.StuckReason.TheVariants.{Unset as IsUnset}
 use Rattle.csub_tree.specs.declared.tree.CConst.TheVariants as const
@@ -26,7 +26,7 @@ use Rattle.ll_live.specs.Live.{exit_reads}
 use Rattle.refcount_laws.proofs.Accounts.{among_both}
 use Rattle.refcount_laws.proofs.Accounts.{given_owned}
 use Rattle.refcount_laws.proofs.Cells.{set_here, set_other, set_length}
-use Rattle.refcount_laws.proofs.Copying.{owned_has, taken_by, refers_to}
+use Rattle.refcount_laws.proofs.Copying.{no_null}
 use Rattle.refcount_laws.proofs.Dead.{same_is, differ_is, dead_run}
 use Rattle.refcount_laws.proofs.Following.{near_kept, value_leads}
 use Rattle.refcount_laws.proofs.Following.{vars_lead}
@@ -77,6 +77,7 @@ use Rattle.refcount_laws.specs.Leaves.{Leaves, EntersBy, given_to}
 use Rattle.refcount_laws.specs.Whole.{Call, Waits, AllWait, BothAt, BothCalling, BothReturning, StandsFor, ComesFor, NextStands, ReadyAt, ReadyFor, ReadyBy, beside, waits_own, slots_own}
 use Rattle.refcount_laws.proofs.Keeping.{AfterMoves, Onwards, does_moves, sets_slots}
 use Rattle.refcount_laws.proofs.Dispatching.{operation_followed}
+use Rattle.refcount_laws.proofs.Emptied.{exc_set_one, exc_clear_one}
 use Rattle.refcount_laws.proofs.Calling.{call_followed, call_fn_followed}
 use Rattle.refcount_laws.proofs.Calls.{enter_comes, return_to}
 use Rattle.refcount_laws.proofs.Departing.{exit_leaves}
@@ -387,8 +388,38 @@ module _ (p : LlProgram) (ok : IsWellTyped p) (leads : leads_to_roots p ≡ true
         (in_call calls others frames ops e core g h (op.CallFn into result params v xs) s both ready into refl (operates p args (op.CallFn into result params v xs) ops e frames core)
         (call_fn_followed p based counting args both.graph.types ready.roots (beside p calls frames core) ops (ops_of (around_of (plan_of p) both.graph.types) ops e) e (exit_of (around_of (plan_of p) both.graph.types) both.next e) frames others core.block core both.qcore g h both.at ready.fits both.stands into result params v xs ready.ok
         params_named ready.pointing ready.ready.0 (enough (length xs) ready.ready.1) both.counts))
-    operating (op.ExcSet a b) both ready = absurd ready.ready
-    operating op.ExcClear both ready = absurd ready.ready
+    operating (op.ExcSet a b) both ready =
+        subst (λ s. NextStands p args s (operates p args (op.ExcSet a b) ops e frames core)) (sym both.is)
+        (one (is_unset (read core.vars a) || is_unset (read core.vars b))
+        (exc_set_one p ok leads args both.graph.types (waits_own p calls frames) ops (ops_of (around_of (plan_of p) both.graph.types) ops e) e (exit_of (around_of (plan_of p) both.graph.types) both.next e) others core.block both.at core both.qcore g h a b
+        ready.ready.0 ready.ready.1 ready.ready.2 ready.ready.3 ready.ready.4 (record { roots = ready.roots; fits = ready.fits; stands = both.stands; pointing = ready.pointing; counts = both.counts; room = ready.room })))
+      where
+        one : (y : Bool)
+            → Follows p args both.graph.types (live ops e) (λ r. Rattle.refcount_laws.specs.Slots.slot_hits (plan_of p) (read core.vars a) (read core.vars b) r + waits_own p calls frames r)
+                (At (ops_of (around_of (plan_of p) both.graph.types) (op.ExcSet a b ∷ ops) e) (exit_of (around_of (plan_of p) both.graph.types) both.next e) others (here both.qcore core.function core.block both.at core.vars h (memory g)))
+                (ops_of (around_of (plan_of p) both.graph.types) ops e) (exit_of (around_of (plan_of p) both.graph.types) both.next e) others core.block (cond y (Stuck IsUnset) (Onward (record core { at = core.at + 1; exc_type = read core.vars a; exc_value = read core.vars b })))
+            → NextStands p args (At (ops_of (around_of (plan_of p) both.graph.types) (op.ExcSet a b ∷ ops) e) (exit_of (around_of (plan_of p) both.graph.types) both.next e) others (here both.qcore core.function core.block both.at core.vars h (memory g)))
+                (goes_on (At ops e frames) (cond y (Stuck IsUnset) (Onward (record core { at = core.at + 1; exc_type = read core.vars a; exc_value = read core.vars b }))))
+        one true x = tt
+        one false x =
+            comes_for p args calls others frames both.graph (λ r. Rattle.refcount_laws.specs.Slots.slot_hits (plan_of p) (read core.vars a) (read core.vars b) r + waits_own p calls frames r)
+            (At (ops_of (around_of (plan_of p) both.graph.types) (op.ExcSet a b ∷ ops) e) (exit_of (around_of (plan_of p) both.graph.types) both.next e) others (here both.qcore core.function core.block both.at core.vars h (memory g)))
+            ops e both.next core.block (record core { at = core.at + 1; exc_type = read core.vars a; exc_value = read core.vars b }) both.there refl both.ways both.waits (λ r. refl) x
+    operating op.ExcClear both ready =
+        subst (λ s. NextStands p args s (operates p args op.ExcClear ops e frames core)) (sym both.is)
+        (comes_for p args calls others frames both.graph (waits_own p calls frames)
+        (At (ops_of (around_of (plan_of p) both.graph.types) (op.ExcClear ∷ ops) e) (exit_of (around_of (plan_of p) both.graph.types) both.next e) others (here both.qcore core.function core.block both.at core.vars h (memory g)))
+        ops e both.next core.block (record core { at = core.at + 1; exc_type = Null; exc_value = Null }) both.there refl both.ways both.waits
+        (λ r. (let z : 0 + waits_own p calls frames r ≡ waits_own p calls frames r = omega arith in sym z) ∙ ap (λ n. n + waits_own p calls frames r) (sym (no_slots (plan_of p).slots.kind (plan_of p).slots.value r)))
+        (exc_clear_one p ok leads args both.graph.types (waits_own p calls frames) ops (ops_of (around_of (plan_of p) both.graph.types) ops e) e (exit_of (around_of (plan_of p) both.graph.types) both.next e) others core.block both.at core both.qcore g h
+        ready.ready.0 ready.ready.1 (record { roots = ready.roots; fits = ready.fits; stands = both.stands; pointing = ready.pointing; counts = both.counts; room = ready.room })))
+      where
+        null_hits : (k : Option ℕ) (r : Value) → hits_by k Null r ≡ 0
+        null_hits None r = refl
+        null_hits (Some n) r = no_null r
+
+        no_slots : (k m : Option ℕ) (r : Value) → hits_by k Null r + hits_by m Null r ≡ 0
+        no_slots k m r = omega (arith, null_hits k r, null_hits m r)
     operating (op.Free a) both ready = absurd ready.ready
     operating (op.Raise a) both ready = absurd ready.ready
 

@@ -12,3 +12,4 @@ pub mod Runs
 pub mod Touched
 pub mod Leaves
 pub mod Whole
+pub mod Run

@@ -26,13 +26,14 @@ use Rattle.refcount_laws.specs.Owned.{owned, hits_by, Roomy}
 use Rattle.refcount_laws.specs.Matches.{PointsTo, Pointing, AllRoots, Stands}
 use Rattle.refcount_laws.specs.Before.{NoBlocksIn}
 use Rattle.refcount_laws.specs.Ready.{Ready}
+use Rattle.refcount_laws.specs.Slots.{slot_hits, SlotLeads}
 use Rattle.refcount_laws.specs.Leaves.{From, InputsAreApart, LinksPoint, ReturnPoints, AllPoint, given_to, is_explicit}
 
 -- ---- what is owned besides the graph that runs
 
 -- the references that the exception slots own
 abbrev pub slots_own : LlProgram → Core → Value → ℕ
-slots_own p core r = hits_by (plan_of p).slots.kind core.exc_type r + hits_by (plan_of p).slots.value core.exc_value r
+slots_own p core r = slot_hits (plan_of p) core.exc_type core.exc_value r
 
 -- a call that waits, and the graph in which it stands
 pub record Call : Type 0 where
@@ -128,6 +129,10 @@ NextStands p args s (Sticks reason) = Unit {0}
 abbrev pub ReadyBy : LlProgram → LlGraph → (Value → ℕ) → Core → Ghost → LlOp → Type 0
 ReadyBy p graph own core g (op.Call into f xs) = AllPoint p graph.types core xs × Roomy g (length xs)
 ReadyBy p graph own core g (op.CallFn into result params v xs) = AllPoint p graph.types core xs × Roomy g (length xs)
+ReadyBy p graph own core g (op.ExcSet a b) =
+    (var_referred (around_of (plan_of p) graph.types) a ≡ (plan_of p).slots.kind) × (var_referred (around_of (plan_of p) graph.types) b ≡ (plan_of p).slots.value)
+    × SlotLeads p core (plan_of p).slots.kind core.exc_type × SlotLeads p core (plan_of p).slots.value core.exc_value × Roomy g 2
+ReadyBy p graph own core g op.ExcClear = SlotLeads p core (plan_of p).slots.kind core.exc_type × SlotLeads p core (plan_of p).slots.value core.exc_value
 ReadyBy p graph own core g o = Ready p graph.types own core o
 
 -- before an operation

@@ -1,12 +1,17 @@
 // Laws of the graphs that count references, over all programs that have them.
-ghost use Rattle.std.specs.Prelude.{◌≡◌, ◌≢◌, ◌<◌, ℕ, suc, ◌+◌, true, List, ◌∷◌, [], Option, Some, None, slice_get, slice_set, length};
-ghost use Rattle.csub_tree.specs.State.{Value, Ptr, Static, Block, Core};
+ghost use Rattle.std.specs.Prelude.{◌≡◌, ◌≢◌, ◌<◌, ℕ, suc, ◌+◌, true, List, ◌∷◌, [], Option, Some, None, slice_get, slice_set, length, map};
+ghost use Rattle.csub_tree.specs.State.{Value, Ptr, Static, Block, Core, Event};
 ghost use Rattle.csub_tree.specs.Layout.{shape_at, place, begins_with};
 ghost use Rattle.csub_tree.specs.Statement.{operand, read, fun_of};
-ghost use Rattle.ll_code.specs.Machine.{shapes_of};
+ghost use Rattle.ll_code.specs.Machine.{shapes_of, step};
 ghost use Rattle.ll_code.specs.declared.program.LlStruct.{LlStruct};
 ghost use Rattle.csub_tree.specs.declared.tree.COperand.{COperand};
-ghost use Rattle.ll_code.specs.State.{Frame, At};
+ghost use Rattle.ll_code.specs.State.{Frame, State, At};
+ghost use Rattle.ll_code.specs.Meaning.{run};
+ghost use Rattle.csub_tree.specs.Meaning.{made_in};
+ghost use Rattle.ll_held.specs.Quiet.{ReadsInputs};
+ghost use Rattle.refcount_laws.specs.Whole.{Call, StandsFor, ReadyFor, NextStands};
+ghost use Rattle.refcount_laws.specs.Run.{ReadyAlong, RunStands, wider};
 ghost use Rattle.ll_code.specs.Typed.{IsWellTyped, operation_ok, field_of, items_of};
 ghost use Rattle.ll_code.specs.declared.program.LlType.{LlType};
 ghost use Rattle.refcount_transform.specs.declared.plan.Held.{Held};
@@ -79,4 +84,19 @@ pub fn calls_are_followed()
 pub fn slots_are_followed()
     ensures clear { (p : LlProgram) → IsWellTyped p → leads_to_roots p ≡ true → (args : List (List ℕ)) (types : List LlType) (own : Value → ℕ) (ops rest : List LlOp) (e ex : LlExit) (frames : List Frame) (b at : ℕ) (core qcore : Core) (g : Ghost) (h : List (Option Block)) → SlotLeads p core (plan_of p).slots.kind core.exc_type → SlotLeads p core (plan_of p).slots.value core.exc_value → Before p types (λ r. slot_hits (plan_of p) core.exc_type core.exc_value r + own r) op.ExcClear ops e core qcore g h → IsFollowed p args types own op.ExcClear ops rest e ex frames b at core qcore g h }
     ensures set { (p : LlProgram) → IsWellTyped p → leads_to_roots p ≡ true → (args : List (List ℕ)) (types : List LlType) (own : Value → ℕ) (ops rest : List LlOp) (e ex : LlExit) (frames : List Frame) (b at : ℕ) (core qcore : Core) (g : Ghost) (h : List (Option Block)) (x y : ℕ) → var_referred (around_of (plan_of p) types) x ≡ (plan_of p).slots.kind → var_referred (around_of (plan_of p) types) y ≡ (plan_of p).slots.value → SlotLeads p core (plan_of p).slots.kind core.exc_type → SlotLeads p core (plan_of p).slots.value core.exc_value → Roomy g 2 → Before p types (λ r. slot_hits (plan_of p) core.exc_type core.exc_value r + own r) (op.ExcSet x y) ops e core qcore g h → IsFollowed p args types (λ r. slot_hits (plan_of p) (read core.vars x) (read core.vars y) r + own r) (op.ExcSet x y) ops rest e ex frames b at core qcore g h }
+{}
+
+/// A step of a program is followed in the counted one, where the one state stands for the other and is
+/// ready: operations, calls, graphs that are entered, returns, exits and endings. The counted program
+/// comes, some steps on, to a state that stands for the next one, with the same output, the same block
+/// made with two cells more, and counts that are right for what is owned then.
+pub fn steps_are_followed()
+    ensures { (p : LlProgram) → IsWellTyped p → leads_to_roots p ≡ true → ReadsInputs p → (args : List (List ℕ)) (calls : List Call) (others : List Frame) (s t : State) (g : Ghost) (h : List (Option Block)) → StandsFor p calls others s t g h → ReadyFor p calls s g → NextStands p args t (step p args s) }
+{}
+
+/// So is a run, for as many steps as each state is ready: the counted program comes to the same ending,
+/// with the same output and steps left, or to a state that stands for the one that the program comes
+/// to; the same blocks are made.
+pub fn runs_are_followed()
+    ensures { (p : LlProgram) → IsWellTyped p → leads_to_roots p ≡ true → ReadsInputs p → (args : List (List ℕ)) (k : ℕ) (calls : List Call) (others : List Frame) (s t : State) (g : Ghost) (h : List (Option Block)) (text : List ℕ) (events told : List Event) → StandsFor p calls others s t g h → ReadyAlong p args k s → made_in events ≡ map wider (made_in told) → RunStands p args t text events (run p args k s text told) }
 {}
