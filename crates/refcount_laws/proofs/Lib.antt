@@ -50,3 +50,4 @@ pub mod Calling
 pub mod Keeping
 pub mod Stepping
 pub mod Running
+pub mod Beginning
