@@ -166,13 +166,14 @@ module _ (p : LlProgram) (based : Based p.structs) (counting : Counting (counted
   all_lead : (uses : ℕ → Bool) (most : Value → ℕ) → ((r : Value) → owned around uses core.vars r ≤ most r) → Pointing p types core.blocks core.statics uses core.vars → (xs : List COperand) → ((w : ℕ) → among w (variables_in xs) ≡ true → uses w ≡ true) → AllPoint p types core xs
       → OperandsLead q around g most core.vars xs
   all_lead uses most more pointing [] used points = tt
-  all_lead uses most more pointing (x ∷ xs) used points =
-      (record {
-        root = λ n r. (points.0 n r).0;
-        leads = λ n r. value_leads p based counting args types roots core.blocks core.statics g stands.near n (operand core.vars x) (marked x n r) (points.0 n r).0 (points.0 n r).1;
-        owned = λ n a r i. owned_by p based counting args types roots own frames core qcore fits uses g h stands pointing most more x n a (λ w m. used w (first x w m)) r i;
-      },
-      all_lead uses most more pointing xs (λ w m. used w (later x w m)) points.1)
+  all_lead uses most more pointing (x ∷ xs) used points = (
+    record {
+      root = λ n r. (points.0 n r).0;
+      leads = λ n r. value_leads p based counting args types roots core.blocks core.statics g stands.near n (operand core.vars x) (marked x n r) (points.0 n r).0 (points.0 n r).1;
+      owned = λ n a r i. owned_by p based counting args types roots own frames core qcore fits uses g h stands pointing most more x n a (λ w m. used w (first x w m)) r i;
+    },
+    all_lead uses most more pointing xs (λ w m. used w (later x w m)) points.1,
+  )
     where
       marked : (x : COperand) (n : ℕ) → operand_referred around x ≡ Some n → Rattle.refcount_transform.specs.Plan.is_counted plan n ≡ true
       marked (Var v) n r = given_marked plan.counted (slice_get types v) n r
@@ -203,7 +204,7 @@ module _ (p : LlProgram) (based : Based p.structs) (counting : Counting (counted
   calls : (o : LlOp) (f : ℕ) (into : Option ℕ) (xs : List COperand) (others : List LlType) → changed around o (dead around (touched o) ops e rest) ≡ ups around xs (o ∷ dead around (touched o) ops e rest) → ((w : ℕ) → among w (variables_in xs) ≡ true → live (o ∷ ops) e w ≡ true)
       → ((r : Value) → all_hits around core.vars xs r ≡ given_to (around_of plan others) 0 (operands core.vars xs) r)
       → ((at : ℕ) (h : List (Option Block)) (s : List Block) → step q args (At (o ∷ dead around (touched o) ops e rest) ex frames (here qcore core.function b at core.vars h s))
-          ≡ Goes (Calling f (operands core.vars xs) (waiting (here qcore core.function b at core.vars h s) into (dead around (touched o) ops e rest) ex ∷ frames) (here qcore core.function b at core.vars h s)))
+      ≡ Goes (Calling f (operands core.vars xs) (waiting (here qcore core.function b at core.vars h s) into (dead around (touched o) ops e rest) ex ∷ frames) (here qcore core.function b at core.vars h s)))
       → Pointing p types core.blocks core.statics (live (o ∷ ops) e) core.vars → AllPoint p types core xs → Roomy g (length xs + 0) → IsCounted q counts_ g (λ r. owned around (live (o ∷ ops) e) core.vars r + own r)
       → ComesToCall p args (λ r. given_to (around_of plan others) 0 (operands core.vars xs) r + (owned around (live (o ∷ ops) e) core.vars r + own r)) (At (changed around o (dead around (touched o) ops e rest)) ex frames (here qcore core.function b at core.vars h (memory g))) f (operands core.vars xs) into (dead around (touched o) ops e rest) ex b frames core
   calls o f into xs others is used same moves pointing points room counts =
@@ -247,10 +248,16 @@ module _ (p : LlProgram) (based : Based p.structs) (counting : Counting (counted
       by : (y : Bool) → any_unset (operands core.vars xs) ≡ y → Entered (op.Call into f xs) into (cond y (Sticks IsUnset) (Goes (Calling f (operands core.vars xs) (waiting core into ops e ∷ waiters) core)))
       by true y = tt
       by false y =
-          let w : (graph : LlGraph) × (slice_get p.graphs f ≡ Some graph) × (all_given p types graph.types graph.params xs ≡ true) = at_graph (slice_get p.graphs f) refl ok in
-          (f, operands core.vars xs, w.0, w.1, refl, calls (op.Call into f xs) f into xs w.0.types refl (λ w m. in_call xs w m _) (λ r. given_same p types w.0.types 0 w.0.params xs core.vars r (params w.0 w.1) w.2)
-          (λ at h s. ap (λ y. cond y (Sticks IsUnset) (Goes (Calling f (operands core.vars xs) (waiting (here qcore core.function b at core.vars h s) into (dead around (touched (op.Call into f xs)) ops e rest) ex ∷ frames) (here qcore core.function b at core.vars h s)))) y)
-          pointing points room counts)
+          let w : (graph : LlGraph) × (slice_get p.graphs f ≡ Some graph) × (all_given p types graph.types graph.params xs ≡ true) = at_graph (slice_get p.graphs f) refl ok in (
+            f,
+            operands core.vars xs,
+            w.0,
+            w.1,
+            refl,
+            calls (op.Call into f xs) f into xs w.0.types refl (λ w m. in_call xs w m _) (λ r. given_same p types w.0.types 0 w.0.params xs core.vars r (params w.0 w.1) w.2)
+                (λ at h s. ap (λ y. cond y (Sticks IsUnset) (Goes (Calling f (operands core.vars xs) (waiting (here qcore core.function b at core.vars h s) into (dead around (touched (op.Call into f xs)) ops e rest) ex ∷ frames) (here qcore core.function b at core.vars h s)))) y)
+                pointing points room counts,
+          )
 
   pub call_fn_followed : (into : Option ℕ) (result : LlType) (params : List LlType) (v : ℕ) (xs : List COperand) → operation_ok p types (op.CallFn into result params v xs) ≡ true
       → ((f : ℕ) (graph : LlGraph) → slice_get p.graphs f ≡ Some graph → params_ok p graph.types 0 graph.params ≡ true) → Pointing p types core.blocks core.statics (live (op.CallFn into result params v xs ∷ ops) e) core.vars
@@ -277,14 +284,20 @@ module _ (p : LlProgram) (based : Based p.structs) (counting : Counting (counted
       found : (f : ℕ) → fun_of (read core.vars v) ≡ Some f → (is_unset (read core.vars v) || any_unset values) ≡ false → (graph : LlGraph) → slice_get p.graphs f ≡ Some graph → (y : Bool) → (same_result (c_result graph.result) (c_result result) && same_types (param_types graph) (map c_type params)) ≡ y
           → Entered o into (cond y (Goes (Calling f values (waiting core into ops e ∷ waiters) core)) (Sticks Signature))
       found f is_fun y graph there false same = tt
-      found f is_fun y graph there true same =
-          (f, values, graph, there, refl, calls o f into xs graph.types refl (λ w m. in_call_fn w m)
-          (λ r. taken_same p types graph.types 0 graph.params params xs core.vars r (named f graph there) (and_right _ _ same) (and_right _ _ ok))
-          (λ at h s. ap (λ y. cond y (Sticks IsUnset) (called_value q (c_result result) (map c_type params) (fun_of (read core.vars v)) values (waiting (mine at h s) into behind ex ∷ frames) (mine at h s))) y
-          ∙ ap (λ o. called_value q (c_result result) (map c_type params) o values (waiting (mine at h s) into behind ex ∷ frames) (mine at h s)) is_fun
-          ∙ ap (called_as (c_result result) (map c_type params) f values (waiting (mine at h s) into behind ex ∷ frames) (mine at h s)) (graph_placed p f graph there)
-          ∙ ap (λ y. cond y (Goes (Calling f values (waiting (mine at h s) into behind ex ∷ frames) (mine at h s))) (Sticks Signature)) same)
-          pointing points room counts)
+      found f is_fun y graph there true same = (
+        f,
+        values,
+        graph,
+        there,
+        refl,
+        calls o f into xs graph.types refl (λ w m. in_call_fn w m)
+            (λ r. taken_same p types graph.types 0 graph.params params xs core.vars r (named f graph there) (and_right _ _ same) (and_right _ _ ok))
+            (λ at h s. ap (λ y. cond y (Sticks IsUnset) (called_value q (c_result result) (map c_type params) (fun_of (read core.vars v)) values (waiting (mine at h s) into behind ex ∷ frames) (mine at h s))) y
+            ∙ ap (λ o. called_value q (c_result result) (map c_type params) o values (waiting (mine at h s) into behind ex ∷ frames) (mine at h s)) is_fun
+            ∙ ap (called_as (c_result result) (map c_type params) f values (waiting (mine at h s) into behind ex ∷ frames) (mine at h s)) (graph_placed p f graph there)
+            ∙ ap (λ y. cond y (Goes (Calling f values (waiting (mine at h s) into behind ex ∷ frames) (mine at h s))) (Sticks Signature)) same)
+            pointing points room counts,
+      )
         where
           in_call_fn : (w : ℕ) → among w (variables_in xs) ≡ true → live (o ∷ ops) e w ≡ true
           in_call_fn w m = ap (λ b. b || (not (Rattle.ll_live.specs.Live.sets into w) && live ops e w)) (later (v == w) (among w (variables_in xs)) m)

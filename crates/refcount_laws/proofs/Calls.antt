@@ -26,7 +26,6 @@ use Rattle.ll_live.specs.Live.{exit_reads}
 use Rattle.refcount_laws.proofs.Accounts.{among_both}
 use Rattle.refcount_laws.proofs.Accounts.{given_owned}
 use Rattle.refcount_laws.proofs.Cells.{set_here, set_other, set_length}
-
 use Rattle.refcount_laws.proofs.Dead.{same_is, differ_is, dead_run}
 use Rattle.refcount_laws.proofs.Following.{near_kept, value_leads}
 use Rattle.refcount_laws.proofs.Following.{vars_lead}
@@ -125,7 +124,7 @@ module _ (p : LlProgram) (based : Based p.structs) (counting : Counting (counted
     pub enter_comes : (core qcore : Core) (g : Ghost) (h : List (Option Block)) → length vars ≡ length types → Stands p core (record qcore { blocks = h; statics = memory g }) g h → Pointing p types core.blocks core.statics (λ w. among w block.inputs) vars
         → IsCounted q c g (λ r. given_to around 0 values r + own r)
         → Comes p args types (live block.ops block.exit) own (Calling f values frames (record qcore { blocks = h; statics = memory g })) (ops_of around block.ops block.exit) (exit_of around next block.exit) frames 0
-            (record core { function = f; block = 0; at = 0; vars = vars })
+        (record core { function = f; block = 0; at = 0; vars = vars })
     enter_comes core qcore g h long stands pointing counts =
         let from : State = Calling f values frames (record qcore { blocks = h; statics = memory g }) in
         let begun : State = At (dead around block.inputs block.ops block.exit (ops_of around block.ops block.exit)) (exit_of around next block.exit) frames (here qcore f 0 0 vars h (memory g)) in
@@ -175,7 +174,7 @@ module _ (p : LlProgram) (based : Based p.structs) (counting : Counting (counted
         → ((n : ℕ) → reference_given plan.counted (Some result) ≡ Some n → PointsTo p core.blocks core.statics n value) → ((m : ℕ) → value ≡ Ptr m → (n : ℕ) × (reference_given plan.counted (Some result) ≡ Some n))
         → IsCounted q c g (λ r. hits_by (reference_given plan.counted (Some result)) value r + (owned around (live (o ∷ ops) e) frame.vars r + own r))
         → Comes p args types (live ops e) own (Returning value (waits_at at ∷ frames) (record qcore { blocks = h; statics = memory g })) (ops_of around ops e) (exit_of around next e) frames frame.block
-            (record (resumed frame core) { vars = taken_by frame.vars frame.into value })
+        (record (resumed frame core) { vars = taken_by frame.vars frame.into value })
     return_to core qcore g h at value stands pointing typed dropped unread points refers counts = by frame.into refl
       where
         from : State
@@ -186,7 +185,7 @@ module _ (p : LlProgram) (based : Based p.structs) (counting : Counting (counted
 
         before : (to : List Value) → step q args from ≡ Goes (At (waits_at at).ops (waits_at at).exit frames (here qcore frame.graph frame.block at to h (memory g)))
             → Comes p args types (live ops e) own (At (waits_at at).ops (waits_at at).exit frames (here qcore frame.graph frame.block at to h (memory g))) (ops_of around ops e) (exit_of around next e) frames frame.block
-                (record first { vars = to })
+            (record first { vars = to })
             → Comes p args types (live ops e) own from (ops_of around ops e) (exit_of around next e) frames frame.block (record first { vars = to })
         before to moves x = record {
           qcore = x.qcore;

@@ -323,12 +323,16 @@ module _ (p : LlProgram) (based : Based p.structs) (counting : Counting (counted
 
               told : (o : Option (List ℕ)) → bytes_of block.items ≡ o → LeavesBy state (goes_on (At [] (exit.Raised a) waiting) (raised_as core o))
               told None u = tt
-              told (Some name) u =
-                  (state, mine, stays q args state,
-                  ap (λ o. goes_on (At [] (exit.Raised a) frames) (raised mine (shapes_of q.structs) (type_in o a) (read core.vars a))) (graph_placed p core.function graph at_graph)
-                  ∙ ap (λ o. goes_on (At [] (exit.Raised a) frames) (raised mine (shapes_of q.structs) (Rattle.std.specs.Prelude.option_map c_type o) (read core.vars a))) e
-                  ∙ ap (λ r. goes_on (At [] (exit.Raised a) frames) (on_block (λ block. raised_as mine (bytes_of block.items)) r)) (reached_ok q args mine n (read core.vars a) seen.other (set (read core.vars a) f) seen.found seen.of)
-                  ∙ ap (λ o. goes_on (At [] (exit.Raised a) frames) (raised_as mine o)) (bytes_same block.items seen.other.items seen.size seen.item name u), stands.steps)
+              told (Some name) u = (
+                state,
+                mine,
+                stays q args state,
+                ap (λ o. goes_on (At [] (exit.Raised a) frames) (raised mine (shapes_of q.structs) (type_in o a) (read core.vars a))) (graph_placed p core.function graph at_graph)
+                    ∙ ap (λ o. goes_on (At [] (exit.Raised a) frames) (raised mine (shapes_of q.structs) (Rattle.std.specs.Prelude.option_map c_type o) (read core.vars a))) e
+                    ∙ ap (λ r. goes_on (At [] (exit.Raised a) frames) (on_block (λ block. raised_as mine (bytes_of block.items)) r)) (reached_ok q args mine n (read core.vars a) seen.other (set (read core.vars a) f) seen.found seen.of)
+                    ∙ ap (λ o. goes_on (At [] (exit.Raised a) frames) (raised_as mine o)) (bytes_same block.items seen.other.items seen.size seen.item name u),
+                stands.steps,
+              )
 
           typed : (o : Option LlType) → slice_get types a ≡ o → names_chars p.structs o ≡ true → LeavesBy state (goes_on (At [] (exit.Raised a) waiting) (raised core (shapes_of p.structs) (Rattle.std.specs.Prelude.option_map c_type (slice_get types a)) (read core.vars a)))
           typed None e ok = absurd (cc)
@@ -349,7 +353,13 @@ module _ (p : LlProgram) (based : Based p.structs) (counting : Counting (counted
     return_leaves None ok lead point room pointing counts =
         let w : GivesBack p args Unset own (at_ [] (exit.Return None) b at h (memory g)) frames core = nothing_comes p based counting args types roots own frames core qcore fits g h b at stands counts in
         record {
-          qcore = w.qcore; g = w.g; h = w.h; b = w.b; at = w.at; stands = w.stands; leads = w.leads;
+          qcore = w.qcore;
+          g = w.g;
+          h = w.h;
+          b = w.b;
+          at = w.at;
+          stands = w.stands;
+          leads = w.leads;
           counts = own_same q args c w.g own (λ r. hits_by (reference_given plan.counted (Some graph.result)) Unset r + own r) (λ r. (let z : own r ≡ 0 + own r = omega arith in z) ∙ ap (λ n. n + own r) (sym (nothing (reference_given plan.counted (Some graph.result)) r))) w.counts;
         }
       where
@@ -383,7 +393,13 @@ module _ (p : LlProgram) (based : Based p.structs) (counting : Counting (counted
             let w : GivesBack p args (operand core.vars x) (λ r. operand_hits around core.vars x r + own r) from frames core =
             return_comes p based counting args types roots own frames core qcore fits x g h b at stands (leading, tt) room e counts in
             record {
-              qcore = w.qcore; g = w.g; h = w.h; b = w.b; at = w.at; stands = w.stands; leads = w.leads;
+              qcore = w.qcore;
+              g = w.g;
+              h = w.h;
+              b = w.b;
+              at = w.at;
+              stands = w.stands;
+              leads = w.leads;
               counts = own_same q args c w.g (λ r. operand_hits around core.vars x r + own r) (λ r. hits_by (reference_given plan.counted (Some graph.result)) (operand core.vars x) r + own r)
                   (λ r. ap (λ n. n + own r) (result_taken p types graph.result x core.vars r ok)) w.counts;
             }

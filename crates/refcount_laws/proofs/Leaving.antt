@@ -246,15 +246,16 @@ module _ (p : LlProgram) (based : Based p.structs) (counting : Counting (counted
         let y : Value = operand core.vars x in
         let t : given_takes p types (slice_get types v) x ≡ true = and_left _ _ ok in
         let lt : v < length vars = (let l : v < length types = inside_at p types v x t in omega (arith, l, long)) in
-        let is : read (set_all (slice_set vars v y) vs (operands core.vars xs)) v ≡ y = all_here vars v vs y (operands core.vars xs) lt (not_true (among v vs) (and_left _ _ apart)) in
-        (record {
-          root = λ n e. roots v n (refers_at p types v x n t e);
-          leads = λ n e. (let f : var_referred around v ≡ Some n = refers_at p types v x n t e in
-          value_leads p based counting args types roots core.blocks core.statics g stands.near n y (given_marked plan.counted (slice_get types v) n f) (roots v n f) (subst (PointsTo p core.blocks core.statics n) is (at.at v n (ap (λ b. b || among v vs) (same_is v)) f)));
-          owned = λ n a e i. owned_by x n a (λ w m. used w (first_in x xs w m)) e i;
-        },
-        inputs_lead vs xs (slice_set vars v y) (and_right _ _ ok) (and_right _ _ apart) (set_length vars v y ∙ long) (λ w m. used w (later_in x xs w m))
-        (record { at = λ w n u e. at.at w n (behind (v == w) (among w vs) u) e; refers = λ w a u e. at.refers w a (behind (v == w) (among w vs) u) e }))
+        let is : read (set_all (slice_set vars v y) vs (operands core.vars xs)) v ≡ y = all_here vars v vs y (operands core.vars xs) lt (not_true (among v vs) (and_left _ _ apart)) in (
+          record {
+            root = λ n e. roots v n (refers_at p types v x n t e);
+            leads = λ n e. (let f : var_referred around v ≡ Some n = refers_at p types v x n t e in
+                value_leads p based counting args types roots core.blocks core.statics g stands.near n y (given_marked plan.counted (slice_get types v) n f) (roots v n f) (subst (PointsTo p core.blocks core.statics n) is (at.at v n (ap (λ b. b || among v vs) (same_is v)) f)));
+            owned = λ n a e i. owned_by x n a (λ w m. used w (first_in x xs w m)) e i;
+          },
+          inputs_lead vs xs (slice_set vars v y) (and_right _ _ ok) (and_right _ _ apart) (set_length vars v y ∙ long) (λ w m. used w (later_in x xs w m))
+              (record { at = λ w n u e. at.at w n (behind (v == w) (among w vs) u) e; refers = λ w a u e. at.refers w a (behind (v == w) (among w vs) u) e }),
+        )
       where
         behind : (b c : Bool) → c ≡ true → (b || c) ≡ true
         behind true c e = refl

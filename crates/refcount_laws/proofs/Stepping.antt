@@ -328,8 +328,13 @@ module _ (p : LlProgram) (ok : IsWellTyped p) (leads : leads_to_roots p ≡ true
 
       one : (o : Option _) → word_of value ≡ o → NextStands p args (Returning value [] (record both.qcore { blocks = h; statics = memory g })) (goes_on (Returning value []) (Rattle.csub_tree.specs.Statement.on (λ n. Over (Rattle.rpy_base.specs.declared.outcome.Outcome.TheVariants.Returned n) (record core { vars = [] })) o))
       one None e = tt
-      one (Some n) e = (Returning value [] (record both.qcore { blocks = h; statics = memory g }), record both.qcore { blocks = h; statics = memory g; vars = [] }, stays (counted p) args (Returning value [] (record both.qcore { blocks = h; statics = memory g })),
-        ap (λ o. goes_on (Returning value []) (Rattle.csub_tree.specs.Statement.on (λ n. Over (Rattle.rpy_base.specs.declared.outcome.Outcome.TheVariants.Returned n) (record both.qcore { blocks = h; statics = memory g; vars = [] })) o)) e, both.stands.steps)
+      one (Some n) e = (
+        Returning value [] (record both.qcore { blocks = h; statics = memory g }),
+        record both.qcore { blocks = h; statics = memory g; vars = [] },
+        stays (counted p) args (Returning value [] (record both.qcore { blocks = h; statics = memory g })),
+        ap (λ o. goes_on (Returning value []) (Rattle.csub_tree.specs.Statement.on (λ n. Over (Rattle.rpy_base.specs.declared.outcome.Outcome.TheVariants.Returned n) (record both.qcore { blocks = h; statics = memory g; vars = [] })) o)) e,
+        both.stands.steps,
+      )
   ending (call ∷ calls) others value core s g h both = absurd both.waits
   ending [] (other ∷ others) value core s g h both = absurd both.waits
 
@@ -396,10 +401,10 @@ module _ (p : LlProgram) (ok : IsWellTyped p) (leads : leads_to_roots p ≡ true
       where
         one : (y : Bool)
             → Follows p args both.graph.types (live ops e) (λ r. Rattle.refcount_laws.specs.Slots.slot_hits (plan_of p) (read core.vars a) (read core.vars b) r + waits_own p calls frames r)
-                (At (ops_of (around_of (plan_of p) both.graph.types) (op.ExcSet a b ∷ ops) e) (exit_of (around_of (plan_of p) both.graph.types) both.next e) others (here both.qcore core.function core.block both.at core.vars h (memory g)))
-                (ops_of (around_of (plan_of p) both.graph.types) ops e) (exit_of (around_of (plan_of p) both.graph.types) both.next e) others core.block (cond y (Stuck IsUnset) (Onward (record core { at = core.at + 1; exc_type = read core.vars a; exc_value = read core.vars b })))
+            (At (ops_of (around_of (plan_of p) both.graph.types) (op.ExcSet a b ∷ ops) e) (exit_of (around_of (plan_of p) both.graph.types) both.next e) others (here both.qcore core.function core.block both.at core.vars h (memory g)))
+            (ops_of (around_of (plan_of p) both.graph.types) ops e) (exit_of (around_of (plan_of p) both.graph.types) both.next e) others core.block (cond y (Stuck IsUnset) (Onward (record core { at = core.at + 1; exc_type = read core.vars a; exc_value = read core.vars b })))
             → NextStands p args (At (ops_of (around_of (plan_of p) both.graph.types) (op.ExcSet a b ∷ ops) e) (exit_of (around_of (plan_of p) both.graph.types) both.next e) others (here both.qcore core.function core.block both.at core.vars h (memory g)))
-                (goes_on (At ops e frames) (cond y (Stuck IsUnset) (Onward (record core { at = core.at + 1; exc_type = read core.vars a; exc_value = read core.vars b }))))
+            (goes_on (At ops e frames) (cond y (Stuck IsUnset) (Onward (record core { at = core.at + 1; exc_type = read core.vars a; exc_value = read core.vars b }))))
         one true x = tt
         one false x =
             comes_for p args calls others frames both.graph (λ r. Rattle.refcount_laws.specs.Slots.slot_hits (plan_of p) (read core.vars a) (read core.vars b) r + waits_own p calls frames r)

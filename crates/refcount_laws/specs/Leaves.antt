@@ -105,6 +105,6 @@ abbrev pub EntersBy : LlProgram → List (List ℕ) → List LlType → (Value �
 EntersBy p args types own o ops rest e ex b at waits frames core qcore g h into (Goes state) =
     (f : ℕ) × (values : List Value) × (graph : LlGraph) × (slice_get p.graphs f ≡ Some graph) × (state ≡ Calling f values (waiting core into ops e ∷ waits) core)
     × ComesToCall p args (λ r. given_to (around_of (plan_of p) graph.types) 0 values r + (owned (around_of (plan_of p) types) (live (o ∷ ops) e) core.vars r + own r))
-        (At (changed (around_of (plan_of p) types) o (dead (around_of (plan_of p) types) (touched o) ops e rest)) ex frames (here qcore core.function b at core.vars h (memory g))) f values into (dead (around_of (plan_of p) types) (touched o) ops e rest) ex b frames core
+    (At (changed (around_of (plan_of p) types) o (dead (around_of (plan_of p) types) (touched o) ops e rest)) ex frames (here qcore core.function b at core.vars h (memory g))) f values into (dead (around_of (plan_of p) types) (touched o) ops e rest) ex b frames core
 EntersBy p args types own o ops rest e ex b at waits frames core qcore g h into (Sticks reason) = Unit {0}
 EntersBy p args types own o ops rest e ex b at waits frames core qcore g h into other = ⊥
