@@ -52,3 +52,4 @@ pub mod Stepping
 pub mod Running
 pub mod Beginning
 pub mod Starting
+pub mod Meaning
