@@ -8,7 +8,7 @@ use Rattle.refcount_laws.specs.Ghost.{Ghost}
 use Rattle.refcount_laws.specs.Whole.{StandsFor}
 use Rattle.refcount_laws.specs.Run.{wider}
 
--- the run of the counted program ends the same way, with the same output and steps paid, and makes the same blocks, two cells larger
+-- the run of the counted program ends the same way, with the same output and steps paid, and makes the same blocks, two cells larger; it ends in no other way
 pub record SameMeaning (p : LlProgram) (args : List (List ℕ)) (steps : ℕ) (m : Meant) : Type 0 where
   pub other : Meant
   pub means : LMeans (counted p) args steps other
@@ -16,6 +16,7 @@ pub record SameMeaning (p : LlProgram) (args : List (List ℕ)) (steps : ℕ) (m
   pub output : other.output ≡ m.output
   pub paid : other.paid ≡ m.paid
   pub made : other.made ≡ map wider m.made
+  pub only : (last : Meant) → LMeans (counted p) args steps last → last ≡ other
 
 -- where it starts stands for where its program does
 pub record Starts (p : LlProgram) (steps : ℕ) : Type 0 where

@@ -104,7 +104,8 @@ pub fn runs_are_followed()
 
 /// A counted program means what its program does, for arguments and a number of steps with which each
 /// state of the run is ready and the run ends: it ends the same way, with the same output and steps
-/// paid, and makes the same blocks, each two cells larger. Where it starts, counts are right: each
+/// paid, and makes the same blocks, each two cells larger; with no bound on the steps of the machine
+/// does it end otherwise, so it is not stuck there. Where it starts, counts are right: each
 /// static that is counted has a count of one, and there are no blocks.
 pub fn counted_programs_mean_the_same()
     ensures starts { (p : LlProgram) → IsWellTyped p → (steps : ℕ) → Starts p steps }
