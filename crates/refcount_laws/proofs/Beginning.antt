@@ -63,7 +63,7 @@ module _ (p : LlProgram) (based : Based p.structs) (n0 : ℕ) where
   unfolding cells_within
   within_zero kind cells e = cc
 
-  within_suc : (k kind : ℕ) (cells : Cells) → cells_within p n0 (suc k) kind cells ≡ true → shaped_ok p n0 (cells_within p n0 k) (slice_get p.structs kind) cells ≡ true
+  pub within_suc : (k kind : ℕ) (cells : Cells) → cells_within p n0 (suc k) kind cells ≡ true → shaped_ok p n0 (cells_within p n0 k) (slice_get p.structs kind) cells ≡ true
   unfolding cells_within
   within_suc k kind cells e = e
 

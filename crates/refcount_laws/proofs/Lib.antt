@@ -51,3 +51,5 @@ pub mod Keeping
 pub mod Stepping
 pub mod Running
 pub mod Beginning
+pub mod Starting
+pub mod Meaning

@@ -13,3 +13,4 @@ pub mod Touched
 pub mod Leaves
 pub mod Whole
 pub mod Run
+pub mod Means

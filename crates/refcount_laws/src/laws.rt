@@ -3,15 +3,16 @@ ghost use Rattle.std.specs.Prelude.{◌≡◌, ◌≢◌, ◌<◌, ℕ, suc, ◌
 ghost use Rattle.csub_tree.specs.State.{Value, Ptr, Static, Block, Core, Event};
 ghost use Rattle.csub_tree.specs.Layout.{shape_at, place, begins_with};
 ghost use Rattle.csub_tree.specs.Statement.{operand, read, fun_of};
-ghost use Rattle.ll_code.specs.Machine.{shapes_of, step};
+ghost use Rattle.ll_code.specs.Machine.{shapes_of, start, step};
 ghost use Rattle.ll_code.specs.declared.program.LlStruct.{LlStruct};
 ghost use Rattle.csub_tree.specs.declared.tree.COperand.{COperand};
 ghost use Rattle.ll_code.specs.State.{Frame, State, At};
-ghost use Rattle.ll_code.specs.Meaning.{run};
+ghost use Rattle.ll_code.specs.Meaning.{Meant, run, within, comes};
 ghost use Rattle.csub_tree.specs.Meaning.{made_in};
 ghost use Rattle.ll_held.specs.Quiet.{ReadsInputs};
 ghost use Rattle.refcount_laws.specs.Whole.{Call, StandsFor, ReadyFor, NextStands};
 ghost use Rattle.refcount_laws.specs.Run.{ReadyAlong, RunStands, wider};
+ghost use Rattle.refcount_laws.specs.Means.{SameMeaning, Starts};
 ghost use Rattle.ll_code.specs.Typed.{IsWellTyped, operation_ok, field_of, items_of};
 ghost use Rattle.ll_code.specs.declared.program.LlType.{LlType};
 ghost use Rattle.refcount_transform.specs.declared.plan.Held.{Held};
@@ -99,4 +100,14 @@ pub fn steps_are_followed()
 /// to; the same blocks are made.
 pub fn runs_are_followed()
     ensures { (p : LlProgram) → IsWellTyped p → leads_to_roots p ≡ true → ReadsInputs p → (args : List (List ℕ)) (k : ℕ) (calls : List Call) (others : List Frame) (s t : State) (g : Ghost) (h : List (Option Block)) (text : List ℕ) (events told : List Event) → StandsFor p calls others s t g h → ReadyAlong p args k s → made_in events ≡ map wider (made_in told) → RunStands p args t text events (run p args k s text told) }
+{}
+
+/// A counted program means what its program does, for arguments and a number of steps with which each
+/// state of the run is ready and the run ends: it ends the same way, with the same output and steps
+/// paid, and makes the same blocks, each two cells larger; with no bound on the steps of the machine
+/// does it end otherwise, so it is not stuck there. Where it starts, counts are right: each
+/// static that is counted has a count of one, and there are no blocks.
+pub fn counted_programs_mean_the_same()
+    ensures starts { (p : LlProgram) → IsWellTyped p → (steps : ℕ) → Starts p steps }
+    ensures means { (p : LlProgram) → IsWellTyped p → leads_to_roots p ≡ true → ReadsInputs p → (args : List (List ℕ)) (steps k : ℕ) (m : Meant) → ReadyAlong p args k (start p steps) → within p args steps k ≡ Some m → comes m.ending → SameMeaning p args steps m }
 {}
