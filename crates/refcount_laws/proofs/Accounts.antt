@@ -1,15 +1,15 @@
 -- What variables own across an operation and across an exit.
-use Rattle.std.proofs.Common.{◌≡◌, ◌≢◌, ◌⊎◌, inl, inr, ⊎_elim, ◌<◌, ◌≤◌, ℕ, zero, suc, ◌+◌, Bool, true, false, not, ◌&&◌, ◌||◌, List, [], ◌∷◌, ◌++◌, length, Option, Some, None, refl, sym, ap, ◌∙◌, subst, arith}
-use Rattle.std.specs.Prelude.{◌==◌, slice_get, slice_set, is_some}
+use Rattle.std.proofs.Common.{◌≡◌, ◌≢◌, ⊎_elim, ◌<◌, ℕ, suc, ◌+◌, Bool, true, false, not, ◌&&◌, ◌||◌, List, [], ◌∷◌, ◌++◌, length, Option, Some, None, refl, sym, ap, ◌∙◌, subst, arith}
+use Rattle.std.specs.Prelude.{◌==◌, slice_set, is_some}
 use Rattle.csub_tree.specs.State.{Value, Unset}
-use Rattle.csub_tree.specs.Statement.{read, operand}
+use Rattle.csub_tree.specs.Statement.{read}
 use Rattle.csub_tree.specs.declared.tree.COperand.{COperand}
 use Rattle.csub_tree.specs.declared.tree.COperand.TheVariants.{Var, Const}
 use Rattle.ll_code.specs.declared.program.LlOp.{LlOp}
 use Rattle.ll_code.specs.declared.program.LlExit.{LlExit}
-use Rattle.ll_live.specs.Live.{among, variables_of, variables_in, reads, set_by, sets, live}
+use Rattle.ll_live.specs.Live.{among, variables_in, reads, set_by, sets, live}
 use Rattle.ll_held.specs.Roots.{kept}
-use Rattle.refcount_transform.specs.Changes.{Around, var_referred, operand_referred, variable_set, touched, is_given_later}
+use Rattle.refcount_transform.specs.Changes.{Around, var_referred, variable_set, touched}
 use Rattle.refcount_laws.specs.Ghost.{hit, occurs}
 use Rattle.refcount_laws.specs.Owned.{owns, owned, hits_by, operand_hits, all_hits, given_hits_if, given_hits}
 use Rattle.refcount_laws.proofs.Cells.{set_here, set_length}

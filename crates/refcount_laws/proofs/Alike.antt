@@ -1,12 +1,11 @@
 -- Structs begin with the same structs once they are counted, and their fields stand behind the count and the release.
-use Rattle.std.proofs.Common.{◌≡◌, ◌≢◌, ◌⊎◌, inl, inr, ⊎_elim, ◌<◌, ◌≤◌, ℕ, zero, suc, ◌+◌, ◌-◌, Bool, true, false, ◌&&◌, List, [], ◌∷◌, length, Option, Some, None, refl, sym, ap, ◌∙◌, subst, arith}
+use Rattle.std.proofs.Common.{◌≡◌, ◌<◌, ℕ, zero, suc, ◌+◌, ◌-◌, Bool, true, false, List, [], ◌∷◌, length, Option, Some, None, refl, sym, ap, ◌∙◌, arith}
 use Rattle.std.specs.Prelude.{slice_get, is_none}
-use Rattle.csub_tree.specs.Layout.{Shape, no_shape, shape_at, shape_over, base_of, is_among, begins_with, place}
+use Rattle.csub_tree.specs.Layout.{Shape, shape_at, shape_over, base_of, is_among, begins_with, place}
 use Rattle.ll_code.specs.declared.program.LlStruct.{LlStruct}
 use Rattle.ll_code.specs.declared.program.LlProgram.{LlProgram}
 use Rattle.ll_code.specs.Machine.{shapes_of}
-use Rattle.ll_code.specs.Typed as typed
-use Rattle.refcount_transform.specs.Plan.{Plan, plan_of, is_counted, base_at, has_count, shifted, behind_count}
+use Rattle.refcount_transform.specs.Plan.{Plan, plan_of, is_counted, has_count, shifted, behind_count}
 use Rattle.refcount_transform.specs.Counted.{struct_by, structs_from, structs_of}
 use Rattle.refcount_laws.specs.Made.{shapes_counted}
 use Rattle.refcount_laws.proofs.Numbers.{Based}

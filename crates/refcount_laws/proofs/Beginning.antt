@@ -1,7 +1,7 @@
 -- At first each static holds what that of the program holds, behind a count of one.
-use Rattle.std.proofs.Common.{◌≡◌, ◌<◌, ◌≤◌, ◌^◌, ℕ, zero, suc, ◌+◌, Bool, true, false, ◌&&◌, List, [], ◌∷◌, ◌++◌, length, map, take, drop, Option, Some, None, refl, sym, ap, ◌∙◌, subst, arith}
+use Rattle.std.proofs.Common.{◌≡◌, ℕ, zero, suc, true, false, ◌&&◌, List, [], ◌∷◌, ◌++◌, map, Option, Some, None, refl, sym, ap, ◌∙◌, subst}
 use Rattle.std.specs.Prelude.{slice_get, is_none, pos}
-use Rattle.csub_tree.specs.State.{Value, Word, Null, Ptr, Static, Block, Core}
+use Rattle.csub_tree.specs.State.{Word, Null}
 use Rattle.csub_tree.specs.Layout as layout
 use Rattle.csub_tree.specs.Layout.{shape_at, constant, joined, cell_constants, static_values, static_block}
 use Rattle.csub_tree.specs.Checked as checked
@@ -11,23 +11,18 @@ use Rattle.csub_tree.specs.declared.tree.CConst.TheVariants as const
 use Rattle.csub_tree.specs.declared.tree.CStatic.{CStatic}
 use Rattle.csub_tree.specs.declared.tree.CCell.{CCell, roll-CCell, map-CCell}
 use Rattle.csub_tree.specs.declared.tree.CCell.TheOpen.{CCell-F}
-use Rattle.csub_tree.specs.declared.tree.CCell.TheVariants as cell
 use Rattle.csub_tree.specs.declared.tree.CCell.TheFolds.{fold-roll-CCell, ind-CCell}
 use Rattle.ll_code.specs.declared.program.LlStruct.{LlStruct}
 use Rattle.ll_code.specs.declared.program.LlProgram.{LlProgram}
-use Rattle.ll_code.specs.Machine.{shapes_of}
 use Rattle.ll_code.specs.Typed as typed
 use Rattle.ll_code.specs.Typed.{based_ok, shaped_ok, cells_within, static_ok, statics_ok, fields_ok}
-use Rattle.ll_laws.proofs.Values.{and_left, and_right}
-use Rattle.refcount_transform.specs.Plan.{Plan, plan_of, is_counted, base_at, has_count}
+use Rattle.ll_laws.proofs.Values.{and_left}
+use Rattle.refcount_transform.specs.Plan.{Plan, plan_of, is_counted, base_at}
 use Rattle.refcount_transform.specs.Counted as made
 use Rattle.refcount_transform.specs.Counted.{as_they_are, behind_base, cells_by, first_cells, cell_step, counted_cell}
-use Rattle.refcount_laws.specs.Made.{shapes_counted}
-use Rattle.refcount_laws.specs.Ghost.{Fixed, Alone, F, shown_fixed}
 use Rattle.refcount_laws.proofs.Numbers.{Based}
 use Rattle.refcount_laws.proofs.Standing.{StructAt, marked_there}
 use Rattle.refcount_laws.proofs.Places.{counted_base, has_count_is, earlier}
-use Rattle.refcount_laws.proofs.Alike.{size_fuel}
 
 abbrev flat : List CCell → List CConst
 flat cs = joined (map cell_constants cs)

@@ -1,11 +1,11 @@
 -- Where the blocks of a counted graph stand: each at its number, and the ways of its test behind all.
-use Rattle.std.proofs.Common.{◌≡◌, ◌<◌, ℕ, zero, suc, ◌+◌, List, [], ◌∷◌, ◌++◌, length, map, Option, Some, None, refl, ap, ◌∙◌, subst, arith}
+use Rattle.std.proofs.Common.{◌≡◌, ◌<◌, ℕ, zero, suc, ◌+◌, List, [], ◌∷◌, ◌++◌, length, map, Some, refl, ap, ◌∙◌, subst, arith}
 use Rattle.std.specs.Prelude.{slice_get}
 use Rattle.ll_code.specs.declared.program.LlBlock.{LlBlock}
 use Rattle.ll_code.specs.declared.program.LlGraph.{LlGraph}
 use Rattle.ll_code.specs.declared.program.LlProgram.{LlProgram}
 use Rattle.ll_code.specs.Machine.{block_in}
-use Rattle.refcount_transform.specs.Plan.{Plan, plan_of}
+use Rattle.refcount_transform.specs.Plan.{plan_of}
 use Rattle.refcount_transform.specs.Made.{all_made}
 use Rattle.refcount_transform.specs.Changes.{Around, around_of}
 use Rattle.refcount_transform.specs.Blocks.{behind_exit, block_of, firsts, others, blocks_of, graph_of}

@@ -1,61 +1,35 @@
 -- A counted program follows its program into a graph that is called, and back out of it.
 use Rattle.refcount_laws.proofs.Operating.{typed_inside}
-use Rattle.csub_tree.specs.Operation.{flag_of, is_unset}
-use Rattle.csub_tree.specs.State.{Event}
 use Rattle.csub_tree.specs.State.{Value, Unset, Word, Byte, Flag, Fun, Null, Static, Ptr, Block, Core}
-use Rattle.csub_tree.specs.Statement.{read, operand, operands, any_unset}
-use Rattle.csub_tree.specs.declared.stuck.StuckReason.TheVariants.{Unset as IsUnset}
-use Rattle.csub_tree.specs.declared.tree.CConst.TheVariants as const
-use Rattle.csub_tree.specs.declared.tree.COperand.TheVariants.{Var, Const}
-use Rattle.csub_tree.specs.declared.tree.COperand.{COperand}
-use Rattle.ll_code.specs.Machine.{branch, leaves, gives_back}
-use Rattle.ll_code.specs.Machine.{step, jump, begins, block_in, set_all}
-use Rattle.ll_code.specs.Meaning.{run, follow}
-use Rattle.ll_code.specs.State.{Frame, State, At, Returning, Goes, Sticks, Next}
-use Rattle.ll_code.specs.Typed.{all_given, given_takes, takes}
+use Rattle.csub_tree.specs.Statement.{read}
+use Rattle.ll_code.specs.Machine.{step}
+use Rattle.ll_code.specs.State.{Frame, State, At, Returning, Goes}
 use Rattle.ll_code.specs.declared.program.LlBlock.{LlBlock}
-use Rattle.ll_code.specs.declared.program.LlExit.TheVariants as exit
 use Rattle.ll_code.specs.declared.program.LlExit.{LlExit}
-use Rattle.ll_code.specs.declared.program.LlLink.{LlLink}
 use Rattle.ll_code.specs.declared.program.LlOp.{LlOp}
 use Rattle.ll_code.specs.declared.program.LlProgram.{LlProgram}
 use Rattle.ll_code.specs.declared.program.LlType.{LlType}
-use Rattle.ll_laws.proofs.Values.{and_left, and_right, is_same}
-use Rattle.ll_live.specs.Live.{among, variables_in, variables_of, live}
-use Rattle.ll_live.specs.Live.{exit_reads}
-use Rattle.refcount_laws.proofs.Accounts.{among_both}
-use Rattle.refcount_laws.proofs.Accounts.{given_owned}
-use Rattle.refcount_laws.proofs.Cells.{set_here, set_other, set_length}
-use Rattle.refcount_laws.proofs.Dead.{same_is, differ_is, dead_run}
+use Rattle.ll_live.specs.Live.{among, live}
+use Rattle.refcount_laws.proofs.Dead.{dead_run}
 use Rattle.refcount_laws.proofs.Following.{near_kept, value_leads}
-use Rattle.refcount_laws.proofs.Following.{vars_lead}
-use Rattle.refcount_laws.proofs.Given.{given_run}
-use Rattle.refcount_laws.proofs.Leaving.{left_over, Arrives, arrives, inputs_lead}
+use Rattle.refcount_laws.proofs.Leaving.{left_over}
 use Rattle.refcount_laws.proofs.Moving.{own_same}
 use Rattle.refcount_laws.proofs.Numbers.{Based}
-use Rattle.refcount_laws.proofs.Owning.{owned_same, owned_plain, owned_one}
-use Rattle.refcount_laws.proofs.Places.{given_marked, reference_marked}
-use Rattle.refcount_laws.proofs.Steps.{one_more, on_count}
-use Rattle.refcount_laws.proofs.Steps.{stays, leads_on, goes}
-use Rattle.refcount_laws.proofs.Touching.{is_or_not}
-use Rattle.refcount_laws.specs.Ghost.{Ghost, bare_at, as_first, fixed_at, hit, count, memory, LeadsTo, IsCounted}
+use Rattle.refcount_laws.proofs.Places.{given_marked}
+use Rattle.refcount_laws.proofs.Steps.{leads_on, goes}
+use Rattle.refcount_laws.specs.Ghost.{Ghost, hit, memory, IsCounted}
 use Rattle.refcount_laws.specs.Graphs.{Counts, Counting}
-use Rattle.refcount_laws.specs.Leaves.{are_apart, GivesBack}
 use Rattle.refcount_laws.specs.Made.{counts_of}
 use Rattle.refcount_laws.specs.Matches.{PointsTo, Pointing, AllRoots, Stands, Comes}
-use Rattle.refcount_laws.specs.Owned.{owns, owned, Leading, DoneTo, hits_by, operand_hits, all_hits, given_hits, OperandLeads, OperandsLead, Roomy}
-use Rattle.refcount_laws.specs.Runs.{Leads, here}
-use Rattle.refcount_laws.specs.Touched.{Shown, Done}
+use Rattle.refcount_laws.specs.Owned.{owns, owned, DoneTo, hits_by}
+use Rattle.refcount_laws.specs.Runs.{here}
 use Rattle.refcount_transform.specs.Blocks.{exit_of, block_of}
-use Rattle.refcount_transform.specs.Blocks.{left, way_ops, way_link, way_block}
-use Rattle.refcount_transform.specs.Changes.{Around, around_of, var_referred, operand_referred, given, dead, ops_of}
-use Rattle.refcount_transform.specs.Changes.{down_unless}
+use Rattle.refcount_transform.specs.Changes.{Around, around_of, var_referred, dead, ops_of}
 use Rattle.refcount_transform.specs.Counted.{counted}
-use Rattle.refcount_transform.specs.Made.{link_to, block_with}
-use Rattle.refcount_transform.specs.Plan.{Plan, plan_of, root_of, reference_given}
-use Rattle.std.proofs.Common.{◌≡◌, ◌≢◌, ◌⊎◌, inl, inr, ⊎_elim, ◌<◌, ◌≤◌, ℕ, zero, suc, ◌+◌, Bool, true, false, ◌&&◌, ◌||◌, List, [], ◌∷◌, ◌++◌, length, map, Option, Some, None, refl, sym, ap, ◌∙◌, subst, arith}
+use Rattle.refcount_transform.specs.Plan.{Plan, plan_of, reference_given}
+use Rattle.std.proofs.Common.{◌≡◌, ◌<◌, ℕ, zero, suc, ◌+◌, Bool, true, false, ◌&&◌, ◌||◌, List, [], ◌∷◌, ◌++◌, length, Option, Some, None, refl, sym, ap, ◌∙◌, subst, arith}
 use Rattle.std.specs.Prelude.{cond}
-use Rattle.std.specs.Prelude.{slice_get, slice_set, slice_index_or, ◌==◌, not, cond}
+use Rattle.std.specs.Prelude.{slice_get, slice_set, cond}
 use Rattle.std.proofs.Common.{replicate, ◌-◌}
 use Rattle.ll_code.specs.State.{Calling}
 use Rattle.ll_code.specs.Machine.{entered, enters, resumed}
@@ -66,7 +40,7 @@ use Rattle.refcount_laws.specs.Ghost.{occurs}
 use Rattle.ll_held.specs.Roots.{kept}
 use Rattle.ll_live.specs.Live.{set_by, reads}
 use Rattle.refcount_transform.specs.Changes.{touched}
-use Rattle.refcount_transform.specs.Blocks.{blocks_of, graph_of}
+use Rattle.refcount_transform.specs.Blocks.{graph_of}
 use Rattle.refcount_laws.specs.Leaves.{given_to}
 use Rattle.refcount_laws.proofs.Following.{effect_end, value_end}
 

@@ -1,27 +1,25 @@
 -- What is emitted behind an operation drops what is no longer live.
-use Rattle.std.proofs.Common.{◌≡◌, ◌≢◌, ◌⊎◌, inl, inr, ⊎_elim, ◌<◌, ◌≤◌, ℕ, zero, suc, ◌+◌, Bool, true, false, ◌&&◌, ◌||◌, List, [], ◌∷◌, length, Option, Some, None, refl, sym, ap, ◌∙◌, subst, arith}
+use Rattle.std.proofs.Common.{◌≡◌, ◌≢◌, ⊎_elim, ◌<◌, ℕ, zero, suc, ◌+◌, Bool, true, false, ◌||◌, List, [], ◌∷◌, length, Option, Some, None, refl, sym, ap, ◌∙◌, subst, arith}
 use Rattle.std.specs.Prelude.{◌==◌, slice_get}
 use Rattle.std.proofs.lemmas.Bool.Decides.{nat_tests}
 use Rattle.csub_tree.specs.State.{Value, Block, Core}
-use Rattle.csub_tree.specs.Statement.{read, operand}
+use Rattle.csub_tree.specs.Statement.{read}
 use Rattle.csub_tree.specs.declared.tree.COperand.TheVariants.{Var}
 use Rattle.ll_code.specs.State.{Frame, State, At}
 use Rattle.ll_code.specs.declared.program.LlOp.{LlOp}
-use Rattle.ll_code.specs.declared.program.LlOp.TheVariants as op
 use Rattle.ll_code.specs.declared.program.LlExit.{LlExit}
 use Rattle.ll_code.specs.declared.program.LlProgram.{LlProgram}
 use Rattle.ll_code.specs.declared.program.LlType.{LlType}
-use Rattle.ll_code.specs.declared.program.LlType.TheVariants as type
 use Rattle.ll_live.specs.Live.{among, live}
 use Rattle.ll_laws.proofs.Values.{is_same}
-use Rattle.refcount_transform.specs.Plan.{Plan, is_counted, reference_given, root_of}
+use Rattle.refcount_transform.specs.Plan.{Plan, reference_given}
 use Rattle.refcount_transform.specs.Changes.{Around, var_referred, down_by, down, down_unless, dead}
-use Rattle.refcount_laws.specs.Graphs.{Counts, Counting, IsRoot}
+use Rattle.refcount_laws.specs.Graphs.{Counts, Counting}
 use Rattle.refcount_laws.specs.Made.{counts_of}
-use Rattle.refcount_laws.specs.Ghost.{Ghost, memory, hit, LeadsTo, IsCounted}
-use Rattle.refcount_laws.specs.Runs.{Leads, here}
+use Rattle.refcount_laws.specs.Ghost.{Ghost, memory, hit, IsCounted}
+use Rattle.refcount_laws.specs.Runs.{here}
 use Rattle.refcount_laws.specs.Touched.{Shown, Done}
-use Rattle.refcount_laws.specs.Owned.{owns, owned, Leading, DoneTo}
+use Rattle.refcount_laws.specs.Owned.{owned, Leading, DoneTo}
 use Rattle.refcount_laws.proofs.Steps.{stays}
 use Rattle.refcount_laws.proofs.Touching.{is_or_not}
 use Rattle.refcount_laws.proofs.Leading.{lead_kept}

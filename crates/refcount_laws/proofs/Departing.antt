@@ -1,6 +1,5 @@
 -- All that follows an exit of a counted program.
 use Rattle.csub_tree.specs.Operation.{flag_of, is_unset}
-use Rattle.csub_tree.specs.State.{Event}
 use Rattle.csub_tree.specs.State.{Value, Unset, Ptr, Block, Core}
 use Rattle.csub_tree.specs.Statement.{read, operand, operands, any_unset}
 use Rattle.csub_tree.specs.declared.stuck.StuckReason.TheVariants.{Unset as IsUnset}
@@ -9,9 +8,8 @@ use Rattle.csub_tree.specs.declared.tree.COperand.TheVariants.{Var, Const}
 use Rattle.csub_tree.specs.declared.tree.COperand.{COperand}
 use Rattle.ll_code.specs.Machine.{branch, leaves, gives_back}
 use Rattle.ll_code.specs.Machine.{step, jump, begins, block_in, set_all}
-use Rattle.ll_code.specs.Meaning.{run, follow}
 use Rattle.ll_code.specs.State.{Frame, State, At, Returning, Goes, Sticks, Next}
-use Rattle.ll_code.specs.Typed.{all_given, given_takes, takes}
+use Rattle.ll_code.specs.Typed.{all_given, takes}
 use Rattle.ll_code.specs.declared.program.LlBlock.{LlBlock}
 use Rattle.ll_code.specs.declared.program.LlExit.TheVariants as exit
 use Rattle.ll_code.specs.declared.program.LlExit.{LlExit}
@@ -21,66 +19,48 @@ use Rattle.ll_code.specs.declared.program.LlProgram.{LlProgram}
 use Rattle.ll_code.specs.declared.program.LlType.{LlType}
 use Rattle.ll_laws.proofs.Values.{and_left, and_right, is_same}
 use Rattle.ll_live.specs.Live.{among, variables_in, variables_of, live}
-use Rattle.ll_live.specs.Live.{exit_reads}
-use Rattle.refcount_laws.proofs.Accounts.{among_both}
-use Rattle.refcount_laws.proofs.Accounts.{given_owned}
-use Rattle.refcount_laws.proofs.Cells.{set_here, set_other, set_length}
-use Rattle.refcount_laws.proofs.Copying.{owned_has, taken_by, refers_to}
-use Rattle.refcount_laws.proofs.Dead.{same_is, differ_is, dead_run}
-use Rattle.refcount_laws.proofs.Following.{near_kept, value_leads}
-use Rattle.refcount_laws.proofs.Following.{vars_lead}
-use Rattle.refcount_laws.proofs.Given.{given_run}
-use Rattle.refcount_laws.proofs.Leaving.{owned_by, left_over, Arrives, arrives, inputs_lead}
+use Rattle.refcount_laws.proofs.Dead.{same_is}
+use Rattle.refcount_laws.proofs.Following.{value_leads}
+use Rattle.refcount_laws.proofs.Leaving.{owned_by, left_over}
 use Rattle.refcount_laws.proofs.Moving.{own_same}
 use Rattle.refcount_laws.proofs.Numbers.{Based}
-use Rattle.refcount_laws.proofs.Operating.{typed_inside}
-use Rattle.refcount_laws.proofs.Owning.{owned_same, owned_plain, owned_one}
-use Rattle.refcount_laws.proofs.Places.{given_marked, reference_marked}
-use Rattle.refcount_laws.proofs.Steps.{one_more, on_count}
-use Rattle.refcount_laws.proofs.Steps.{stays, leads_on, goes}
-use Rattle.refcount_laws.proofs.Touching.{is_or_not}
-use Rattle.refcount_laws.specs.Ghost.{Ghost, bare_at, as_first, fixed_at, hit, count, memory, LeadsTo, IsCounted}
+use Rattle.refcount_laws.proofs.Places.{given_marked}
+use Rattle.refcount_laws.proofs.Steps.{stays}
+use Rattle.refcount_laws.specs.Ghost.{Ghost, memory, IsCounted}
 use Rattle.refcount_laws.specs.Graphs.{Counts, Counting}
-use Rattle.refcount_laws.specs.Leaves.{are_apart, GivesBack}
+use Rattle.refcount_laws.specs.Leaves.{GivesBack}
 use Rattle.refcount_laws.specs.Made.{counts_of}
 use Rattle.refcount_laws.specs.Matches.{PointsTo, Pointing, AllRoots, Stands, Comes}
-use Rattle.refcount_laws.specs.Owned.{owns, owned, Leading, DoneTo, hits_by, operand_hits, all_hits, given_hits, OperandLeads, OperandsLead, Roomy}
-use Rattle.refcount_laws.specs.Runs.{Leads, here}
-use Rattle.refcount_laws.specs.Touched.{Shown, Done}
+use Rattle.refcount_laws.specs.Owned.{owned, hits_by, operand_hits, OperandLeads, Roomy}
+use Rattle.refcount_laws.specs.Runs.{here}
 use Rattle.refcount_transform.specs.Blocks.{exit_of, block_of}
-use Rattle.refcount_transform.specs.Blocks.{left, way_ops, way_link, way_block}
-use Rattle.refcount_transform.specs.Changes.{Around, around_of, var_referred, operand_referred, given, dead, ops_of}
-use Rattle.refcount_transform.specs.Changes.{down_unless}
+use Rattle.refcount_transform.specs.Blocks.{way_ops, way_link, way_block}
+use Rattle.refcount_transform.specs.Changes.{Around, around_of, var_referred, operand_referred, given, ops_of}
 use Rattle.refcount_transform.specs.Counted.{counted}
-use Rattle.refcount_transform.specs.Made.{link_to, block_with}
+use Rattle.refcount_transform.specs.Made.{block_with}
 use Rattle.refcount_transform.specs.Plan.{Plan, plan_of, root_of, reference_given}
-use Rattle.std.proofs.Common.{◌≡◌, ◌≢◌, ◌⊎◌, inl, inr, ⊎_elim, ◌<◌, ◌≤◌, ℕ, zero, suc, ◌+◌, Bool, true, false, ◌&&◌, ◌||◌, List, [], ◌∷◌, ◌++◌, length, map, Option, Some, None, refl, sym, ap, ◌∙◌, subst, arith}
+use Rattle.std.proofs.Common.{◌≡◌, ◌≢◌, ℕ, suc, ◌+◌, Bool, true, false, ◌||◌, List, [], ◌∷◌, length, Option, Some, None, refl, sym, ap, ◌∙◌, subst, arith}
 use Rattle.std.specs.Prelude.{cond}
 use Rattle.std.specs.Prelude.{slice_get, slice_set, slice_index_or, ◌==◌, not, cond}
-use Rattle.rpy_base.specs.declared.outcome.Outcome.{Outcome}
 use Rattle.csub_tree.specs.Statement.{fail_name_of, fail}
-use Rattle.csub_tree.specs.State.{After, Over, Stuck, Word, Byte, Flag, Fun, Null, Static}
-use Rattle.ll_code.specs.State.{Ends}
+use Rattle.csub_tree.specs.State.{Word, Byte, Flag, Fun, Null, Static}
 use Rattle.ll_code.specs.Machine.{goes_on}
-use Rattle.ll_code.specs.Typed.{has_type, link_ok, exit_ok, return_ok, enters}
+use Rattle.ll_code.specs.Typed.{link_ok, exit_ok, return_ok, enters}
 use Rattle.ll_code.specs.declared.program.LlGraph.{LlGraph}
 use Rattle.ll_code.specs.declared.program.LlType.TheVariants as type
 use Rattle.ll_laws.proofs.Values.{has_type_is}
 use Rattle.ll_held.specs.Quiet.{ReadsInputs}
 use Rattle.refcount_transform.specs.Plan.{reference_to}
-use Rattle.refcount_transform.specs.Blocks.{behind_exit, blocks_of, graph_of}
+use Rattle.refcount_transform.specs.Blocks.{behind_exit, blocks_of}
 use Rattle.refcount_laws.specs.Owned.{operand_hits}
 use Rattle.refcount_laws.specs.Leaves.{ReturnPoints, From, InputsAreApart, LinksPoint, Leaves, is_explicit}
 use Rattle.refcount_laws.proofs.Exits.{stand, goto_arrives, way_arrives, way_comes, return_comes, nothing_comes, there_same, elsewhere_same, used_there, used_elsewhere, Reached}
-use Rattle.refcount_laws.proofs.Blocks.{Placed, block_placed, graph_placed, there_in, from_left, from_right}
+use Rattle.refcount_laws.proofs.Blocks.{Placed, block_placed, graph_placed, from_left, from_right}
 use Rattle.refcount_laws.proofs.Copying.{no_null}
-use Rattle.csub_tree.specs.Layout.{begins_with}
 use Rattle.csub_tree.specs.Operation.{byte_of}
 use Rattle.csub_tree.specs.Statement.{raised, raised_as, bytes_of, before, on_block, reached}
-use Rattle.csub_tree.specs.declared.tree.CType.{CType}
 use Rattle.ll_code.specs.Machine.{type_in, c_type, shapes_of}
 use Rattle.ll_code.specs.Typed.{names_chars, is_char, items_of, structs_ok}
-use Rattle.ll_code.specs.declared.program.LlStruct.{LlStruct}
 use Rattle.std.proofs.Common.{Ok, Err}
 use Rattle.refcount_laws.proofs.Standing.{StructAt}
 use Rattle.refcount_laws.proofs.Steps.{reached_ok}

@@ -1,5 +1,5 @@
 -- References that are counted and dropped one after the other, over memory that shows all blocks.
-use Rattle.std.proofs.Common.{◌≡◌, ◌≢◌, ◌⊎◌, ⊎_elim, ◌<◌, ◌≤◌, ◌^◌, ℕ, zero, suc, ◌+◌, true, false, List, [], ◌∷◌, length, map, Option, Some, None, refl, sym, ap, ◌∙◌, subst, arith}
+use Rattle.std.proofs.Common.{◌≡◌, ◌≢◌, ⊎_elim, ◌<◌, ◌^◌, ℕ, suc, ◌+◌, true, List, [], ◌∷◌, Option, Some, None, refl, sym, ap, ◌∙◌, subst, arith}
 use Rattle.std.specs.Prelude.{slice_set, pos}
 use Rattle.csub_tree.specs.State.{Value, Unset, Word, Flag, Byte, Fun, Null, Ptr, Static, Block, Core}
 use Rattle.csub_tree.specs.Layout.{begins_with}
@@ -12,14 +12,14 @@ use Rattle.ll_code.specs.declared.program.LlOp.TheVariants as op
 use Rattle.ll_code.specs.declared.program.LlExit.{LlExit}
 use Rattle.ll_code.specs.declared.program.LlProgram.{LlProgram}
 use Rattle.refcount_laws.specs.Graphs.{Counts, Counting, IsRoot}
-use Rattle.refcount_laws.specs.Ghost.{one, hit, occurs, Slot, S, no_slot, count_of, bare, shown, slot_at, count, bare_at, inner, held_by, weight, Fixed, Alone, F, shown_fixed, as_first, fixed_at, Ghost, IsFixed, IsSmall, HasRoom, memory, LeadsTo, IsWhole, IsCounted}
+use Rattle.refcount_laws.specs.Ghost.{one, hit, Slot, S, no_slot, count_of, bare, shown, slot_at, count, bare_at, inner, held_by, weight, Fixed, Alone, F, shown_fixed, as_first, fixed_at, Ghost, IsFixed, IsSmall, HasRoom, memory, LeadsTo, IsWhole, IsCounted}
 use Rattle.refcount_laws.specs.Runs.{Leads, here}
 use Rattle.refcount_laws.specs.Touched.{block_in, Shown, Moved, Done}
 use Rattle.refcount_laws.proofs.Cells.{set_here, set_other, set_length}
 use Rattle.refcount_laws.proofs.Ghosts.{one_self, one_other, There, there, inside, set_up, set_inner}
 use Rattle.refcount_laws.proofs.Steps.{leads_on}
-use Rattle.refcount_laws.proofs.Touching.{is_or_not, all_shown, shown_after, there_inside}
-use Rattle.refcount_laws.proofs.Leading.{static_there, static_inside, set_statics, all_whole, whole_kept, lead_kept}
+use Rattle.refcount_laws.proofs.Touching.{is_or_not, all_shown, shown_after}
+use Rattle.refcount_laws.proofs.Leading.{static_there, static_inside, set_statics, all_whole, whole_kept}
 use Rattle.refcount_laws.proofs.Moving.{own_same}
 use Rattle.refcount_laws.proofs.Dropping.{dropped}
 use Rattle.refcount_laws.proofs.Rising.{null_up, count_rises}

@@ -1,11 +1,10 @@
 -- The last reference to a block is dropped: the block is freed, and so is what it alone held.
-use Rattle.std.proofs.Common.{◌≡◌, ◌≢◌, ◌⊎◌, ⊎_elim, ◌<◌, ◌≤◌, ◌^◌, ℕ, zero, suc, ◌+◌, ◌-◌, true, false, List, [], ◌∷◌, ◌++◌, length, map, replicate, Option, Some, None, refl, sym, ap, ◌∙◌, subst, arith}
+use Rattle.std.proofs.Common.{◌≡◌, ⊎_elim, ◌<◌, ◌≤◌, ℕ, zero, suc, ◌+◌, true, false, List, [], ◌∷◌, ◌++◌, length, replicate, Option, Some, None, refl, sym, ap, ◌∙◌, subst, arith}
 use Rattle.std.specs.Prelude.{slice_set, slice_get, pos}
 use Rattle.csub_tree.specs.State.{Value, Unset, Word, Flag, Byte, Fun, Null, Ptr, Static, Block, Core}
-use Rattle.csub_tree.specs.Layout.{shape_at, begins_with, place}
-use Rattle.csub_tree.specs.Operation.{is_unset, binary_of}
+use Rattle.csub_tree.specs.Layout.{begins_with}
+use Rattle.csub_tree.specs.Operation.{is_unset}
 use Rattle.csub_tree.specs.Statement.{read, operand}
-use Rattle.csub_tree.specs.declared.tree.CBinary.TheVariants.{Add, Lt}
 use Rattle.csub_tree.specs.declared.tree.COperand.{COperand}
 use Rattle.csub_tree.specs.declared.tree.COperand.TheVariants.{Var}
 use Rattle.ll_code.specs.State.{Frame, State, At}
@@ -18,16 +17,16 @@ use Rattle.ll_code.specs.declared.program.LlExit.{LlExit}
 use Rattle.ll_code.specs.declared.program.LlExit.TheVariants as exit
 use Rattle.ll_code.specs.declared.program.LlBlock.{LlBlock}
 use Rattle.ll_code.specs.declared.program.LlProgram.{LlProgram}
-use Rattle.refcount_laws.specs.Graphs.{Reference, Counts, Counting, Stands, IsRoot, AllFields, gets, drops, link, word, given, test, first, one_item, freed, release_types, release_blocks, item_blocks, blocks_for, types_for, held_types, loop_types, AreItems}
-use Rattle.refcount_laws.specs.Ghost.{memory, one, hit, occurs, Slot, S, no_slot, count_of, bare, shown, slot_at, count, bare_at, field_references, item_references, references, held_by, inner, size_of, weight, Ghost, F, IsFixed, fixed_at, LeadsTo, AllLead, FieldsLead, ItemsLead, IsWhole, IsCounted}
+use Rattle.refcount_laws.specs.Graphs.{Reference, Counts, Counting, Stands, IsRoot, AllFields, gets, drops, link, word, given, test, first, release_blocks, item_blocks, blocks_for, types_for, held_types, loop_types, AreItems}
+use Rattle.refcount_laws.specs.Ghost.{memory, one, hit, occurs, S, count_of, bare, slot_at, count, bare_at, field_references, item_references, references, inner, weight, Ghost, F, IsFixed, fixed_at, FieldsLead, ItemsLead, IsWhole, IsCounted}
 use Rattle.refcount_laws.specs.Runs.{Leads, here}
 use Rattle.refcount_laws.specs.Touched.{block_in, Shows, Touched, Moved}
-use Rattle.refcount_laws.proofs.Cells.{set_here, set_other, set_length, set_again}
-use Rattle.refcount_laws.proofs.Steps.{stays, leads_on, get_step, item_step, binary_step, free_step, call_fn_step, return_step, goto_step, yes_step, no_step, wait}
-use Rattle.refcount_laws.proofs.Touching.{is_or_not, none_or_some, set_twice, there_inside, shows_after, shows_gone, shows_beside, touched_on, touched_one, touched_beside}
-use Rattle.refcount_laws.proofs.Leading.{lead_set, all_kept, fields_kept}
-use Rattle.refcount_laws.proofs.Variables.{is_below, not_below, more_word, AllSet, set_next, none_unset, none_unset_behind, same_again, last_set, set_more, HasFrom, has_same}
-use Rattle.refcount_laws.proofs.Moving.{own_same, before, behind, moved_on, unmoved}
+use Rattle.refcount_laws.proofs.Cells.{set_here, set_other, set_length}
+use Rattle.refcount_laws.proofs.Steps.{leads_on, get_step, free_step, call_fn_step, return_step, goto_step, wait}
+use Rattle.refcount_laws.proofs.Touching.{none_or_some, set_twice, there_inside, shows_after, shows_gone, shows_beside, touched_on, touched_beside}
+use Rattle.refcount_laws.proofs.Leading.{all_kept, fields_kept}
+use Rattle.refcount_laws.proofs.Variables.{AllSet, set_next, none_unset_behind, last_set, has_same}
+use Rattle.refcount_laws.proofs.Moving.{own_same, before, behind, moved_on}
 use Rattle.refcount_laws.proofs.Release.{Down, Drops, Loops, Looped, fewer, whole_block, cell, slot_now, first_touch, bare_same, fewer_counted, inner_less, weight_less, field_count, length_both, alive, falls, has_all, first_drops, more_drops, down_null, down_static, down_shared}
 use Rattle.refcount_laws.proofs.Emptying.{release_stands, at_test, first_loops, more_loops}
 use Rattle.refcount_laws.proofs.Ghosts.{occurs_both, There, there, one_self}

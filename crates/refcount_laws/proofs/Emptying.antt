@@ -1,33 +1,30 @@
 -- A block that no reference leads to is freed, and what it held is dropped.
-use Rattle.std.proofs.Common.{◌≡◌, ◌≢◌, ◌⊎◌, ⊎_elim, ◌<◌, ◌≤◌, ◌^◌, ℕ, zero, suc, ◌+◌, ◌-◌, true, false, List, [], ◌∷◌, ◌++◌, length, map, replicate, Option, Some, None, refl, sym, ap, ◌∙◌, subst, arith}
+use Rattle.std.proofs.Common.{◌≡◌, ◌<◌, ◌≤◌, ◌^◌, ℕ, suc, ◌+◌, true, false, List, [], ◌∷◌, ◌++◌, length, Option, Some, None, refl, ap, ◌∙◌, subst, arith}
 use Rattle.std.specs.Prelude.{slice_set, pos}
-use Rattle.csub_tree.specs.State.{Value, Unset, Word, Flag, Byte, Fun, Null, Ptr, Static, Block, Core}
-use Rattle.csub_tree.specs.Layout.{shape_at, begins_with, place}
+use Rattle.csub_tree.specs.State.{Value, Unset, Word, Flag, Ptr, Block, Core}
+use Rattle.csub_tree.specs.Layout.{place}
 use Rattle.csub_tree.specs.Operation.{is_unset, binary_of}
-use Rattle.csub_tree.specs.Statement.{read, operand}
+use Rattle.csub_tree.specs.Statement.{read}
 use Rattle.csub_tree.specs.declared.tree.CBinary.TheVariants.{Add, Lt}
-use Rattle.csub_tree.specs.declared.tree.COperand.{COperand}
 use Rattle.csub_tree.specs.declared.tree.COperand.TheVariants.{Var}
 use Rattle.ll_code.specs.State.{Frame, State, At}
-use Rattle.ll_code.specs.Machine.{shapes_of}
 use Rattle.ll_code.specs.declared.program.LlType.{LlType}
 use Rattle.ll_code.specs.declared.program.LlType.TheVariants as type
 use Rattle.ll_code.specs.declared.program.LlOp.{LlOp}
 use Rattle.ll_code.specs.declared.program.LlOp.TheVariants as op
 use Rattle.ll_code.specs.declared.program.LlExit.{LlExit}
-use Rattle.ll_code.specs.declared.program.LlExit.TheVariants as exit
 use Rattle.ll_code.specs.declared.program.LlProgram.{LlProgram}
-use Rattle.refcount_laws.specs.Graphs.{Reference, Counts, Counting, Stands, IsRoot, AllFields, gets, drops, link, word, given, test, one_item, freed, release_types, release_blocks, item_blocks, blocks_for, types_for, held_types}
-use Rattle.refcount_laws.specs.Ghost.{memory, one, hit, occurs, Slot, S, no_slot, count_of, bare, shown, slot_at, count, bare_at, field_references, item_references, references, held_by, inner, size_of, weight, Ghost, LeadsTo, AllLead, FieldsLead, IsWhole, IsCounted}
+use Rattle.refcount_laws.specs.Graphs.{Counts, Counting, Stands, link, word, given, test, one_item, freed, item_blocks, blocks_for, types_for, held_types}
+use Rattle.refcount_laws.specs.Ghost.{memory, hit, occurs, count, weight, Ghost, AllLead, IsCounted}
 use Rattle.refcount_laws.specs.Runs.{Leads, here}
-use Rattle.refcount_laws.specs.Touched.{block_in, Shows, Touched, Moved}
+use Rattle.refcount_laws.specs.Touched.{block_in, Shows, Moved}
 use Rattle.refcount_laws.proofs.Cells.{set_here, set_other, set_length, set_again}
-use Rattle.refcount_laws.proofs.Steps.{stays, leads_on, get_step, item_step, binary_step, free_step, call_fn_step, return_step, goto_step, yes_step, no_step}
-use Rattle.refcount_laws.proofs.Touching.{is_or_not, set_twice, there_inside, shows_after, shows_gone, shows_beside, touched_on, touched_one, touched_beside}
-use Rattle.refcount_laws.proofs.Leading.{lead_set, all_kept, fields_kept}
-use Rattle.refcount_laws.proofs.Variables.{is_below, not_below, more_word, AllSet, none_unset, none_unset_behind, same_again, last_set, set_more, HasFrom, has_same}
+use Rattle.refcount_laws.proofs.Steps.{leads_on, item_step, binary_step, goto_step, yes_step, no_step}
+use Rattle.refcount_laws.proofs.Touching.{shows_after}
+use Rattle.refcount_laws.proofs.Leading.{lead_set, all_kept}
+use Rattle.refcount_laws.proofs.Variables.{is_below, not_below, more_word, AllSet, none_unset, none_unset_behind, same_again, last_set, set_more, HasFrom}
 use Rattle.refcount_laws.proofs.Moving.{own_same, before, behind, moved_on, unmoved}
-use Rattle.refcount_laws.proofs.Release.{Down, Drops, Loops, Looped}
+use Rattle.refcount_laws.proofs.Release.{Down, Loops, Looped}
 
 module _ (q : LlProgram) (args : List (List ℕ)) (c : Counts) (counting : Counting q c) where
   pub release_stands : (kind m : ℕ) → c.counted kind ≡ true → c.items kind ≡ Some m → Stands q (c.release kind) (type.Ptr (c.root kind) ∷ (held_types (c.held kind) ++ types_for (Some m))) (item_blocks c kind m)

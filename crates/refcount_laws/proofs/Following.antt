@@ -1,40 +1,37 @@
 -- A counted program follows the operations of its program.
-use Rattle.std.proofs.Common.{◌≡◌, ◌≢◌, ◌⊎◌, inl, inr, ⊎_elim, ◌<◌, ◌≤◌, ℕ, zero, suc, ◌+◌, Bool, true, false, ◌||◌, List, [], ◌∷◌, length, map, Option, Some, None, Ok, Err, refl, sym, ap, ◌∙◌, subst, arith}
-use Rattle.std.specs.Prelude.{slice_get, slice_set, slice_index_or, ◌==◌}
-use Rattle.csub_tree.specs.State.{Value, Unset, Word, Byte, Flag, Fun, Null, Ptr, Static, Block, Core, After, Onward, Puts as PutsByte, Told, Over, Stuck}
+use Rattle.std.proofs.Common.{◌≡◌, ◌≢◌, ◌⊎◌, inl, inr, ◌<◌, ℕ, suc, ◌+◌, Bool, true, false, List, ◌∷◌, length, Option, Some, None, Ok, Err, refl, sym, ap, ◌∙◌, subst, arith}
+use Rattle.std.specs.Prelude.{slice_get, slice_set}
+use Rattle.csub_tree.specs.State.{Value, Unset, Word, Byte, Flag, Fun, Null, Ptr, Static, Block, Core}
 use Rattle.csub_tree.specs.Layout.{begins_with}
-use Rattle.csub_tree.specs.Operation.{Answer, is_unset}
+use Rattle.csub_tree.specs.Operation.{Answer}
 use Rattle.csub_tree.specs.Statement as st
 use Rattle.csub_tree.specs.Statement.{read, operand}
-use Rattle.csub_tree.specs.declared.tree.COperand.{COperand}
-use Rattle.csub_tree.specs.declared.tree.COperand.TheVariants.{Var, Const}
-use Rattle.ll_code.specs.State.{Frame, State, At, Goes}
-use Rattle.ll_code.specs.Machine.{step, does, goes_on, shapes_of}
+use Rattle.csub_tree.specs.declared.tree.COperand.TheVariants.{Var}
+use Rattle.ll_code.specs.State.{Frame, State, At}
+use Rattle.ll_code.specs.Machine.{step, goes_on, shapes_of}
 use Rattle.ll_code.specs.declared.program.LlOp.{LlOp}
-use Rattle.ll_code.specs.declared.program.LlOp.TheVariants as op
 use Rattle.ll_code.specs.declared.program.LlExit.{LlExit}
 use Rattle.ll_code.specs.declared.program.LlType.{LlType}
 use Rattle.ll_code.specs.declared.program.LlProgram.{LlProgram}
-use Rattle.ll_live.specs.Live.{among, reads, set_by, sets, live}
-use Rattle.refcount_transform.specs.Plan.{Plan, plan_of, is_counted, root_of, reference_given}
-use Rattle.refcount_transform.specs.Changes.{Around, around_of, var_referred, operand_referred, up, touched, dead}
+use Rattle.ll_live.specs.Live.{among, reads, set_by, live}
+use Rattle.refcount_transform.specs.Plan.{Plan, plan_of, is_counted, root_of}
+use Rattle.refcount_transform.specs.Changes.{Around, around_of, var_referred, up, touched, dead}
 use Rattle.refcount_transform.specs.Counted.{counted}
 use Rattle.refcount_laws.specs.Graphs.{Counts, Counting}
 use Rattle.refcount_laws.specs.Made.{counts_of}
-use Rattle.refcount_laws.specs.Ghost.{Ghost, Slot, Fixed, Alone, F, as_first, fixed_at, bare_at, count, memory, hit, LeadsTo, IsCounted}
+use Rattle.refcount_laws.specs.Ghost.{Ghost, Fixed, Alone, F, as_first, fixed_at, bare_at, count, memory, LeadsTo, IsCounted}
 use Rattle.refcount_laws.specs.Runs.{Leads, here}
-use Rattle.refcount_laws.specs.Touched.{block_in, Shown, Done}
-use Rattle.refcount_laws.specs.Owned.{owned, Leading, DoneTo, hits_by, operand_hits, OperandLeads, Roomy}
-use Rattle.refcount_laws.specs.Matches.{Near, AllNear, NearBlock, NearStatic, NearMemory, PointsTo, Pointing, AllRoots, Stands, Comes, Follows}
+use Rattle.refcount_laws.specs.Touched.{block_in}
+use Rattle.refcount_laws.specs.Owned.{owned, Leading, DoneTo, hits_by, operand_hits, Roomy}
+use Rattle.refcount_laws.specs.Matches.{NearBlock, NearStatic, NearMemory, PointsTo, Pointing, AllRoots, Stands, Comes, Follows}
 use Rattle.refcount_laws.proofs.Cells.{set_here, set_other, set_length}
-use Rattle.refcount_laws.proofs.Steps.{stays, leads_on, goes}
+use Rattle.refcount_laws.proofs.Steps.{leads_on, goes}
 use Rattle.refcount_laws.proofs.Touching.{is_or_not, there_inside}
-use Rattle.refcount_laws.proofs.Leading.{Counted, as_counted}
 use Rattle.refcount_laws.proofs.Moving.{own_same}
 use Rattle.refcount_laws.proofs.Numbers.{Based}
 use Rattle.refcount_laws.proofs.Places.{rooted, Rooted, given_marked}
 use Rattle.refcount_laws.proofs.Alike.{begins_same}
-use Rattle.refcount_laws.proofs.Dead.{dead_run, left_with}
+use Rattle.refcount_laws.proofs.Dead.{dead_run}
 use Rattle.refcount_laws.proofs.Given.{up_run}
 use Rattle.refcount_laws.proofs.Accounts.{used_by, effect_used, effect_owned, value_owned, others}
 

@@ -1,9 +1,9 @@
 -- Counts of blocks that change.
-use Rattle.std.proofs.Common.{◌≡◌, ◌≢◌, ℕ, zero, suc, ◌+◌, ◌<◌, ◌≤◌, List, [], ◌∷◌, ◌++◌, length, refl, sym, ap, ◌∙◌, arith}
+use Rattle.std.proofs.Common.{◌≡◌, ◌≢◌, ℕ, zero, suc, ◌+◌, ◌<◌, List, [], ◌∷◌, ◌++◌, length, refl, ap, arith}
 use Rattle.std.specs.Prelude.{slice_set}
-use Rattle.csub_tree.specs.State.{Value, Ptr}
+use Rattle.csub_tree.specs.State.{Value}
 use Rattle.refcount_laws.specs.Graphs.{Counts}
-use Rattle.refcount_laws.specs.Ghost.{one, hit, occurs, Slot, S, no_slot, count_of, bare, slot_at, count, references, held_by, inner, size_of, weight}
+use Rattle.refcount_laws.specs.Ghost.{one, occurs, Slot, S, count_of, slot_at, count, held_by, inner, size_of, weight}
 
 pub one_self : (a : ℕ) → one a a ≡ 1
 one_self zero = refl

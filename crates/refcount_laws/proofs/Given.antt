@@ -1,30 +1,26 @@
 -- References that are counted before a call or an exit.
-use Rattle.std.proofs.Common.{◌≡◌, ◌≢◌, ◌⊎◌, inl, inr, ⊎_elim, ◌<◌, ◌≤◌, ◌^◌, ℕ, zero, suc, ◌+◌, Bool, true, false, ◌&&◌, ◌||◌, List, [], ◌∷◌, ◌++◌, length, Option, Some, None, refl, sym, ap, ◌∙◌, subst, arith}
-use Rattle.std.specs.Prelude.{◌==◌, slice_get}
+use Rattle.std.proofs.Common.{◌≡◌, ◌<◌, ◌≤◌, ◌^◌, ℕ, zero, suc, ◌+◌, Bool, true, false, List, [], ◌∷◌, length, Option, Some, None, refl, subst, arith}
+use Rattle.std.specs.Prelude.{slice_get}
 use Rattle.csub_tree.specs.State.{Value, Unset, Word, Byte, Flag, Fun, Null, Ptr, Static, Block, Core}
-use Rattle.csub_tree.specs.Statement.{read, operand}
-use Rattle.csub_tree.specs.declared.tree.CConst.{CConst}
+use Rattle.csub_tree.specs.Statement.{operand}
 use Rattle.csub_tree.specs.declared.tree.CConst.TheVariants as const
 use Rattle.csub_tree.specs.declared.tree.COperand.{COperand}
 use Rattle.csub_tree.specs.declared.tree.COperand.TheVariants.{Var, Const}
 use Rattle.ll_code.specs.State.{Frame, State, At}
 use Rattle.ll_code.specs.declared.program.LlOp.{LlOp}
-use Rattle.ll_code.specs.declared.program.LlOp.TheVariants as op
 use Rattle.ll_code.specs.declared.program.LlExit.{LlExit}
 use Rattle.ll_code.specs.declared.program.LlProgram.{LlProgram}
 use Rattle.ll_code.specs.declared.program.LlType.{LlType}
 use Rattle.ll_code.specs.declared.program.LlType.TheVariants as type
-use Rattle.ll_live.specs.Live.{among, variables_in}
-use Rattle.refcount_transform.specs.Plan.{Plan, is_counted, reference_given, root_of}
-use Rattle.refcount_transform.specs.Changes.{Around, var_referred, operand_referred, up_by, up, ups, up_if, is_given_later, given}
-use Rattle.refcount_laws.specs.Graphs.{Counts, Counting, IsRoot}
+use Rattle.refcount_transform.specs.Plan.{Plan, is_counted, root_of}
+use Rattle.refcount_transform.specs.Changes.{Around, operand_referred, up_by, up, ups, up_if, is_given_later, given}
+use Rattle.refcount_laws.specs.Graphs.{Counts, Counting}
 use Rattle.refcount_laws.specs.Made.{counts_of}
 use Rattle.refcount_laws.specs.Ghost.{Ghost, one, bare_at, Fixed, Alone, F, as_first, fixed_at, memory, count, inner, hit, HasRoom, LeadsTo, IsFixed, IsCounted}
-use Rattle.refcount_laws.specs.Runs.{Leads, here}
+use Rattle.refcount_laws.specs.Runs.{here}
 use Rattle.refcount_laws.specs.Touched.{Shown, Done}
-use Rattle.refcount_laws.specs.Owned.{owns, owned, DoneTo, hits_by, operand_hits, all_hits, OperandLeads, OperandsLead, HasRoomBy, Roomy, given_hits_if, given_hits}
+use Rattle.refcount_laws.specs.Owned.{owned, DoneTo, hits_by, operand_hits, all_hits, OperandLeads, OperandsLead, HasRoomBy, Roomy, given_hits_if, given_hits}
 use Rattle.refcount_laws.proofs.Steps.{stays}
-use Rattle.refcount_laws.proofs.Touching.{is_or_not}
 use Rattle.refcount_laws.proofs.Leading.{lead_kept}
 use Rattle.refcount_laws.proofs.Moving.{own_same}
 use Rattle.refcount_laws.proofs.Doing.{done_on, done_nothing, up_done}

@@ -1,31 +1,17 @@
 -- Operations stay in their block, and leave the exception slots alone.
-use Rattle.std.proofs.Common.{◌≡◌, ℕ, zero, suc, ◌+◌, ◌-◌, Bool, true, false, List, [], ◌∷◌, ◌++◌, length, drop, replicate, Option, Some, None, Result, Ok, Err, refl, sym, ap, ◌∙◌, subst, arith, ℤ, pos, negsuc}
-use Rattle.std.specs.Prelude.{slice_get, slice_set, slice_index_or, cond, nat_lt, nat_le, option_map, ◌||◌, ◌&&◌}
-use Rattle.rpy_base.specs.declared.outcome.Outcome.TheVariants.{Returned}
-use Rattle.csub_tree.specs.State.{Value, Unset, Null, Ptr, Static, Block, Core, After, Onward, Puts as PutsByte, Told, Over, Stuck, Event}
+use Rattle.std.proofs.Common.{◌≡◌, ℕ, ◌+◌, ◌-◌, Bool, true, false, List, length, Option, Some, None, Result, Ok, Err, refl, ℤ, pos, negsuc}
+use Rattle.std.specs.Prelude.{slice_set, slice_index_or, cond, nat_lt, nat_le}
+use Rattle.csub_tree.specs.State.{Value, Unset, Ptr, Static, Block, Core, After, Onward, Puts as PutsByte, Told, Over, Stuck}
 use Rattle.csub_tree.specs.Layout.{Shape, shape_at, place}
-use Rattle.csub_tree.specs.Operation.{Answer, is_unset, word_of, unary_of, binary_of, flag_of}
+use Rattle.csub_tree.specs.Operation.{Answer, is_unset, word_of, unary_of, binary_of}
 use Rattle.csub_tree.specs.Statement as st
 use Rattle.csub_tree.specs.Statement.{read, operand, operands, any_unset, reached, on_block, fun_of, same_result, same_types, fail_name_of, ended}
 use Rattle.csub_tree.specs.declared.stuck.StuckReason.{StuckReason}
-use Rattle.csub_tree.specs.declared.stuck.StuckReason.TheVariants.{Unset as IsUnset, Signature, Outside}
-use Rattle.csub_tree.specs.declared.tree.CType.{CType}
-use Rattle.csub_tree.specs.declared.tree.CType.TheVariants as c
-use Rattle.csub_tree.specs.declared.tree.COperand.{COperand}
-use Rattle.ll_code.specs.State.{Frame, State, Calling, At, Returning, Throwing, Next, Goes, Puts, Tells, Ends, Sticks}
-use Rattle.ll_code.specs.Machine.{does, goes_on, shapes_of, block_in, begins, jump, branch, caught_by, caught, waiting, resumed, called, called_as, called_value, enters, entered, returned, thrown, given, operates, gives_back, type_in, leaves, step, start, param_types, c_result, c_type}
-use Rattle.ll_code.specs.Meaning.{Ran, Ended, Unfinished, run, follow}
-use Rattle.ll_code.specs.declared.program.LlLink.{LlLink}
+use Rattle.csub_tree.specs.declared.stuck.StuckReason.TheVariants.{Unset as IsUnset, Outside}
+use Rattle.ll_code.specs.Machine.{does, shapes_of}
 use Rattle.ll_code.specs.declared.program.LlOp.{LlOp}
 use Rattle.ll_code.specs.declared.program.LlOp.TheVariants as op
-use Rattle.ll_code.specs.declared.program.LlExit.{LlExit}
-use Rattle.ll_code.specs.declared.program.LlExit.TheVariants as exit
-use Rattle.ll_code.specs.declared.program.LlBlock.{LlBlock}
-use Rattle.ll_code.specs.declared.program.LlGraph.{LlGraph}
 use Rattle.ll_code.specs.declared.program.LlProgram.{LlProgram}
-use Rattle.ll_live.specs.Live.{set_by}
-use Rattle.ll_held.specs.Roots.{operation_in, under_way}
-use Rattle.ll_held.specs.Places.{PlacedAt, BehindCall, AllBehind, IsPlaced}
 
 -- an operation that sets the exception slots
 abbrev pub sets_slots : LlOp → Bool

@@ -1,6 +1,6 @@
 -- References lead where they led, whatever the counts.
-use Rattle.std.proofs.Common.{◌≡◌, ℕ, zero, suc, ◌+◌, ◌<◌, ◌≤◌, Bool, true, false, List, [], ◌∷◌, ◌++◌, length, map, Option, Some, None, refl, sym, ap, ◌∙◌, subst, arith}
-use Rattle.std.specs.Prelude.{slice_get, slice_set, slice_index_or}
+use Rattle.std.proofs.Common.{◌≡◌, ℕ, zero, suc, ◌<◌, ◌≤◌, false, List, [], ◌∷◌, length, map, Option, Some, None, refl, sym, ap, ◌∙◌, subst, arith}
+use Rattle.std.specs.Prelude.{slice_get, slice_set}
 use Rattle.csub_tree.specs.State.{Value, Unset, Word, Byte, Flag, Fun, Null, Ptr, Static, Block}
 use Rattle.csub_tree.specs.Layout.{begins_with}
 use Rattle.csub_tree.specs.Operation.{is_unset}
@@ -8,7 +8,7 @@ use Rattle.csub_tree.specs.Statement.{read}
 use Rattle.ll_code.specs.Machine.{shapes_of}
 use Rattle.ll_code.specs.declared.program.LlProgram.{LlProgram}
 use Rattle.refcount_laws.specs.Graphs.{Reference, Counts}
-use Rattle.refcount_laws.specs.Ghost.{Slot, count, bare_at, Fixed, Alone, F, fixed_at, shown_fixed, as_first, Ghost, LeadsTo, AllLead, FieldsLead, ItemsLead, IsWhole}
+use Rattle.refcount_laws.specs.Ghost.{count, bare_at, Fixed, Alone, F, fixed_at, shown_fixed, as_first, Ghost, LeadsTo, AllLead, FieldsLead, ItemsLead, IsWhole}
 
 -- a static that is counted
 pub record Counted (t : Fixed) (kind : ℕ) (fields items : List Value) : Type 0 where

@@ -1,5 +1,5 @@
 -- A counted program means what its program does, where each state of the run is ready.
-use Rattle.std.proofs.Common.{◌≡◌, ℕ, zero, suc, ◌+◌, ◌-◌, true, List, [], ◌∷◌, ◌++◌, map, Option, Some, None, refl, sym, ap, ◌∙◌, subst, arith}
+use Rattle.std.proofs.Common.{◌≡◌, ℕ, zero, suc, ◌+◌, ◌-◌, true, List, [], ◌∷◌, ◌++◌, Some, refl, sym, ap, ◌∙◌, subst, arith}
 use Rattle.csub_tree.specs.Meaning.{made_in, gone_in}
 use Rattle.csub_tree.specs.State.{Event}
 use Rattle.ll_code.specs.State.{State, Next, Goes, Puts, Tells, Ends, Sticks}
@@ -10,7 +10,7 @@ use Rattle.ll_code.specs.declared.program.LlProgram.{LlProgram}
 use Rattle.ll_held.specs.Quiet.{ReadsInputs}
 use Rattle.refcount_transform.specs.Counted.{counted}
 use Rattle.refcount_laws.specs.Made.{leads_to_roots}
-use Rattle.refcount_laws.specs.Run.{ReadyAlong, RunStands, wider}
+use Rattle.refcount_laws.specs.Run.{ReadyAlong, RunStands}
 use Rattle.refcount_laws.specs.Means.{SameMeaning, Starts}
 use Rattle.refcount_laws.proofs.Running.{run_stands}
 use Rattle.refcount_laws.proofs.Starting.{ghost, starts_stand}

@@ -1,8 +1,8 @@
 -- Fields that are references are among those that are held.
-use Rattle.std.proofs.Common.{◌≡◌, ◌≢◌, ◌⊎◌, inl, inr, ⊎_elim, ◌<◌, ◌≤◌, ℕ, zero, suc, ◌+◌, ◌-◌, Bool, true, false, ◌&&◌, List, [], ◌∷◌, ◌++◌, length, map, Option, Some, None, refl, sym, ap, ◌∙◌, subst, arith}
+use Rattle.std.proofs.Common.{◌≡◌, ◌⊎◌, inl, inr, ◌<◌, ◌≤◌, ℕ, zero, suc, ◌+◌, ◌-◌, true, false, ◌&&◌, List, [], ◌∷◌, ◌++◌, length, map, Option, Some, None, refl, sym, ap, ◌∙◌, subst, arith}
 use Rattle.std.specs.Prelude.{slice_get, is_none}
-use Rattle.csub_tree.specs.State.{Value, Ptr, Block}
-use Rattle.csub_tree.specs.Layout.{shape_at, shape_over, base_of, begins_with, place}
+use Rattle.csub_tree.specs.State.{Value, Ptr}
+use Rattle.csub_tree.specs.Layout.{shape_at, shape_over, begins_with, place}
 use Rattle.csub_tree.specs.Statement.{read}
 use Rattle.ll_code.specs.declared.program.LlType.{LlType}
 use Rattle.ll_code.specs.declared.program.LlStruct.{LlStruct}
@@ -14,8 +14,8 @@ use Rattle.refcount_transform.specs.declared.plan.Held.{Held}
 use Rattle.refcount_transform.specs.Plan.{Plan, plan_of, is_counted, base_at, has_count, shifted, behind_count, reference_to, referred, fields_of, fields_given, number_behind, field_number, held_if, held_from, own_held, of_base, held_within, held_of}
 use Rattle.refcount_transform.specs.Counted.{structs_of}
 use Rattle.refcount_laws.specs.Graphs.{Reference, Counts}
-use Rattle.refcount_laws.specs.Made.{shapes_counted, place_in, reference_of, counts_of}
-use Rattle.refcount_laws.specs.Ghost.{one, hit, occurs, Slot, S, slot_at, count_of, count, bare, bare_at, field_references, references, held_by, inner}
+use Rattle.refcount_laws.specs.Made.{shapes_counted, place_in, reference_of}
+use Rattle.refcount_laws.specs.Ghost.{hit, occurs, Slot, S, count_of, count, bare, bare_at, field_references, references, held_by, inner}
 use Rattle.refcount_laws.proofs.Ghosts.{one_self}
 use Rattle.refcount_laws.proofs.Numbers.{Based}
 use Rattle.refcount_laws.proofs.Shapes.{Begins, Itself, ByBase, begins_by, HasBase}

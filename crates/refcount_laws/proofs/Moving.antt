@@ -1,13 +1,13 @@
 -- Moves of references, one behind the other.
-use Rattle.std.proofs.Common.{◌≡◌, ℕ, ◌+◌, ◌<◌, ◌≤◌, List, [], ◌∷◌, length, map, Option, refl, sym, ap, ◌∙◌, subst, arith}
+use Rattle.std.proofs.Common.{◌≡◌, ℕ, ◌+◌, List, map, Option, refl, ap, ◌∙◌, subst, arith}
 use Rattle.csub_tree.specs.State.{Value, Ptr, Static, Block}
 use Rattle.ll_code.specs.State.{State}
 use Rattle.ll_code.specs.declared.program.LlProgram.{LlProgram}
 use Rattle.refcount_laws.specs.Graphs.{Counts}
-use Rattle.refcount_laws.specs.Ghost.{count, bare_at, inner, Fixed, fixed_at, shown_fixed, as_first, Ghost, IsFixed, IsCounted}
+use Rattle.refcount_laws.specs.Ghost.{inner, fixed_at, shown_fixed, Ghost, IsFixed, IsCounted}
 use Rattle.refcount_laws.specs.Runs.{Leads}
-use Rattle.refcount_laws.specs.Touched.{Shows, Touched, Moved}
-use Rattle.refcount_laws.proofs.Steps.{stays, leads_on}
+use Rattle.refcount_laws.specs.Touched.{Shows, Moved}
+use Rattle.refcount_laws.proofs.Steps.{leads_on}
 use Rattle.refcount_laws.proofs.Touching.{untouched, touched_on}
 
 module _ (q : LlProgram) (args : List (List ℕ)) (c : Counts) where

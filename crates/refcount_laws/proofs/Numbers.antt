@@ -1,16 +1,15 @@
 -- The graphs that are made for a struct stand at their numbers.
-use Rattle.std.proofs.Common.{◌≡◌, ◌≢◌, ◌⊎◌, inl, inr, ◌<◌, ◌≤◌, ℕ, zero, suc, ◌+◌, ◌-◌, Bool, true, false, List, [], ◌∷◌, ◌++◌, length, map, Option, Some, None, refl, sym, ap, ◌∙◌, subst, arith}
+use Rattle.std.proofs.Common.{◌≡◌, ◌<◌, ◌≤◌, ℕ, zero, suc, ◌+◌, Bool, true, false, List, [], ◌∷◌, ◌++◌, length, map, Option, Some, None, refl, sym, ap, ◌∙◌, subst, arith}
 use Rattle.std.specs.Prelude.{slice_get, ◌==◌, is_none, is_some}
 use Rattle.std.proofs.lemmas.Bool.Decides.{nat_tests}
 use Rattle.ll_code.specs.declared.program.LlType.{LlType}
 use Rattle.ll_code.specs.declared.program.LlStruct.{LlStruct}
 use Rattle.ll_code.specs.declared.program.LlGraph.{LlGraph}
-use Rattle.ll_code.specs.Typed.{structs_ok, struct_ok, is_base, base_of, items_of}
+use Rattle.ll_code.specs.Typed.{structs_ok, is_base, base_of, items_of}
 use Rattle.ll_laws.proofs.Values.{and_left, and_right, is_less}
 use Rattle.refcount_transform.specs.declared.plan.Counts.{Counts}
-use Rattle.refcount_transform.specs.declared.plan.Held.{Held}
-use Rattle.refcount_transform.specs.Plan.{Plan, base_in, above, root_within, root, reference_given, reference_to, one_if, references_in, two_if, counts_from, counts_for, next_behind, counts_behind, is_counted, counts_given, counts_at, root_of, base_at, referred, fields_given, fields_of, items_referred, field_number, held_if, held_from, own_held}
-use Rattle.refcount_transform.specs.Made.{up_graph, down_graph, put_graph, release_graph, items_made, references_made, made_for, made_if, made_from}
+use Rattle.refcount_transform.specs.Plan.{Plan, base_in, above, root_within, root, reference_given, reference_to, one_if, references_in, two_if, counts_for, next_behind, counts_behind, is_counted, counts_given, root_of, fields_given, fields_of, items_referred, field_number, held_if, held_from, own_held}
+use Rattle.refcount_transform.specs.Made.{put_graph, release_graph, items_made, references_made, made_for, made_if, made_from}
 
 pub length_two : {A : Type 0} (xs ys : List A) → length (xs ++ ys) ≡ length xs + length ys
 length_two [] ys = omega arith

@@ -1,106 +1,36 @@
 -- Each operation is followed, where it stands.
-use Rattle.std.proofs.Common.{◌≡◌, ◌≢◌, ◌⊎◌, inl, inr, ⊎_elim, ◌<◌, ◌≤◌, ℕ, zero, suc, ◌+◌, ◌-◌, Bool, true, false, ◌||◌, List, [], ◌∷◌, ◌++◌, length, map, Option, Some, None, Ok, Err, refl, sym, ap, ◌∙◌, subst, arith}
-use Rattle.std.specs.Prelude.{slice_get, slice_set, slice_index_or, ◌==◌}
-use Rattle.csub_tree.specs.State.{Value, Unset, Word, Byte, Flag, Fun, Null, Ptr, Static, Block, Core, After, Onward, Puts as PutsByte, Told, Over, Stuck}
+use Rattle.std.proofs.Common.{◌≡◌, ◌≢◌, ◌<◌, ℕ, ◌+◌, true, List, [], ◌∷◌, ◌++◌, length, Option, Some, None, refl, sym, ap, ◌∙◌}
+use Rattle.std.specs.Prelude.{slice_get, slice_set}
+use Rattle.csub_tree.specs.State.{Value, Unset, Ptr, Static, Block, Core}
 use Rattle.csub_tree.specs.Layout.{begins_with}
-use Rattle.csub_tree.specs.Operation.{Answer, is_unset}
-use Rattle.csub_tree.specs.Statement as st
 use Rattle.csub_tree.specs.Statement.{read, operand}
 use Rattle.csub_tree.specs.declared.tree.COperand.{COperand}
-use Rattle.csub_tree.specs.declared.tree.COperand.TheVariants.{Var, Const}
-use Rattle.ll_code.specs.State.{Frame, State, At, Goes}
-use Rattle.ll_code.specs.Machine.{step, does, goes_on, shapes_of}
+use Rattle.ll_code.specs.State.{Frame, At}
+use Rattle.ll_code.specs.Machine.{shapes_of}
 use Rattle.ll_code.specs.declared.program.LlOp.{LlOp}
 use Rattle.ll_code.specs.declared.program.LlOp.TheVariants as op
 use Rattle.ll_code.specs.declared.program.LlExit.{LlExit}
 use Rattle.ll_code.specs.declared.program.LlType.{LlType}
 use Rattle.ll_code.specs.declared.program.LlProgram.{LlProgram}
-use Rattle.ll_live.specs.Live.{among, reads, set_by, sets, live}
-use Rattle.refcount_transform.specs.Plan.{Plan, plan_of, is_counted, root_of, reference_given}
-use Rattle.refcount_transform.specs.Changes.{Around, around_of, var_referred, operand_referred, up, touched, dead}
+use Rattle.refcount_transform.specs.Plan.{plan_of, is_counted, reference_given}
+use Rattle.refcount_transform.specs.Changes.{around_of, var_referred, touched, dead}
 use Rattle.refcount_transform.specs.Counted.{counted}
-use Rattle.refcount_laws.specs.Graphs.{Counts, Counting}
+use Rattle.refcount_laws.specs.Graphs.{Counting}
 use Rattle.refcount_laws.specs.Made.{counts_of}
-use Rattle.refcount_laws.specs.Ghost.{Ghost, Slot, Fixed, Alone, F, as_first, fixed_at, bare_at, count, memory, hit, LeadsTo, IsCounted}
-use Rattle.refcount_laws.specs.Runs.{Leads, here}
-use Rattle.refcount_laws.specs.Touched.{block_in, Shown, Done}
-use Rattle.refcount_laws.specs.Owned.{owned, Leading, DoneTo, hits_by, operand_hits, OperandLeads, Roomy}
-use Rattle.refcount_laws.specs.Matches.{Near, AllNear, NearBlock, NearStatic, NearMemory, PointsTo, Pointing, AllRoots, Stands, Comes, Follows}
-use Rattle.refcount_laws.proofs.Cells.{set_here, set_other, set_length}
-use Rattle.refcount_laws.proofs.Steps.{stays, leads_on, goes}
-use Rattle.refcount_laws.proofs.Touching.{is_or_not, there_inside}
-use Rattle.refcount_laws.proofs.Leading.{Counted, as_counted}
-use Rattle.refcount_laws.proofs.Moving.{own_same}
+use Rattle.refcount_laws.specs.Ghost.{Ghost, count, memory}
+use Rattle.refcount_laws.specs.Runs.{here}
+use Rattle.refcount_laws.specs.Matches.{PointsTo}
 use Rattle.refcount_laws.proofs.Numbers.{Based}
-use Rattle.refcount_laws.proofs.Places.{rooted, Rooted, given_marked}
-use Rattle.refcount_laws.proofs.Alike.{begins_same}
-use Rattle.refcount_laws.proofs.Dead.{dead_run, left_with}
-use Rattle.refcount_laws.proofs.Given.{up_run}
-use Rattle.refcount_laws.proofs.Accounts.{used_by, effect_used, effect_owned, value_owned, others}
-use Rattle.std.specs.Prelude.{ℤ, pos, negsuc, cond, nat_le, nat_lt, option_map}
-use Rattle.rpy_base.specs.declared.outcome.Outcome.TheVariants.{Running}
-use Rattle.csub_tree.specs.Operation.{word_of, unary_of, binary_of}
-use Rattle.csub_tree.specs.declared.stuck.StuckReason.TheVariants.{Unset as IsUnset, Word as BadWord, Argument}
-use Rattle.csub_tree.specs.declared.tree.CUnary.{CUnary}
-use Rattle.csub_tree.specs.declared.tree.CUnary.TheVariants as unary
-use Rattle.csub_tree.specs.declared.tree.CBinary.{CBinary}
-use Rattle.csub_tree.specs.declared.tree.CBinary.TheVariants as binary
-use Rattle.ll_code.specs.State.{Puts, Ends}
-use Rattle.ll_code.specs.Typed.{operation_ok, unary_gives, binary_gives, has_type}
-use Rattle.csub_tree.specs.Checked.{gives_bool}
-use Rattle.ll_code.specs.declared.program.LlType.TheVariants as type
-use Rattle.ll_laws.specs.Fits.{Fits, AnswerFits}
-use Rattle.ll_laws.proofs.Values.{and_left, and_right, has_type_is, unary_fits, binary_fits}
-use Rattle.refcount_transform.specs.Plan.{reference_to}
-use Rattle.refcount_transform.specs.Changes.{changed}
-use Rattle.refcount_laws.proofs.Following.{near_kept, value_leads, finish, comes_before, effect_end, value_end, plain_end, answered_follows}
-use Rattle.std.specs.Prelude.{not, ◌&&◌}
-use Rattle.csub_tree.specs.declared.tree.CConst.TheVariants as const
-use Rattle.ll_code.specs.Typed.{given_takes, takes, is_of_any}
-use Rattle.ll_live.specs.Live.{variables_of}
-use Rattle.ll_laws.proofs.Values.{is_same}
-use Rattle.refcount_laws.specs.Ghost.{one, inner}
-use Rattle.refcount_laws.proofs.Ghosts.{one_self}
-use Rattle.refcount_laws.proofs.Owning.{owned_one}
-use Rattle.refcount_laws.proofs.Dead.{same_is, differ_is}
-use Rattle.refcount_laws.proofs.Following.{copy_end}
-use Rattle.refcount_laws.proofs.Operating.{typed_inside, before, IsFollowed}
-use Rattle.std.proofs.lemmas.Option.{slice_get_within}
-use Rattle.std.specs.Prelude.{Result}
-use Rattle.csub_tree.specs.declared.stuck.StuckReason.{StuckReason}
-use Rattle.ll_laws.proofs.Values.{is_less}
+use Rattle.ll_code.specs.Typed.{operation_ok}
+use Rattle.ll_laws.proofs.Values.{and_left}
 use Rattle.csub_tree.specs.Layout.{shape_at, place}
-use Rattle.csub_tree.specs.Statement.{block_at, reached, as_struct, on_block}
-use Rattle.csub_tree.specs.declared.stuck.StuckReason.TheVariants.{Outside, Kind}
-use Rattle.ll_code.specs.Typed.{field_of, items_of, has_given, structs_ok}
+use Rattle.ll_code.specs.Typed.{field_of, items_of, structs_ok}
 use Rattle.ll_code.specs.declared.program.LlStruct.{LlStruct}
-use Rattle.ll_laws.specs.Fields.{fields_of}
-use Rattle.ll_laws.proofs.Cells.{Laid, all_laid}
-use Rattle.ll_held.proofs.Calming.{reached_there}
-use Rattle.refcount_transform.specs.Plan.{shifted, held_of}
-use Rattle.refcount_laws.specs.Made.{shapes_counted, reference_of}
-use Rattle.refcount_laws.specs.Ghost.{S, bare, shown, shown_fixed, slot_at, occurs, field_references, item_references, references, IsWhole}
-use Rattle.refcount_laws.proofs.Cells.{past}
-use Rattle.refcount_laws.proofs.Ghosts.{There, there, occurs_both}
-use Rattle.refcount_laws.proofs.Leading.{static_there}
-use Rattle.refcount_laws.proofs.Steps.{get_step, item_step}
-use Rattle.refcount_laws.proofs.Standing.{StructAt, marked_there}
-use Rattle.refcount_laws.proofs.Alike.{place_same}
-use Rattle.refcount_laws.proofs.Members.{HasPlace, has_hits, inner_has, field_held, counted_begins, counted_alike, place_plain}
-use Rattle.refcount_laws.proofs.Copying.{owned_has, no_null, MayHold, IsFollowedBy, exc_type_followed, exc_value_followed, set_followed}
+use Rattle.refcount_laws.specs.Made.{shapes_counted}
+use Rattle.refcount_laws.proofs.Copying.{exc_type_followed, exc_value_followed, set_followed}
 use Rattle.std.specs.Prelude.{replicate}
-use Rattle.csub_tree.specs.Statement.{stored}
-use Rattle.refcount_transform.specs.Plan.{counts_at, field_referred, put_of, field_number}
-use Rattle.refcount_transform.specs.Changes.{set_field_by, set_item_by}
-use Rattle.refcount_laws.specs.Graphs.{Reference, StandsWith, IsField, put_block, put_types, put_item_block, put_item_types}
-use Rattle.refcount_laws.specs.Ghost.{HasRoom, no_slot, count_of, written, Apart, OnceIn, FieldsLead, ItemsLead}
+use Rattle.refcount_transform.specs.Plan.{field_referred}
 use Rattle.refcount_laws.proofs.Ghosts.{inside}
-use Rattle.refcount_laws.proofs.Leading.{fields_by_kind, items_by_kind}
-use Rattle.refcount_laws.proofs.Steps.{put_step}
-use Rattle.refcount_laws.proofs.Given.{room_for}
-use Rattle.refcount_laws.proofs.Writing.{apart_same, apart_lead, slot_then, kinds_then, written_counted, written_shown, put_done}
-use Rattle.refcount_laws.proofs.Storing.{put_item_done, store_step}
-use Rattle.refcount_laws.proofs.Getting.{near_set, pointer_set, reached_begins, var_alive, struct_of, struct_with}
 use Rattle.csub_tree.specs.State.{Made, Static}
 use Rattle.ll_code.specs.State.{Tells}
 use Rattle.ll_code.specs.Typed.{IsWellTyped}

@@ -1,7 +1,7 @@
 -- The references that variables own, one more and one less.
-use Rattle.std.proofs.Common.{◌≡◌, ◌≢◌, ◌⊎◌, inl, inr, ⊎_elim, ◌<◌, ◌≤◌, ℕ, zero, suc, ◌+◌, Bool, true, false, ◌&&◌, List, [], ◌∷◌, length, Option, Some, None, refl, sym, ap, ◌∙◌, subst, arith}
+use Rattle.std.proofs.Common.{◌≡◌, ◌≢◌, ◌⊎◌, inl, inr, ◌<◌, ◌≤◌, ℕ, zero, suc, ◌+◌, Bool, true, false, ◌&&◌, List, [], ◌∷◌, length, Some, None, refl, sym, ap, ◌∙◌, arith}
 use Rattle.std.specs.Prelude.{cond, is_some, slice_set}
-use Rattle.csub_tree.specs.State.{Value, Unset}
+use Rattle.csub_tree.specs.State.{Value}
 use Rattle.csub_tree.specs.Statement.{read}
 use Rattle.ll_held.specs.Roots.{kept}
 use Rattle.refcount_transform.specs.Changes.{Around, var_referred}

@@ -1,8 +1,8 @@
 -- Where the fields of counted structs stand.
-use Rattle.std.proofs.Common.{◌≡◌, ◌≢◌, ◌⊎◌, inl, inr, ⊎_elim, ◌<◌, ◌≤◌, ℕ, zero, suc, ◌+◌, ◌-◌, Bool, true, false, ◌&&◌, List, [], ◌∷◌, ◌++◌, length, map, Option, Some, None, refl, sym, ap, ◌∙◌, subst, arith}
+use Rattle.std.proofs.Common.{◌≡◌, ◌<◌, ◌≤◌, ℕ, zero, suc, ◌+◌, ◌-◌, Bool, true, false, ◌&&◌, List, [], ◌∷◌, ◌++◌, length, map, Option, Some, None, refl, sym, ap, ◌∙◌, subst, arith}
 use Rattle.std.specs.Prelude.{slice_get, ◌==◌, is_none}
 use Rattle.std.proofs.lemmas.Bool.Decides.{nat_tests}
-use Rattle.csub_tree.specs.Layout.{Shape, shape_at, shape_over, base_of, begins_with, place}
+use Rattle.csub_tree.specs.Layout.{shape_at, shape_over, base_of, begins_with, place}
 use Rattle.ll_code.specs.declared.program.LlType.{LlType}
 use Rattle.ll_code.specs.declared.program.LlType.TheVariants as type
 use Rattle.ll_code.specs.declared.program.LlStruct.{LlStruct}
@@ -13,11 +13,10 @@ use Rattle.ll_code.specs.Typed.{structs_ok, IsWellTyped}
 use Rattle.ll_code.specs.Typed as typed
 use Rattle.ll_laws.proofs.Values.{and_left, and_right, is_same}
 use Rattle.refcount_transform.specs.declared.plan.Held.{Held}
-use Rattle.refcount_transform.specs.Plan.{Plan, plan_of, base_in, above, root_within, root, is_made, counted_from, is_marked, marked, where_marked, reference_to, reference_given, is_counted, root_of, base_at, referred, fields_given, fields_of, items_referred, has_count, behind_count, shifted, number_behind, field_number, held_if, held_from, own_held, of_base, held_within, held_of}
+use Rattle.refcount_transform.specs.Plan.{Plan, plan_of, base_in, above, root_within, root, is_made, counted_from, is_marked, where_marked, reference_to, reference_given, is_counted, root_of, base_at, referred, fields_given, fields_of, items_referred, has_count, behind_count, number_behind, field_number, held_if, held_from, own_held, of_base, held_within}
 use Rattle.refcount_transform.specs.Counted.{struct_by, structs_from, structs_of, counted}
-use Rattle.refcount_laws.specs.Graphs.{Reference, Counts, Counting, IsRoot, IsField, AllFields, AreItems}
+use Rattle.refcount_laws.specs.Graphs.{Counting, AllFields}
 use Rattle.refcount_laws.specs.Made.{shapes_counted, place_in, reference_of, counts_of, is_root_given, all_lead, structs_lead, leads_to_roots}
-use Rattle.refcount_laws.proofs.Cells.{map_both}
 use Rattle.refcount_laws.proofs.Numbers.{Based, all_based, is_own_root}
 use Rattle.refcount_laws.proofs.Shapes.{shape_is, HasBase, begins_itself, Begins, Itself, ByBase, begins_by, begins_on}
 use Rattle.refcount_laws.proofs.Standing.{StructAt, marked_there, up_stands, down_stands, release_stands}

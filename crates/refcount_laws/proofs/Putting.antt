@@ -1,16 +1,15 @@
 -- A counted program has the graphs that write references.
-use Rattle.std.proofs.Common.{◌≡◌, ◌<◌, ◌≤◌, ℕ, zero, suc, ◌+◌, Bool, true, false, List, [], ◌∷◌, ◌++◌, length, map, Option, Some, None, refl, sym, ap, ◌∙◌, subst, arith}
+use Rattle.std.proofs.Common.{◌≡◌, ◌<◌, ℕ, zero, suc, ◌+◌, true, List, [], ◌∷◌, ◌++◌, length, map, Option, Some, None, refl, ap, ◌∙◌, arith}
 use Rattle.std.specs.Prelude.{slice_get, ◌==◌}
 use Rattle.std.proofs.lemmas.Option.{slice_get_within}
 use Rattle.ll_code.specs.declared.program.LlType.{LlType}
-use Rattle.ll_code.specs.declared.program.LlStruct.{LlStruct}
 use Rattle.ll_code.specs.declared.program.LlGraph.{LlGraph}
 use Rattle.ll_code.specs.declared.program.LlProgram.{LlProgram}
 use Rattle.ll_code.specs.Typed.{IsWellTyped}
 use Rattle.ll_laws.proofs.Values.{and_left}
 use Rattle.refcount_transform.specs.declared.plan.Held.{Held}
 use Rattle.refcount_transform.specs.Plan.{Plan, plan_of, references_in, one_if, references_before, reference_to, is_counted, counts_at, root_of, referred, fields_of, field_number, held_if, held_from, own_held, items_referred}
-use Rattle.refcount_transform.specs.Made.{put_graph, put_item_graph, clear_graph, items_made, references_made, made_for}
+use Rattle.refcount_transform.specs.Made.{put_graph, put_item_graph, clear_graph, items_made, references_made}
 use Rattle.refcount_transform.specs.Counted.{counted}
 use Rattle.refcount_laws.specs.Graphs.{StandsWith, put_types, put_block, put_item_types, put_item_block}
 use Rattle.refcount_laws.specs.Made.{reference_of, counts_of}

@@ -1,11 +1,11 @@
 -- A block that is there is a root, on a cycle, or reached from one; counts have room where few references stand; and where no roots
 -- and no cycles are, no block is there.
-use Rattle.std.proofs.Common.{◌≡◌, ℕ, zero, suc, ◌+◌, ◌<◌, ◌≤◌, Bool, true, false, ◌&&◌, ◌==◌, List, [], ◌∷◌, ◌++◌, length, Option, Some, None, refl, sym, ap, ◌∙◌, subst, arith, ◌⊎◌, inl, inr, ⊎_elim}
-use Rattle.std.specs.Prelude.{not, slice_index_or}
-use Rattle.csub_tree.specs.State.{Value, Ptr, Static, Block}
+use Rattle.std.proofs.Common.{◌≡◌, ℕ, zero, suc, ◌+◌, ◌<◌, ◌≤◌, Bool, true, false, ◌&&◌, ◌==◌, List, [], ◌∷◌, Option, refl, sym, ap, ◌∙◌, subst, arith, ◌⊎◌, inl, inr, ⊎_elim}
+use Rattle.std.specs.Prelude.{not}
+use Rattle.csub_tree.specs.State.{Value, Ptr, Block}
 use Rattle.ll_held.specs.Held.{times, references as references_of, references_in, cells_at, is_new, are_distinct, AllHeld, Refers, Reaches, Next, Then, Held, Root, Cycle, From, IsBelow}
 use Rattle.refcount_laws.specs.Graphs.{Counts}
-use Rattle.refcount_laws.specs.Ghost.{Slot, S, slot_at, no_slot, count, bare, bare_at, occurs, references, held_by, inner}
+use Rattle.refcount_laws.specs.Ghost.{Slot, S, count, bare_at, occurs, references, inner}
 use Rattle.refcount_laws.specs.Reach.{Mirrors, Owns}
 
 -- ---- paths

@@ -1,14 +1,13 @@
 -- The fields that are references are read before a block is freed.
-use Rattle.std.proofs.Common.{◌≡◌, ◌≢◌, ◌<◌, ◌≤◌, ℕ, zero, suc, ◌+◌, List, [], ◌∷◌, ◌++◌, length, Option, Some, None, refl, sym, ap, ◌∙◌, subst, arith, ◌⊎◌, ⊎_elim, false}
+use Rattle.std.proofs.Common.{◌≡◌, ◌<◌, ◌≤◌, ℕ, suc, ◌+◌, List, [], ◌∷◌, ◌++◌, length, Option, Some, refl, ap, ◌∙◌, subst, arith, ◌⊎◌, ⊎_elim, false}
 use Rattle.std.specs.Prelude.{slice_set}
 use Rattle.csub_tree.specs.State.{Value, Unset, Ptr, Block, Core}
-use Rattle.csub_tree.specs.Layout.{shape_at, begins_with, place}
+use Rattle.csub_tree.specs.Layout.{shape_at, place}
 use Rattle.csub_tree.specs.Operation.{is_unset}
 use Rattle.csub_tree.specs.Statement.{read}
 use Rattle.ll_code.specs.State.{Frame, State, At}
 use Rattle.ll_code.specs.Machine.{shapes_of}
 use Rattle.ll_code.specs.declared.program.LlOp.{LlOp}
-use Rattle.ll_code.specs.declared.program.LlOp.TheVariants as op
 use Rattle.ll_code.specs.declared.program.LlExit.{LlExit}
 use Rattle.ll_code.specs.declared.program.LlProgram.{LlProgram}
 use Rattle.refcount_laws.specs.Graphs.{Reference, Counts, AllFields, gets}

@@ -1,11 +1,9 @@
 -- The graphs that drop a reference and release a block keep the counts.
-use Rattle.std.proofs.Common.{◌≡◌, ◌≢◌, ◌⊎◌, ⊎_elim, ◌<◌, ◌≤◌, ◌^◌, ℕ, zero, suc, ◌+◌, ◌-◌, true, false, List, [], ◌∷◌, ◌++◌, length, map, replicate, Option, Some, None, refl, sym, ap, ◌∙◌, subst, arith}
+use Rattle.std.proofs.Common.{◌≡◌, ◌≢◌, ⊎_elim, ◌<◌, ◌≤◌, ◌^◌, ℕ, suc, ◌+◌, true, List, [], ◌∷◌, ◌++◌, length, Option, Some, None, refl, sym, ap, ◌∙◌, subst, arith}
 use Rattle.std.specs.Prelude.{slice_set, pos}
 use Rattle.csub_tree.specs.State.{Value, Unset, Word, Byte, Flag, Fun, Null, Ptr, Static, Block, Core}
-use Rattle.csub_tree.specs.Layout.{shape_at, begins_with, place}
-use Rattle.csub_tree.specs.Operation.{is_unset}
+use Rattle.csub_tree.specs.Layout.{begins_with}
 use Rattle.csub_tree.specs.Statement.{read, operand}
-use Rattle.csub_tree.specs.declared.tree.CBinary.TheVariants.{Add, Lt}
 use Rattle.csub_tree.specs.declared.tree.COperand.{COperand}
 use Rattle.csub_tree.specs.declared.tree.COperand.TheVariants.{Var}
 use Rattle.ll_code.specs.State.{Frame, State, At}
@@ -15,19 +13,19 @@ use Rattle.ll_code.specs.declared.program.LlOp.TheVariants as op
 use Rattle.ll_code.specs.declared.program.LlExit.{LlExit}
 use Rattle.ll_code.specs.declared.program.LlExit.TheVariants as exit
 use Rattle.ll_code.specs.declared.program.LlProgram.{LlProgram}
-use Rattle.refcount_laws.specs.Graphs.{Reference, Counts, Counting, IsRoot, AllFields, drops, link, word, given, test, one_item, freed}
-use Rattle.refcount_laws.specs.Ghost.{memory, one, hit, occurs, Slot, S, no_slot, count_of, bare, shown, slot_at, count, bare_at, field_references, item_references, references, held_by, inner, size_of, weight, Fixed, Alone, F, shown_fixed, as_first, fixed_at, Ghost, IsFixed, IsSmall, LeadsTo, AllLead, FieldsLead, IsWhole, IsCounted}
+use Rattle.refcount_laws.specs.Graphs.{Reference, Counts, Counting, IsRoot, AllFields, drops, test, freed}
+use Rattle.refcount_laws.specs.Ghost.{memory, one, hit, occurs, Slot, S, no_slot, count_of, bare, shown, slot_at, count, bare_at, field_references, references, held_by, inner, size_of, weight, Fixed, Alone, F, shown_fixed, as_first, fixed_at, Ghost, IsFixed, IsSmall, LeadsTo, AllLead, FieldsLead, IsWhole, IsCounted}
 use Rattle.refcount_laws.specs.Runs.{Leads, here}
 use Rattle.refcount_laws.specs.Touched.{block_in, Shows, Touched, Moved}
 use Rattle.refcount_laws.proofs.Cells.{set_here, set_other, set_length}
-use Rattle.refcount_laws.proofs.Ghosts.{one_self, one_other, occurs_both, There, there, inside, set_down, set_inner, set_weight}
-use Rattle.refcount_laws.proofs.Steps.{stays, leads_on, get_step, item_step, binary_step, free_step, call_fn_step, return_step, goto_step, yes_step, no_step}
-use Rattle.refcount_laws.proofs.Touching.{is_or_not, set_twice, there_inside, shows_after, shows_gone, shows_beside, touched_on, touched_one, touched_beside}
-use Rattle.refcount_laws.proofs.Leading.{static_there, static_inside, set_statics, lead_set, lead_kept, all_kept, fields_kept, whole_kept, all_whole}
-use Rattle.refcount_laws.proofs.Variables.{is_below, not_below, more_word, AllSet, none_unset, none_unset_behind, same_again, last_set, set_more, HasFrom, has_same}
-use Rattle.refcount_laws.proofs.Moving.{own_same, before, behind, moved_on, unmoved}
-use Rattle.refcount_laws.proofs.Falling.{null_down, count_falls, some_remain, none_remain, falls_to}
-use Rattle.refcount_laws.proofs.Reading.{along, Got, gets_run, references_set}
+use Rattle.refcount_laws.proofs.Ghosts.{one_self, one_other, inside, set_down, set_inner, set_weight}
+use Rattle.refcount_laws.proofs.Steps.{stays, leads_on}
+use Rattle.refcount_laws.proofs.Touching.{is_or_not, shows_after, touched_one}
+use Rattle.refcount_laws.proofs.Leading.{static_there, static_inside, set_statics, fields_kept, all_whole}
+use Rattle.refcount_laws.proofs.Variables.{AllSet, HasFrom}
+use Rattle.refcount_laws.proofs.Moving.{own_same, moved_on, unmoved}
+use Rattle.refcount_laws.proofs.Falling.{null_down, count_falls, some_remain, falls_to}
+use Rattle.refcount_laws.proofs.Reading.{along}
 
 -- the items from one place on
 pub has_all : (items : List Value) → HasFrom items 0 items

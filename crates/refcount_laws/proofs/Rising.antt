@@ -1,8 +1,8 @@
 -- The graph that counts one reference more.
-use Rattle.std.proofs.Common.{◌≡◌, ◌<◌, ◌^◌, ℕ, zero, suc, ◌+◌, true, false, List, [], ◌∷◌, length, Option, Some, None, Ok, refl, ap, ◌∙◌, arith}
+use Rattle.std.proofs.Common.{◌≡◌, ◌<◌, ◌^◌, ℕ, suc, ◌+◌, true, false, List, [], ◌∷◌, Option, Some, None, Ok, refl, ap, ◌∙◌}
 use Rattle.std.specs.Prelude.{slice_set, pos}
 use Rattle.csub_tree.specs.State.{Value, Unset, Word, Flag, Null, Block, Core, Onward}
-use Rattle.csub_tree.specs.Layout.{shape_at, begins_with, place}
+use Rattle.csub_tree.specs.Layout.{begins_with, place}
 use Rattle.csub_tree.specs.Operation.{is_unset, binary_of}
 use Rattle.csub_tree.specs.Statement.{read, operand, block_at, stored}
 use Rattle.csub_tree.specs.declared.tree.CBinary.TheVariants.{Add, Peq}

@@ -1,8 +1,7 @@
 -- The run of a counted program, step by step of its program.
-use Rattle.std.proofs.Common.{◌≡◌, true, ℕ, zero, suc, ◌+◌, List, [], ◌∷◌, ◌++◌, map, Option, Some, refl, sym, ap, ◌∙◌, subst, arith}
-use Rattle.csub_tree.specs.State.{Block, Core, Event, Made, Freed}
+use Rattle.std.proofs.Common.{◌≡◌, true, ℕ, zero, suc, ◌+◌, List, [], ◌∷◌, ◌++◌, map, Option, refl, sym, ap, ◌∙◌, subst}
+use Rattle.csub_tree.specs.State.{Block, Event, Made, Freed}
 use Rattle.csub_tree.specs.Meaning.{made_in}
-use Rattle.rpy_base.specs.declared.outcome.Outcome.{Outcome}
 use Rattle.ll_code.specs.State.{Frame, State, Next, Goes, Puts, Tells, Ends, Sticks}
 use Rattle.ll_code.specs.Machine.{step}
 use Rattle.ll_code.specs.Meaning.{Ran, Ended, Unfinished, Came, StuckFor, run, follow}
@@ -13,8 +12,8 @@ use Rattle.refcount_transform.specs.Counted.{counted}
 use Rattle.refcount_laws.specs.Made.{leads_to_roots}
 use Rattle.refcount_laws.specs.Ghost.{Ghost}
 use Rattle.refcount_laws.specs.Runs.{Leads}
-use Rattle.refcount_laws.specs.Whole.{Call, StandsFor, ComesFor, NextStands, ReadyFor}
-use Rattle.refcount_laws.specs.Run.{IsReady, ReadyNext, ReadyAlong, wider, RunStands}
+use Rattle.refcount_laws.specs.Whole.{Call, StandsFor, NextStands}
+use Rattle.refcount_laws.specs.Run.{ReadyNext, ReadyAlong, wider, RunStands}
 use Rattle.refcount_laws.proofs.Steps.{one_more}
 use Rattle.refcount_laws.proofs.Stepping.{step_stands}
 

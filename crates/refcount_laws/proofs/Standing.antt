@@ -1,11 +1,10 @@
 -- A counted program has the graphs that count references.
-use Rattle.std.proofs.Common.{◌≡◌, ◌⊎◌, inl, inr, ◌<◌, ◌≤◌, ℕ, zero, suc, ◌+◌, ◌-◌, Bool, true, false, List, [], ◌∷◌, ◌++◌, length, map, Option, Some, None, refl, sym, ap, ◌∙◌, subst, arith}
-use Rattle.std.specs.Prelude.{slice_get, ◌==◌, is_none, is_some, cond, ◌||◌}
+use Rattle.std.proofs.Common.{◌≡◌, ◌<◌, ℕ, zero, suc, ◌+◌, Bool, true, false, List, [], ◌∷◌, ◌++◌, length, map, Option, Some, None, refl, sym, ap, ◌∙◌, arith}
+use Rattle.std.specs.Prelude.{slice_get, ◌==◌, is_some, cond}
 use Rattle.std.proofs.lemmas.Bool.Decides.{nat_tests}
 use Rattle.csub_tree.specs.declared.tree.CBinary.TheVariants.{Add, Lt}
 use Rattle.csub_tree.specs.declared.tree.COperand.{COperand}
 use Rattle.csub_tree.specs.declared.tree.COperand.TheVariants.{Var}
-use Rattle.ll_code.specs.declared.program.LlType.{LlType}
 use Rattle.ll_code.specs.declared.program.LlType.TheVariants as type
 use Rattle.ll_code.specs.declared.program.LlStruct.{LlStruct}
 use Rattle.ll_code.specs.declared.program.LlOp.{LlOp}
@@ -14,11 +13,9 @@ use Rattle.ll_code.specs.declared.program.LlExit.TheVariants as exit
 use Rattle.ll_code.specs.declared.program.LlBlock.{LlBlock}
 use Rattle.ll_code.specs.declared.program.LlGraph.{LlGraph}
 use Rattle.ll_code.specs.declared.program.LlProgram.{LlProgram}
-use Rattle.refcount_transform.specs.declared.plan.Counts.{Counts}
 use Rattle.refcount_transform.specs.declared.plan.Held.{Held}
-use Rattle.refcount_transform.specs.declared.slots.Slots.{Slots}
 use Rattle.refcount_transform.specs.declared.made.Loop.{Loop}
-use Rattle.refcount_transform.specs.Plan.{Plan, plan_of, is_made, counted_from, counted_structs, marked, is_marked, slots_of, or_slots, set_by_blocks, own_some, behind, reference_given, references_in, two_if, counts_from, counts_for, counts_behind, is_counted, counts_given, counts_at, root_of, items_referred, field_number, held_of}
+use Rattle.refcount_transform.specs.Plan.{Plan, plan_of, counted_from, counted_structs, is_marked, slots_of, or_slots, set_by_blocks, own_some, behind, reference_given, references_in, two_if, is_counted, counts_at, root_of, items_referred, field_number, held_of}
 use Rattle.refcount_transform.specs.Made as made
 use Rattle.refcount_transform.specs.Made.{numbers_from, loop_behind, up_graph, down_graph, release_graph, release_by, slots_made, references_made, made_for, made_from, all_made}
 use Rattle.refcount_transform.specs.Blocks.{graph_of}

@@ -1,12 +1,11 @@
 -- The state at which a counted program starts stands for that at which its program does.
-use Rattle.std.proofs.Common.{◌≡◌, ◌<◌, ◌≤◌, ◌^◌, ◌⊎◌, inl, inr, ℕ, zero, suc, ◌+◌, Bool, true, false, ◌&&◌, List, [], ◌∷◌, ◌++◌, length, map, take, drop, Option, Some, None, refl, sym, ap, ◌∙◌, subst, arith}
-use Rattle.std.specs.Prelude.{slice_get, slice_index_or, is_none, pos}
+use Rattle.std.proofs.Common.{◌≡◌, ◌<◌, inl, ℕ, zero, suc, ◌+◌, Bool, true, false, ◌&&◌, List, [], ◌∷◌, length, map, take, drop, Option, Some, None, refl, sym, ap, ◌∙◌, subst, arith}
+use Rattle.std.specs.Prelude.{slice_get, is_none, pos}
 use Rattle.csub_tree.specs.State.{Value, Word, Null, Ptr, Static, Block, Core}
 use Rattle.csub_tree.specs.Layout.{Shape, shape_at, static_values, static_block}
-use Rattle.csub_tree.specs.Checked.{Cells, plain_cells}
-use Rattle.csub_tree.specs.Statement.{read}
+use Rattle.csub_tree.specs.Checked.{plain_cells}
 use Rattle.csub_tree.specs.declared.tree.CStatic.{CStatic}
-use Rattle.ll_code.specs.State.{State, Calling, At}
+use Rattle.ll_code.specs.State.{Calling}
 use Rattle.ll_code.specs.Machine.{shapes_of, start}
 use Rattle.ll_code.specs.declared.program.LlStruct.{LlStruct}
 use Rattle.ll_code.specs.declared.program.LlGraph.{LlGraph}
@@ -14,16 +13,13 @@ use Rattle.ll_code.specs.declared.program.LlProgram.{LlProgram}
 use Rattle.ll_code.specs.Typed.{shaped_ok, cells_within, static_ok, statics_ok, structs_ok, graphs_ok, begins_run, IsWellTyped}
 use Rattle.ll_laws.proofs.Values.{and_left, and_right}
 use Rattle.refcount_transform.specs.Plan.{Plan, plan_of, is_counted, base_at, has_count}
-use Rattle.refcount_transform.specs.Changes.{around_of}
 use Rattle.refcount_transform.specs.Counted as made
 use Rattle.refcount_transform.specs.Counted.{counted, struct_by}
 use Rattle.refcount_laws.specs.Made.{shapes_counted, counts_of}
-use Rattle.refcount_laws.specs.Ghost.{Ghost, Slot, no_slot, slot_at, count, count_of, shown, Fixed, Alone, F, IsFixed, IsSmall, IsCounted, shown_fixed, fixed_at, memory}
-use Rattle.refcount_laws.specs.Touched.{Shown}
+use Rattle.refcount_laws.specs.Ghost.{Ghost, no_slot, slot_at, count, count_of, shown, Fixed, Alone, F, IsFixed, IsSmall, shown_fixed, fixed_at}
 use Rattle.refcount_laws.specs.Owned.{hits_by}
-use Rattle.refcount_laws.specs.Matches.{AllNear, NearBlock, NearStatic, NearMemory, Stands}
-use Rattle.refcount_laws.specs.Leaves.{given_to}
-use Rattle.refcount_laws.specs.Whole.{BothCalling, beside}
+use Rattle.refcount_laws.specs.Matches.{AllNear, NearStatic}
+use Rattle.refcount_laws.specs.Whole.{BothCalling}
 use Rattle.refcount_laws.proofs.Numbers.{Based, all_based}
 use Rattle.refcount_laws.proofs.Standing.{StructAt}
 use Rattle.refcount_laws.proofs.Places.{counted_base, earlier}

@@ -1,20 +1,18 @@
 -- Steps of the machine, one operation or exit at a time.
-use Rattle.std.proofs.Common.{◌≡◌, ◌≢◌, ◌<◌, ◌≤◌, ℕ, zero, suc, ◌+◌, ◌-◌, Bool, true, false, ◌||◌, ◌&&◌, List, [], ◌∷◌, ◌++◌, length, map, replicate, Option, Some, None, Ok, Err, refl, sym, ap, ◌∙◌, subst, arith}
+use Rattle.std.proofs.Common.{◌≡◌, ◌<◌, ℕ, suc, ◌+◌, ◌-◌, true, false, ◌||◌, ◌&&◌, List, [], ◌∷◌, ◌++◌, length, map, replicate, Option, Some, None, Ok, Err, refl, sym, ap, ◌∙◌, arith}
 use Rattle.std.specs.Prelude.{slice_set, slice_get, slice_index_or, cond, ◌==◌, nat_lt, pos}
-use Rattle.csub_tree.specs.State.{Value, Unset, Word, Fun, Flag, Null, Ptr, Static, Block, Core, Event, Freed, Onward, Stuck}
+use Rattle.csub_tree.specs.State.{Value, Unset, Word, Fun, Flag, Ptr, Block, Core, Event, Freed, Stuck}
 use Rattle.csub_tree.specs.Layout.{shape_at, begins_with, place}
 use Rattle.csub_tree.specs.Operation.{is_unset, flag_of, binary_of}
 use Rattle.csub_tree.specs.Statement as st
 use Rattle.csub_tree.specs.Statement.{read, operand, operands, any_unset, block_at, reached, as_struct, on_block, stored, fun_of, same_result, same_types}
-use Rattle.csub_tree.specs.declared.stuck.StuckReason.{StuckReason}
-use Rattle.csub_tree.specs.declared.stuck.StuckReason.TheVariants.{Gone, Kind, Outside, Signature, Unset as IsUnset}
+use Rattle.csub_tree.specs.declared.stuck.StuckReason.TheVariants.{Kind, Outside, Signature, Unset as IsUnset}
 use Rattle.std.proofs.lemmas.Bool.Decides.{nat_tests}
 use Rattle.csub_tree.specs.declared.tree.CBinary.{CBinary}
 use Rattle.csub_tree.specs.declared.tree.CType.TheVariants as c
 use Rattle.ll_code.specs.declared.program.LlType.TheVariants as type
 use Rattle.csub_tree.specs.declared.tree.COperand.{COperand}
-use Rattle.csub_tree.specs.declared.tree.COperand.TheVariants.{Var}
-use Rattle.ll_code.specs.State.{Frame, State, Calling, At, Returning, Next, Goes, Tells, Sticks}
+use Rattle.ll_code.specs.State.{Frame, State, Calling, At, Returning, Goes, Tells, Sticks}
 use Rattle.ll_code.specs.Machine.{step, goes_on, shapes_of, waiting, called, called_value, called_as, c_result, param_types, type_or_word, entered, enters, jump, begins, branch, block_in, set_all}
 use Rattle.ll_code.specs.Meaning.{run, follow}
 use Rattle.ll_code.specs.declared.program.LlType.{LlType}
@@ -24,7 +22,6 @@ use Rattle.ll_code.specs.declared.program.LlOp.TheVariants as op
 use Rattle.ll_code.specs.declared.program.LlExit.{LlExit}
 use Rattle.ll_code.specs.declared.program.LlExit.TheVariants as exit
 use Rattle.ll_code.specs.declared.program.LlBlock.{LlBlock}
-use Rattle.ll_code.specs.declared.program.LlGraph.{LlGraph}
 use Rattle.ll_code.specs.declared.program.LlProgram.{LlProgram}
 use Rattle.refcount_laws.specs.Graphs.{Stands}
 use Rattle.refcount_laws.specs.Runs.{Leads, here}

@@ -1,36 +1,32 @@
 -- An item that is a reference is written, and the items of a new block are emptied.
-use Rattle.std.proofs.Common.{◌≡◌, ◌≢◌, ◌⊎◌, inl, inr, ⊎_elim, ◌<◌, ◌≤◌, ◌^◌, ℕ, zero, suc, ◌+◌, ◌-◌, Bool, true, false, ◌||◌, List, [], ◌∷◌, ◌++◌, length, map, replicate, Option, Some, None, refl, sym, ap, ◌∙◌, subst, arith}
-use Rattle.std.specs.Prelude.{slice_set, slice_get, pos, cond, nat_lt}
-use Rattle.csub_tree.specs.State.{Stuck, Value, Unset, Word, Flag, Byte, Fun, Null, Ptr, Static, Block, Core}
-use Rattle.csub_tree.specs.Layout.{shape_at, begins_with, place}
+use Rattle.std.proofs.Common.{◌≡◌, ◌<◌, ℕ, zero, suc, ◌+◌, true, false, ◌||◌, List, [], ◌∷◌, length, Option, Some, None, refl, sym, ap, ◌∙◌, subst, arith}
+use Rattle.std.specs.Prelude.{slice_set, pos, cond, nat_lt}
+use Rattle.csub_tree.specs.State.{Stuck, Value, Unset, Word, Fun, Ptr, Block, Core}
+use Rattle.csub_tree.specs.Layout.{begins_with}
 use Rattle.csub_tree.specs.Operation.{is_unset}
 use Rattle.csub_tree.specs.Statement.{read, operand, operands, any_unset, stored, block_at, reached, on_block}
 use Rattle.csub_tree.specs.Statement as st
 use Rattle.csub_tree.specs.declared.stuck.StuckReason.TheVariants.{Outside, Unset as IsUnset}
 use Rattle.csub_tree.specs.declared.tree.COperand.{COperand}
 use Rattle.csub_tree.specs.declared.tree.COperand.TheVariants.{Var}
-use Rattle.ll_code.specs.State.{Frame, State, Calling, At, Goes, Sticks}
-use Rattle.ll_code.specs.Machine.{shapes_of, goes_on, waiting, called, entered, enters}
-use Rattle.ll_code.specs.declared.program.LlType.{LlType}
+use Rattle.ll_code.specs.State.{Frame, State, At, Goes}
+use Rattle.ll_code.specs.Machine.{shapes_of, goes_on}
 use Rattle.ll_code.specs.declared.program.LlOp.{LlOp}
 use Rattle.ll_code.specs.declared.program.LlOp.TheVariants as op
 use Rattle.ll_code.specs.declared.program.LlExit.{LlExit}
 use Rattle.ll_code.specs.declared.program.LlExit.TheVariants as exit
-use Rattle.ll_code.specs.declared.program.LlBlock.{LlBlock}
 use Rattle.ll_code.specs.declared.program.LlProgram.{LlProgram}
-use Rattle.refcount_laws.specs.Graphs.{Reference, Counts, Counting, StandsWith, IsRoot, IsField, AreItems, put_item_block, put_item_types}
-use Rattle.refcount_laws.specs.Ghost.{memory, one, hit, occurs, Slot, S, no_slot, count_of, bare, shown, slot_at, count, bare_at, field_references, item_references, references, held_by, inner, as_first, fixed_at, Ghost, IsFixed, HasRoom, LeadsTo, AllLead, FieldsLead, ItemsLead, IsWhole, IsCounted, Apart, OnceIn, written}
+use Rattle.refcount_laws.specs.Graphs.{Counts, Counting, StandsWith, AreItems, put_item_block, put_item_types}
+use Rattle.refcount_laws.specs.Ghost.{memory, hit, occurs, Slot, S, count_of, bare, shown, slot_at, bare_at, field_references, item_references, references, Ghost, HasRoom, LeadsTo, AllLead, ItemsLead, IsWhole, IsCounted, written}
 use Rattle.refcount_laws.specs.Runs.{Leads, here}
 use Rattle.refcount_laws.specs.Touched.{block_in, Shown, Done}
-use Rattle.refcount_laws.proofs.Cells.{set_here, set_other, set_length}
-use Rattle.refcount_laws.proofs.Ghosts.{one_self, one_other, occurs_both, There, there, inside, set_inner}
+use Rattle.refcount_laws.proofs.Cells.{set_length}
+use Rattle.refcount_laws.proofs.Ghosts.{occurs_both, There, there}
 use Rattle.refcount_laws.proofs.Steps.{leads_on, goes, wait, item_step, reached_ok, return_step}
-use Rattle.refcount_laws.proofs.Touching.{is_or_not}
-use Rattle.refcount_laws.proofs.Leading.{lead_set, lead_kept, lead_by_kind, fields_by_kind, items_by_kind, whole_by_kind, whole_kept}
-use Rattle.refcount_laws.proofs.Moving.{own_same}
-use Rattle.refcount_laws.proofs.Doing.{done_before, done_on, down_done, up_done}
+use Rattle.refcount_laws.proofs.Leading.{lead_set, lead_kept, lead_by_kind, fields_by_kind, items_by_kind, whole_kept}
+use Rattle.refcount_laws.proofs.Doing.{down_done, up_done}
 use Rattle.std.proofs.lemmas.Bool.Decides.{nat_tests}
-use Rattle.refcount_laws.proofs.Writing.{read_inside, slot_then, kinds_then, inner_then, written_counted, written_shown, same_written, call_all_step}
+use Rattle.refcount_laws.proofs.Writing.{kinds_then, inner_then, written_counted, written_shown, same_written, call_all_step}
 
 less_is : (m n : ℕ) → m < n → nat_lt m n ≡ true
 less_is m n lt = grind (arith, nat_tests)

@@ -5,7 +5,7 @@ use Rattle.csub_tree.specs.State.{Block}
 use Rattle.refcount_laws.specs.Graphs.{Counts}
 use Rattle.refcount_laws.specs.Ghost.{Slot, S, no_slot, count_of, shown, slot_at, count}
 use Rattle.refcount_laws.specs.Touched.{block_in, Shows, Touched, Shown}
-use Rattle.refcount_laws.proofs.Cells.{set_here, set_other, set_length, past, same_lists}
+use Rattle.refcount_laws.proofs.Cells.{set_here, set_other, set_length}
 use Rattle.refcount_laws.proofs.Ghosts.{inside}
 
 pub is_or_not : (a b : ℕ) → (a ≡ b) ⊎ (a ≢ b)

@@ -1,22 +1,20 @@
 -- Variables of the graphs that are made, and words.
-use Rattle.std.proofs.Common.{◌≡◌, ◌≢◌, ◌⊎◌, ⊎_elim, inl, inr, ◌<◌, ◌≤◌, ◌^◌, ℕ, zero, suc, ◌+◌, Bool, true, false, ◌||◌, List, [], ◌∷◌, ◌++◌, length, map, replicate, Ok, refl, sym, ap, ◌∙◌, subst, arith}
-use Rattle.std.proofs.Math.IntN.{ℤ, pos, negsuc, ◌+ℤ◌, ◌-ℤ◌}
+use Rattle.std.proofs.Common.{◌≡◌, ◌⊎◌, ⊎_elim, inl, inr, ◌<◌, ◌≤◌, ◌^◌, ℕ, zero, suc, ◌+◌, true, false, ◌||◌, List, [], ◌∷◌, ◌++◌, length, Ok, refl, ap, ◌∙◌, subst, arith}
+use Rattle.std.proofs.Math.IntN.{pos, ◌+ℤ◌, ◌-ℤ◌}
 use Rattle.std.proofs.lemmas.Int.{int_wrap_fits, ints}
 use Rattle.std.proofs.lemmas.Bool.Decides.{nat_tests}
-use Rattle.std.specs.Int.{w64, int_wrap}
+use Rattle.std.specs.Int.{w64}
 use Rattle.std.specs.Prelude.{slice_set, int_lt, FitsSigned}
 use Rattle.std.specs.Ordering.{int_eq}
-use Rattle.rpy_base.specs.Word.{wrap}
 use Rattle.csub_tree.specs.State.{Value, Unset, Word, Flag}
 use Rattle.csub_tree.specs.Operation.{is_unset, binary_of}
 use Rattle.csub_tree.specs.Statement.{read, operand, operands, any_unset}
 use Rattle.csub_tree.specs.declared.tree.CBinary.TheVariants.{Add, Sub, Eq, Lt}
 use Rattle.csub_tree.specs.declared.tree.COperand.{COperand}
-use Rattle.csub_tree.specs.declared.tree.COperand.TheVariants.{Var}
 use Rattle.ll_code.specs.Machine.{set_all}
 use Rattle.refcount_laws.specs.Graphs.{variables, given}
 use Rattle.refcount_laws.proofs.Touching.{is_or_not}
-use Rattle.refcount_laws.proofs.Cells.{set_here, set_other, set_again, past}
+use Rattle.refcount_laws.proofs.Cells.{set_here, set_other, set_again}
 
 -- ---- words
 

@@ -1,8 +1,8 @@
 -- A field or an item that is a reference is written.
-use Rattle.std.proofs.Common.{◌≡◌, ◌≢◌, ◌⊎◌, inl, inr, ⊎_elim, ◌<◌, ◌≤◌, ◌^◌, ℕ, zero, suc, ◌+◌, ◌-◌, Bool, true, false, ◌||◌, List, [], ◌∷◌, ◌++◌, length, map, replicate, Option, Some, None, refl, sym, ap, ◌∙◌, subst, arith}
+use Rattle.std.proofs.Common.{◌≡◌, ◌≢◌, inl, inr, ⊎_elim, ◌<◌, ℕ, zero, suc, ◌+◌, ◌-◌, false, ◌||◌, List, [], ◌∷◌, ◌++◌, length, replicate, Option, Some, None, refl, sym, ap, ◌∙◌, subst, arith}
 use Rattle.std.specs.Prelude.{slice_set, slice_get, pos, cond}
-use Rattle.csub_tree.specs.State.{Value, Unset, Word, Flag, Byte, Fun, Null, Ptr, Static, Block, Core}
-use Rattle.csub_tree.specs.Layout.{shape_at, begins_with, place}
+use Rattle.csub_tree.specs.State.{Value, Unset, Word, Fun, Ptr, Static, Block, Core}
+use Rattle.csub_tree.specs.Layout.{shape_at, place}
 use Rattle.csub_tree.specs.Operation.{is_unset}
 use Rattle.csub_tree.specs.Statement.{read, operand, operands, any_unset, stored}
 use Rattle.csub_tree.specs.declared.stuck.StuckReason.TheVariants.{Unset as IsUnset}
@@ -17,17 +17,16 @@ use Rattle.ll_code.specs.declared.program.LlExit.{LlExit}
 use Rattle.ll_code.specs.declared.program.LlExit.TheVariants as exit
 use Rattle.ll_code.specs.declared.program.LlBlock.{LlBlock}
 use Rattle.ll_code.specs.declared.program.LlProgram.{LlProgram}
-use Rattle.refcount_laws.specs.Graphs.{Reference, Counts, Counting, StandsWith, IsRoot, IsField, put_block, put_types}
-use Rattle.refcount_laws.specs.Ghost.{memory, one, hit, occurs, Slot, S, no_slot, count_of, bare, shown, slot_at, count, bare_at, field_references, item_references, references, held_by, inner, as_first, fixed_at, Ghost, IsFixed, HasRoom, LeadsTo, AllLead, FieldsLead, ItemsLead, IsWhole, IsCounted, Apart, OnceIn, written}
+use Rattle.refcount_laws.specs.Graphs.{Reference, Counts, Counting, StandsWith, IsField, put_block, put_types}
+use Rattle.refcount_laws.specs.Ghost.{memory, one, hit, occurs, Slot, S, no_slot, count_of, bare, shown, slot_at, count, bare_at, field_references, item_references, references, held_by, inner, fixed_at, Ghost, IsFixed, HasRoom, LeadsTo, FieldsLead, ItemsLead, IsWhole, IsCounted, Apart, OnceIn, written}
 use Rattle.refcount_laws.specs.Runs.{Leads, here}
 use Rattle.refcount_laws.specs.Touched.{block_in, Shown, Done}
 use Rattle.refcount_laws.proofs.Cells.{set_here, set_other, set_length}
-use Rattle.refcount_laws.proofs.Ghosts.{one_self, one_other, occurs_both, There, there, inside, set_inner}
+use Rattle.refcount_laws.proofs.Ghosts.{occurs_both, There, there, inside, set_inner}
 use Rattle.refcount_laws.proofs.Steps.{leads_on, goes, wait, get_step, put_step, return_step}
 use Rattle.refcount_laws.proofs.Touching.{is_or_not}
 use Rattle.refcount_laws.proofs.Leading.{lead_set, lead_kept, lead_by_kind, fields_by_kind, items_by_kind, whole_by_kind, whole_kept}
-use Rattle.refcount_laws.proofs.Moving.{own_same}
-use Rattle.refcount_laws.proofs.Doing.{done_before, done_on, down_done, up_done}
+use Rattle.refcount_laws.proofs.Doing.{down_done, up_done}
 
 pub apart_same : (h : Reference) (held : List Reference) (fields : List Value) (w : Value) → Apart h held → field_references held (slice_set fields h.at w) ≡ field_references held fields
 apart_same h [] fields w a = refl

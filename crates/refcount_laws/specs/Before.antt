@@ -1,5 +1,5 @@
 -- Where a counted program stands before an operation of its program, and what is asked there.
-use Rattle.std.specs.Prelude.{◌≡◌, ◌<◌, ℕ, ◌+◌, Bool, true, false, List, [], ◌∷◌, length, slice_get, Option, Some, None, Ok}
+use Rattle.std.specs.Prelude.{◌≡◌, ℕ, ◌+◌, Bool, true, false, List, ◌∷◌, length, slice_get, Option, Some, Ok}
 use Rattle.csub_tree.specs.State.{Value, Ptr, Block, Core}
 use Rattle.csub_tree.specs.Layout.{shape_at, place}
 use Rattle.csub_tree.specs.Operation.{is_unset}

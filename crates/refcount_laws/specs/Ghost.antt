@@ -1,11 +1,11 @@
 -- What is counted: of each block ever made how many references lead to it, none where it is gone.
-use Rattle.std.specs.Prelude.{◌≡◌, ◌≢◌, ◌⊎◌, ◌<◌, ◌^◌, ℕ, zero, suc, ◌+◌, pos, List, [], ◌∷◌, ◌++◌, length, map, slice_get, slice_set, slice_index_or, Option, Some, None, true}
-use Rattle.csub_tree.specs.State.{Value, Unset, Word, Byte, Flag, Fun, Null, Ptr, Static, Block}
+use Rattle.std.specs.Prelude.{◌≡◌, ◌≢◌, ◌⊎◌, ◌<◌, ◌^◌, ℕ, zero, suc, ◌+◌, pos, List, [], ◌∷◌, ◌++◌, length, map, slice_set, slice_index_or, Option, Some, None, true}
+use Rattle.csub_tree.specs.State.{Value, Word, Fun, Null, Ptr, Static, Block}
 use Rattle.csub_tree.specs.Layout.{begins_with}
 use Rattle.csub_tree.specs.Statement.{read}
 use Rattle.ll_code.specs.Machine.{shapes_of}
 use Rattle.ll_code.specs.declared.program.LlProgram.{LlProgram}
-use Rattle.refcount_laws.specs.Graphs.{Reference, Counts, IsRoot}
+use Rattle.refcount_laws.specs.Graphs.{Reference, Counts}
 
 -- ---- references
 

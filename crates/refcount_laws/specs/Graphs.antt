@@ -1,5 +1,5 @@
 -- The graphs that count the references to the blocks of a program, and that release a block.
-use Rattle.std.specs.Prelude.{◌≡◌, ◌<◌, ◌≤◌, ◌^◌, ℕ, zero, suc, ◌+◌, pos, List, [], ◌∷◌, ◌++◌, length, map, slice_get, Option, Some, None, Bool, true}
+use Rattle.std.specs.Prelude.{◌≡◌, ℕ, zero, suc, pos, List, [], ◌∷◌, ◌++◌, length, map, slice_get, Option, Some, None, Bool, true}
 use Rattle.csub_tree.specs.Layout.{shape_at, begins_with, place}
 use Rattle.csub_tree.specs.declared.tree.CBinary.TheVariants.{Add, Sub, Eq, Lt, Peq}
 use Rattle.csub_tree.specs.declared.tree.CConst.TheVariants as const

@@ -1,6 +1,6 @@
 -- What follows an exit of a counted program.
-use Rattle.std.specs.Prelude.{◌≡◌, ℕ, suc, ◌+◌, ◌||◌, not, ◌&&◌, Bool, true, false, List, [], ◌∷◌, slice_get, Option, Some, None}
-use Rattle.csub_tree.specs.State.{Value, Unset, Block, Core}
+use Rattle.std.specs.Prelude.{◌≡◌, ℕ, suc, ◌+◌, not, ◌&&◌, Bool, true, false, List, [], ◌∷◌, slice_get, Option, Some}
+use Rattle.csub_tree.specs.State.{Value, Block, Core}
 use Rattle.csub_tree.specs.Statement.{operand, operands, any_unset}
 use Rattle.csub_tree.specs.Operation.{is_unset}
 use Rattle.csub_tree.specs.declared.tree.COperand.{COperand}

@@ -1,7 +1,6 @@
 -- When a state of a counted program stands where one of its program does, and what follows an operation there.
-use Rattle.std.specs.Prelude.{◌≡◌, ◌⊎◌, ◌<◌, ℕ, ◌+◌, Bool, true, false, List, ◌∷◌, length, slice_get, Option, Some, None}
-use Rattle.rpy_base.specs.declared.outcome.Outcome.{Outcome}
-use Rattle.csub_tree.specs.State.{Value, Unset, Null, Ptr, Static, Block, Core, Event, Made, Freed, After, Onward, Puts as PutsByte, Told, Over, Stuck}
+use Rattle.std.specs.Prelude.{◌≡◌, ◌⊎◌, ◌<◌, ℕ, ◌+◌, Bool, true, false, List, length, slice_get, Option, Some}
+use Rattle.csub_tree.specs.State.{Value, Unset, Null, Ptr, Static, Block, Core, Made, Freed, After, Onward, Puts as PutsByte, Told, Over, Stuck}
 use Rattle.csub_tree.specs.Layout.{begins_with}
 use Rattle.csub_tree.specs.Statement.{read}
 use Rattle.ll_code.specs.State.{Frame, State, At, Puts, Tells, Ends}
@@ -11,7 +10,7 @@ use Rattle.ll_code.specs.declared.program.LlExit.{LlExit}
 use Rattle.ll_code.specs.declared.program.LlProgram.{LlProgram}
 use Rattle.ll_code.specs.declared.program.LlType.{LlType}
 use Rattle.refcount_transform.specs.Plan.{Plan, plan_of, is_counted, root_of}
-use Rattle.refcount_transform.specs.Changes.{Around, around_of, var_referred}
+use Rattle.refcount_transform.specs.Changes.{around_of, var_referred}
 use Rattle.refcount_transform.specs.Counted.{counted}
 use Rattle.refcount_laws.specs.Made.{counts_of}
 use Rattle.refcount_laws.specs.Ghost.{Ghost, Fixed, Alone, F, fixed_at, bare_at, memory, IsCounted}

@@ -1,17 +1,16 @@
 -- What is asked of a state before an operation that stays in its block, by what the operation is.
-use Rattle.std.specs.Prelude.{◌≡◌, ◌≢◌, ◌<◌, ℕ, Bool, true, false, List, [], ◌∷◌, length, slice_get, Option, Some, None}
-use Rattle.csub_tree.specs.State.{Value, Ptr, Static, Block, Core}
+use Rattle.std.specs.Prelude.{◌≡◌, ◌≢◌, ◌<◌, ℕ, true, List, length, slice_get, Option, Some, None}
+use Rattle.csub_tree.specs.State.{Value, Ptr, Static, Core}
 use Rattle.csub_tree.specs.Layout.{shape_at, place, begins_with}
 use Rattle.csub_tree.specs.Statement.{read, operand}
 use Rattle.csub_tree.specs.declared.tree.COperand.{COperand}
 use Rattle.ll_code.specs.Machine.{shapes_of}
-use Rattle.ll_code.specs.Typed.{items_of}
 use Rattle.ll_code.specs.declared.program.LlOp.{LlOp}
 use Rattle.ll_code.specs.declared.program.LlOp.TheVariants as op
 use Rattle.ll_code.specs.declared.program.LlType.{LlType}
 use Rattle.ll_code.specs.declared.program.LlStruct.{LlStruct}
 use Rattle.ll_code.specs.declared.program.LlProgram.{LlProgram}
-use Rattle.refcount_transform.specs.Plan.{plan_of, is_counted, field_referred, items_referred, reference_given}
+use Rattle.refcount_transform.specs.Plan.{plan_of, is_counted, field_referred, items_referred}
 use Rattle.refcount_transform.specs.Changes.{around_of, var_referred}
 use Rattle.refcount_laws.specs.Made.{counts_of}
 use Rattle.refcount_laws.specs.Matches.{PointsTo}

@@ -1,5 +1,5 @@
 -- When the run of a counted program goes as that of its program does.
-use Rattle.std.specs.Prelude.{◌≡◌, ℕ, zero, suc, ◌+◌, List, [], ◌∷◌, map, Option}
+use Rattle.std.specs.Prelude.{◌≡◌, ℕ, zero, suc, ◌+◌, List, map, Option}
 use Rattle.csub_tree.specs.State.{Block, Event}
 use Rattle.ll_code.specs.State.{Frame, State, Next, Goes, Puts, Tells, Ends, Sticks}
 use Rattle.ll_code.specs.Machine.{step}

@@ -1,5 +1,5 @@
 -- Runs of a counted program that free blocks on the way.
-use Rattle.std.specs.Prelude.{◌≡◌, ◌≤◌, ◌+◌, ℕ, List, ◌++◌, map, Option}
+use Rattle.std.specs.Prelude.{◌≡◌, ◌+◌, ℕ, List, ◌++◌, map, Option}
 use Rattle.csub_tree.specs.State.{Value, Block, Core, Event, Freed}
 use Rattle.ll_code.specs.State.{State}
 use Rattle.ll_code.specs.Meaning.{run}

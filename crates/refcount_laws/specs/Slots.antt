@@ -1,5 +1,5 @@
 -- The exception slots, each of which owns what it holds, where that is counted.
-use Rattle.std.specs.Prelude.{◌≡◌, ℕ, ◌+◌, true, List, Option, Some}
+use Rattle.std.specs.Prelude.{◌≡◌, ℕ, ◌+◌, true, Option, Some}
 use Rattle.csub_tree.specs.State.{Value, Core}
 use Rattle.ll_code.specs.declared.program.LlProgram.{LlProgram}
 use Rattle.refcount_transform.specs.Plan.{Plan, plan_of, is_counted, root_of}

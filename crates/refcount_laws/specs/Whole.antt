@@ -1,11 +1,9 @@
 -- When a state of a counted program stands for one of its program, with calls that wait, and what follows a step there.
-use Rattle.std.specs.Prelude.{◌≡◌, ◌<◌, ℕ, zero, ◌+◌, ◌-◌, Bool, true, false, List, [], ◌∷◌, ◌++◌, length, replicate, slice_get, Option, Some, None}
-use Rattle.rpy_base.specs.declared.outcome.Outcome.{Outcome}
-use Rattle.csub_tree.specs.State.{Value, Unset, Ptr, Block, Core, Event, Made, Freed}
-use Rattle.csub_tree.specs.declared.tree.COperand.{COperand}
+use Rattle.std.specs.Prelude.{◌≡◌, ◌<◌, ℕ, ◌+◌, ◌-◌, true, false, List, [], ◌∷◌, ◌++◌, length, replicate, slice_get, Option, Some, None}
+use Rattle.csub_tree.specs.State.{Value, Unset, Ptr, Block, Core, Made, Freed}
 use Rattle.ll_code.specs.State.{Frame, State, Calling, At, Returning, Throwing, Next, Goes, Puts, Tells, Ends, Sticks}
-use Rattle.ll_code.specs.Machine.{step, waiting}
-use Rattle.ll_code.specs.Typed.{operation_ok, exit_ok, link_ok, params_ok}
+use Rattle.ll_code.specs.Machine.{step}
+use Rattle.ll_code.specs.Typed.{operation_ok, exit_ok, link_ok}
 use Rattle.ll_code.specs.declared.program.LlType.{LlType}
 use Rattle.ll_code.specs.declared.program.LlLink.{LlLink}
 use Rattle.ll_code.specs.declared.program.LlOp.{LlOp}
