@@ -53,3 +53,4 @@ pub mod Running
 pub mod Beginning
 pub mod Starting
 pub mod Meaning
+pub mod Leftover

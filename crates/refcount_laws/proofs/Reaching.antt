@@ -91,19 +91,19 @@ none_of (s ∷ g) (suc x) e = none_of g x e
 
 -- ---- a block that is there is held
 
-module _ (c : Counts) (g : List Slot) (blocks : List (Option Block)) (own : Value → ℕ) (roots : List Value) (mirrors : Mirrors c g blocks) (owns : Owns own roots) (counts : (b : ℕ) → count g b ≡ inner c g (Ptr b) + own (Ptr b)) where
+module _ (c : Counts) (g : List Slot) (blocks : List (Option Block)) (own : Value → ℕ) (roots : List Value) (edges : (a b : ℕ) → 0 < count g a → 0 < occurs (Ptr b) (references c (bare_at g a)) → Refers blocks a b) (named : (b : ℕ) → 0 < own (Ptr b) → 0 < times b roots) (counts : (b : ℕ) → count g b ≡ inner c g (Ptr b) + own (Ptr b)) where
   -- b is held if a block before it is, unless that one was passed
   held_step : (fl : List Bool) (b : ℕ) → ((x : ℕ) → passed fl x ≡ true → (b ≡ x) ⊎ Reaches blocks b x) → 0 < count g b → ((r : Before c g b) → passed fl r.a ≡ false → Held blocks roots r.a) → Held blocks roots b
   held_step fl b seen h rec =
       let e : count g b ≡ inner c g (Ptr b) + own (Ptr b) = counts b in
       let d : (0 < own (Ptr b)) ⊎ (0 < inner c g (Ptr b)) = grind (arith, e, h) in
-      ⊎_elim (λ r. Root {b = b} (owns.named b r)) (λ i. by_before (before c g b i)) d
+      ⊎_elim (λ r. Root {b = b} (named b r)) (λ i. by_before (before c g b i)) d
     where
       by_flag : (r : Before c g b) (f : Bool) → passed fl r.a ≡ f → Held blocks roots b
       by_flag r true e =
-          let s : Refers blocks r.a b = mirrors.edges r.a b r.there r.refers in
+          let s : Refers blocks r.a b = edges r.a b r.there r.refers in
           ⊎_elim (λ q. Cycle (Next (subst (λ a. Refers blocks a b) (sym q) s))) (λ p. Cycle (longer p s)) (seen r.a e)
-      by_flag r false e = From (rec r e) (mirrors.edges r.a b r.there r.refers)
+      by_flag r false e = From (rec r e) (edges r.a b r.there r.refers)
 
       by_before : Before c g b → Held blocks roots b
       by_before r = by_flag r (passed fl r.a) refl
@@ -119,7 +119,7 @@ module _ (c : Counts) (g : List Slot) (blocks : List (Option Block)) (own : Valu
   walk zero fl b le w seen h = held_step fl b seen h (λ r e. absurd (let f : suc (to_pass (pass fl r.a)) ≡ to_pass fl = fewer g fl r.a w r.there e in omega (arith, f, le)))
   walk (suc k) fl b le w seen h =
       held_step fl b seen h
-      (λ r e. (let f : suc (to_pass (pass fl r.a)) ≡ to_pass fl = fewer g fl r.a w r.there e in walk k (pass fl r.a) r.a (omega (arith, f, le)) (still_fits g fl r.a w) (seen_more fl b r.a (mirrors.edges r.a b r.there r.refers) seen) r.there))
+      (λ r e. (let f : suc (to_pass (pass fl r.a)) ≡ to_pass fl = fewer g fl r.a w r.there e in walk k (pass fl r.a) r.a (omega (arith, f, le)) (still_fits g fl r.a w) (seen_more fl b r.a (edges r.a b r.there r.refers) seen) r.there))
 
   pub there_held : (b : ℕ) → 0 < count g b → Held blocks roots b
   there_held b h = walk (to_pass (none_passed g)) (none_passed g) b (omega arith) (none_fits g) (λ x e. absurd (none_of g x e)) h
@@ -233,7 +233,7 @@ told_fewer c g blocks m r (a ∷ l) w = let x : occurs r (references c (bare_at 
 module _ (c : Counts) (g : List Slot) (blocks : List (Option Block)) (own : Value → ℕ) (roots : List Value) (mirrors : Mirrors c g blocks) (owns : Owns own roots) (counts : (b : ℕ) → count g b ≡ inner c g (Ptr b) + own (Ptr b)) where
   held_all : (l : List ℕ) → AllThere g l → AllHeld blocks roots l
   held_all [] w = tt
-  held_all (a ∷ l) w = (there_held c g blocks own roots mirrors owns counts a w.0, held_all l w.1)
+  held_all (a ∷ l) w = (there_held c g blocks own roots mirrors.edges owns.named counts a w.0, held_all l w.1)
 
   -- references that are in blocks which are there, and those that are owned, are fewer than so many
   pub has_room : (most : ℕ) → IsBelow most blocks roots → (r : Value) → inner c g r + own r < most
