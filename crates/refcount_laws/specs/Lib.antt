@@ -14,3 +14,4 @@ pub mod Leaves
 pub mod Whole
 pub mod Run
 pub mod Means
+pub mod Kept

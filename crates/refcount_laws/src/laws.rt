@@ -1,6 +1,6 @@
 // Laws of the graphs that count references, over all programs that have them.
-ghost use Rattle.std.specs.Prelude.{◌≡◌, ◌≢◌, ◌<◌, ℕ, suc, ◌+◌, true, List, ◌∷◌, [], Option, Some, None, slice_get, slice_set, length, map};
-ghost use Rattle.csub_tree.specs.State.{Value, Ptr, Static, Block, Core, Event};
+ghost use Rattle.std.specs.Prelude.{ℤ, ◌≡◌, ◌≢◌, ◌<◌, ℕ, suc, ◌+◌, true, List, ◌∷◌, [], Option, Some, None, slice_get, slice_set, length, map};
+ghost use Rattle.csub_tree.specs.State.{Value, Word, Null, Ptr, Static, Block, Core, Event};
 ghost use Rattle.csub_tree.specs.Layout.{shape_at, place, begins_with};
 ghost use Rattle.csub_tree.specs.Statement.{operand, read, fun_of};
 ghost use Rattle.ll_code.specs.Machine.{shapes_of, start, step};
@@ -10,7 +10,10 @@ ghost use Rattle.ll_code.specs.State.{Frame, State, At};
 ghost use Rattle.ll_code.specs.Meaning.{Meant, run, within, comes};
 ghost use Rattle.csub_tree.specs.Meaning.{made_in};
 ghost use Rattle.ll_held.specs.Quiet.{ReadsInputs};
-ghost use Rattle.refcount_laws.specs.Whole.{Call, StandsFor, ReadyFor, NextStands};
+ghost use Rattle.ll_held.specs.Held.{Held as IsHeld, Reaches};
+ghost use Rattle.ll_held.specs.Roots.{core_of};
+ghost use Rattle.refcount_laws.specs.Kept.{used_values};
+ghost use Rattle.refcount_laws.specs.Whole.{BothReturning, Call, StandsFor, ReadyFor, NextStands};
 ghost use Rattle.refcount_laws.specs.Run.{ReadyAlong, RunStands, wider};
 ghost use Rattle.refcount_laws.specs.Means.{SameMeaning, Starts};
 ghost use Rattle.ll_code.specs.Typed.{IsWellTyped, operation_ok, field_of, items_of};
@@ -32,7 +35,7 @@ ghost use Rattle.refcount_laws.specs.Ready.{Ready};
 ghost use Rattle.refcount_laws.specs.Calls.{OperandsPoint, CallFollows};
 ghost use Rattle.refcount_laws.specs.Owned.{Roomy};
 ghost use Rattle.refcount_laws.specs.Slots.{slot_hits, SlotLeads};
-ghost use Rattle.refcount_laws.specs.Touched.{Shown, Done};
+ghost use Rattle.refcount_laws.specs.Touched.{block_in, Shown, Done};
 
 /// The counted program of a well-typed one, whose references lead to root structs, has for each struct
 /// that is counted the graph that releases a block, for each field that is a reference the graph that
@@ -110,4 +113,16 @@ pub fn runs_are_followed()
 pub fn counted_programs_mean_the_same()
     ensures starts { (p : LlProgram) → IsWellTyped p → (steps : ℕ) → Starts p steps }
     ensures means { (p : LlProgram) → IsWellTyped p → leads_to_roots p ≡ true → ReadsInputs p → (args : List (List ℕ)) (steps k : ℕ) (m : Meant) → ReadyAlong p args k (start p steps) → within p args steps k ≡ Some m → comes m.ending → SameMeaning p args steps m }
+{}
+
+/// Each block that is there in a state of the counted program which stands for one of the program is
+/// held there: it is reached from a value that is still used, or from a cycle.
+pub fn what_is_there_is_held()
+    ensures { (p : LlProgram) (calls : List Call) (others : List Frame) (s t : State) (g : Ghost) (h : List (Option Block)) → StandsFor p calls others s t g h → (b : ℕ) → 0 < count g.blocks b → IsHeld (core_of s).blocks (used_values calls s) b }
+{}
+
+/// Where a program returns a word out of its first graph, its exception slots are clear and no block
+/// lies on a cycle, no block is there any more in the counted program.
+pub fn nothing_is_left()
+    ensures { (p : LlProgram) (value : Value) (core : Core) (s : State) (g : Ghost) (h : List (Option Block)) → BothReturning p [] [] value [] core s g h → (z : ℤ) → value ≡ Word z → core.exc_type ≡ Null → core.exc_value ≡ Null → ((b : ℕ) → Reaches core.blocks b b → ⊥) → (b : ℕ) → block_in h b ≡ None }
 {}
