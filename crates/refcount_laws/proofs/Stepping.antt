@@ -54,6 +54,7 @@ use Rattle.refcount_laws.specs.Before.{Before}
 use Rattle.refcount_laws.specs.Ready.{Ready}
 use Rattle.refcount_laws.specs.Leaves.{Leaves, EntersBy, given_to}
 use Rattle.refcount_laws.specs.Whole.{Call, Waits, AllWait, BothAt, BothCalling, BothReturning, StandsFor, ComesFor, NextStands, ReadyAt, ReadyFor, ReadyBy, beside, waits_own, slots_own}
+use Rattle.ll_held.proofs.Placing.{under_is}
 use Rattle.refcount_laws.proofs.Keeping.{AfterMoves, Onwards, does_moves, sets_slots}
 use Rattle.refcount_laws.proofs.Dispatching.{operation_followed}
 use Rattle.refcount_laws.proofs.Emptied.{exc_set_one, exc_clear_one}
@@ -252,7 +253,7 @@ module _ (p : LlProgram) (ok : IsWellTyped p) (leads : leads_to_roots p ≡ true
             stands = record {
               graph = graph;
               there = there;
-              waits = (record { there = both.there; into = sets_it; next = both.next; ways = both.ways; at = x.at + 1; is = refl }, both.waits);
+              waits = (record { there = both.there; into = sets_it; under = under_is p o ops e into core ready.placed; next = both.next; ways = both.ways; at = x.at + 1; is = refl }, both.waits);
               qcore = here x.qcore core.function core.block x.at core.vars x.h (memory x.g);
               stands = record { near = x.stands.near; shown = x.stands.shown; steps = x.stands.steps; exc_type = x.stands.exc_type; exc_value = x.stands.exc_value };
               counts = own_same (counted p) args (counts_of (plan_of p)) x.g (λ r. given_to (around_of (plan_of p) graph.types) 0 values r + (owned (around_of (plan_of p) both.graph.types) (live (o ∷ ops) e) core.vars r + own_here r))

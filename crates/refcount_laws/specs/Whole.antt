@@ -12,6 +12,8 @@ use Rattle.ll_code.specs.declared.program.LlExit.{LlExit}
 use Rattle.ll_code.specs.declared.program.LlBlock.{LlBlock}
 use Rattle.ll_code.specs.declared.program.LlGraph.{LlGraph}
 use Rattle.ll_code.specs.declared.program.LlProgram.{LlProgram}
+use Rattle.ll_held.specs.Roots.{under_way}
+use Rattle.ll_held.specs.Places.{PlacedAt}
 use Rattle.ll_live.specs.Live.{among, reads, set_by, live}
 use Rattle.refcount_transform.specs.Plan.{plan_of, root_of, reference_given}
 use Rattle.refcount_transform.specs.Changes.{around_of, var_referred, touched, dead, ops_of}
@@ -52,6 +54,7 @@ beside p calls frames core r = slots_own p core r + waits_own p calls frames r
 pub record Waits (p : LlProgram) (call : Call) (frame other : Frame) : Type 0 where
   pub there : slice_get p.graphs frame.graph ≡ Some call.graph
   pub into : set_by call.op ≡ frame.into
+  pub under : under_way p frame ≡ Some call.op
   pub next : ℕ
   pub ways : From (blocks_of (around_of (plan_of p) call.graph.types) call.graph.blocks) next (behind_exit (around_of (plan_of p) call.graph.types) frame.exit)
   pub at : ℕ
@@ -135,6 +138,7 @@ ReadyBy p graph own core g o = Ready p graph.types own core o
 
 -- before an operation
 pub record ReadyAt (p : LlProgram) (graph : LlGraph) (own : Value → ℕ) (o : LlOp) (ops : List LlOp) (exit : LlExit) (core : Core) (g : Ghost) : Type 0 where
+  pub placed : PlacedAt p core.function core.block core.at (o ∷ ops) exit
   pub roots : AllRoots p graph.types
   pub fits : length core.vars ≡ length graph.types
   pub pointing : Pointing p graph.types core.blocks core.statics (live (o ∷ ops) exit) core.vars
