@@ -13,6 +13,7 @@ pub mod Dropping
 pub mod Rising
 pub mod Doing
 pub mod Writing
+pub mod FixedWrites
 pub mod Storing
 pub mod Numbers
 pub mod Standing
