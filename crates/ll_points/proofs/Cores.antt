@@ -22,7 +22,7 @@ use Rattle.ll_laws.proofs.Heap.{unset_at}
 use Rattle.ll_points.specs.Agrees.{Slots, op_agrees}
 use Rattle.ll_points.specs.Points.{Leads, LeadsBy, AllLead, BlockLeads, SlotsLead, MemoryLeads}
 use Rattle.ll_points.proofs.Shapes.{begins_so}
-use Rattle.ll_points.proofs.Leading.{Kept, Grows, grows_same, by_more, all_more, block_more, stand_more, slots_more, same_memory, vars_set, unary_leads, binary_leads, operand_leads}
+use Rattle.ll_points.proofs.Leading.{Kept, Grows, grows_same, by_more, all_more, block_more, stand_more, slots_more, same_memory, vars_set, unset_leads, unary_leads, binary_leads, operand_leads}
 
 -- ---- lists
 
@@ -324,13 +324,9 @@ module _ (p : LlProgram) (slots : Slots) (types : List LlType) where
 
       fresh_leads : (blocks : List (Option Block)) (n items : ℕ) → BlockLeads p blocks core.statics (fresh n items)
       fresh_leads blocks n items = record {
-        fields = λ a t e. subst (LeadsBy p blocks core.statics t) (sym (unset_at (shape_at (shapes_of p.structs) n).size a)) (nothing blocks t);
-        items = λ i t e. subst (LeadsBy p blocks core.statics t) (sym (unset_at items i)) (nothing blocks t);
+        fields = λ a t e. subst (LeadsBy p blocks core.statics t) (sym (unset_at (shape_at (shapes_of p.structs) n).size a)) (unset_leads p blocks core.statics t);
+        items = λ i t e. subst (LeadsBy p blocks core.statics t) (sym (unset_at items i)) (unset_leads p blocks core.statics t);
       }
-        where
-          nothing : (blocks : List (Option Block)) (t : LlType) → LeadsBy p blocks core.statics t Unset
-          nothing blocks (type.Ptr m) = tt
-          nothing blocks other = tt
 
       new_leads : (a m n items : ℕ) → begins p.structs n m ≡ true → slice_get types a ≡ Some (type.Ptr m) → AfterLeads core (new_block core (shapes_of p.structs) a n items)
       new_leads a m n items h is = record {

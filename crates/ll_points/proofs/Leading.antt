@@ -107,6 +107,10 @@ module _ (p : LlProgram) where
         at b u e (inr new) =
             let f : Some t ≡ Some u = sym is ∙ ap (slice_get types) new.0 ∙ e in let g : t ≡ u = cc in subst (LeadsBy p blocks statics u) (sym new.1) (subst (λ t. LeadsBy p blocks statics t value) g h)
 
+    pub unset_leads : (t : LlType) → LeadsBy p blocks statics t Unset
+    unset_leads (type.Ptr n) = tt
+    unset_leads other = tt
+
     pub unary_leads : (o : CUnary) (value : Value) → LeadsBy p blocks statics (unary_gives o) value
     unary_leads one.Not value = tt
     unary_leads one.S2C value = tt
