@@ -1,5 +1,6 @@
 pub mod Cores
 pub mod Leading
+pub mod Runs
 pub mod Shapes
 pub mod Statics
 pub mod Steps

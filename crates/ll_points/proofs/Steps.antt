@@ -128,8 +128,7 @@ module _ (p : LlProgram) (slots : Slots) (all : graphs_ok p p.graphs ≡ true) (
     begins_leads to xs None e h = tt
     begins_leads to xs (Some b) e h =
         let agree : block_agrees slots g.types b ≡ true = agrees_at core.function g of to b e in
-        let vars : List Value = set_all core.vars b.inputs (operands core.vars xs) in
-        (
+        let vars : List Value = set_all core.vars b.inputs (operands core.vars xs) in (
           g,
           record {
             of = of;
@@ -187,3 +186,173 @@ module _ (p : LlProgram) (slots : Slots) (all : graphs_ok p p.graphs ≡ true) (
     leaves_leads (exit.Raise a) h k = absurd (cc)
     leaves_leads (exit.Fail number) h k = fail_leads (exit.Fail number) (fail_name_of number)
     leaves_leads (exit.Raised a) h k = raised_leads (exit.Raised a) (type_in (slice_get p.graphs core.function) a) (read core.vars a)
+
+  -- ---- calls
+
+  -- values that are given to the parameters lead as the first variables do
+  parameters_lead : (others : List LlType) (n : ℕ) (g : LlGraph) (core : Core) → CoreLeads p slots g.types core → (vs : List ℕ) (xs : List COperand) → params_ok p others n vs ≡ true
+      → all_given p g.types others vs xs ≡ true → (k : ℕ) (t : LlType) → slice_get others (n + k) ≡ Some t → LeadsBy p core.blocks core.statics t (read (operands core.vars xs) k)
+  parameters_lead others n g core fit [] [] ok h k t e = unset_leads p core.blocks core.statics t
+  parameters_lead others n g core fit [] (x ∷ xs) ok h k t e = absurd (cc)
+  parameters_lead others n g core fit (v ∷ vs) [] ok h k t e = absurd (cc)
+  parameters_lead others n g core fit (v ∷ vs) (x ∷ xs) ok h zero t e =
+      let same : v ≡ n + 0 = omega (arith, is_same v n (and_left _ _ (and_left _ _ ok))) in first (slice_get others v) (ap (slice_get others) same ∙ e) (and_left _ _ h)
+    where
+      first : (o : Option LlType) → o ≡ Some t → given_takes p g.types o x ≡ true → LeadsBy p core.blocks core.statics t (operand core.vars x)
+      first None f h = absurd (cc)
+      first (Some u) f h =
+          let i : u ≡ t = cc in subst (λ t. LeadsBy p core.blocks core.statics t (operand core.vars x)) i (operand_leads p core.blocks core.statics structs fit.memory.stand g.types core.vars fit.vars u x h)
+  parameters_lead others n g core fit (v ∷ vs) (x ∷ xs) ok h (suc k) t e =
+      let same : n + 1 + k ≡ n + suc k = omega arith in parameters_lead others (n + 1) g core fit vs xs (and_right _ _ ok) (and_right _ _ h) k t (ap (slice_get others) same ∙ e)
+
+  -- the same where the types of the parameters are those that are asked for
+  asked_lead : (others : List LlType) (n : ℕ) (g : LlGraph) (core : Core) → CoreLeads p slots g.types core → (vs : List ℕ) (ts : List LlType) (xs : List COperand) → params_ok p others n vs ≡ true
+      → are_types p.structs ts ≡ true → same_types (map (λ v. type_or_word (slice_get others v)) vs) (map c_type ts) ≡ true → all_taken p g.types ts xs ≡ true
+      → (k : ℕ) (t : LlType) → slice_get others (n + k) ≡ Some t → LeadsBy p core.blocks core.statics t (read (operands core.vars xs) k)
+  asked_lead others n g core fit [] [] [] ok kinds same h k t e = unset_leads p core.blocks core.statics t
+  asked_lead others n g core fit [] [] (x ∷ xs) ok kinds same h k t e = absurd (cc)
+  asked_lead others n g core fit [] (u ∷ ts) xs ok kinds same h k t e = absurd (cc)
+  asked_lead others n g core fit (v ∷ vs) [] xs ok kinds same h k t e = absurd (cc)
+  asked_lead others n g core fit (v ∷ vs) (u ∷ ts) [] ok kinds same h k t e = absurd (cc)
+  asked_lead others n g core fit (v ∷ vs) (u ∷ ts) (x ∷ xs) ok kinds same h zero t e =
+      let here : v ≡ n + 0 = omega (arith, is_same v n (and_left _ _ (and_left _ _ ok))) in
+      first (slice_get others v) (ap (slice_get others) here ∙ e) (and_right _ _ (and_left _ _ ok)) (and_left _ _ same)
+    where
+      first : (o : Option LlType) → o ≡ Some t → is_type_given p.structs o ≡ true → same_type (type_or_word o) (c_type u) ≡ true → LeadsBy p core.blocks core.statics t (operand core.vars x)
+      first None f i j = absurd (cc)
+      first (Some w) f i j =
+          let a : w ≡ u = same_c p.structs w u i (and_left _ _ kinds) j in let b : w ≡ t = cc in let d : u ≡ t = sym a ∙ b in
+          subst (λ t. LeadsBy p core.blocks core.statics t (operand core.vars x)) d (operand_leads p core.blocks core.statics structs fit.memory.stand g.types core.vars fit.vars u x (and_left _ _ h))
+  asked_lead others n g core fit (v ∷ vs) (u ∷ ts) (x ∷ xs) ok kinds same h (suc k) t e =
+      let on : n + 1 + k ≡ n + suc k = omega arith in
+      asked_lead others (n + 1) g core fit vs ts xs (and_right _ _ ok) (and_right _ _ kinds) (and_right _ _ same) (and_right _ _ h) k t (ap (slice_get others) on ∙ e)
+
+  entered_leads : (f : ℕ) (values : List Value) (frames : List Frame) (core : Core) (g : LlGraph) → CallingLeads p slots f values frames core g → NextLeads p slots (entered f values frames core (slice_get p.graphs f))
+  entered_leads f values frames core g fit = subst (λ o. NextLeads p slots (entered f values frames core o)) (sym fit.of) (enters_leads (slice_get g.blocks 0) refl)
+    where
+      filled : (n : ℕ) → AllLead p core.blocks core.statics g.types (values ++ replicate n Unset)
+      filled n = λ a t e. subst (LeadsBy p core.blocks core.statics t) (sym (read_filled values n a)) (fit.given a t e)
+
+      enters_leads : (o : Option LlBlock) → slice_get g.blocks 0 ≡ o → NextLeads p slots (enters f values frames core g o)
+      enters_leads None e = tt
+      enters_leads (Some b) e =
+          let agree : block_agrees slots g.types b ≡ true = agrees_at f g fit.of 0 b e in
+          let vars : List Value = values ++ replicate (length g.types - length g.params) Unset in (
+            g,
+            record {
+              of = fit.of;
+              vars = filled (length g.types - length g.params);
+              left = and_left _ _ agree;
+              end = and_right _ _ agree;
+              waiting = frames_more p slots core (record core { function = f; block = 0; at = 0; vars = vars }) (grows_same core.blocks core.statics) g.result frames fit.waiting;
+              memory = same_memory p slots core f 0 0 vars core.steps fit.memory;
+            },
+          )
+
+  module _ (g : LlGraph) (frames : List Frame) (core : Core) (of : slice_get p.graphs core.function ≡ Some g) (fit : CoreLeads p slots g.types core) (waits : FramesLead p slots core g.result frames)
+      (ops : List LlOp) (exit : LlExit) (left : ops_agree slots g.types ops ≡ true) (end : exit_agrees exit ≡ true) where
+    waiting_leads : (into : Option ℕ) (result : LlType) → result_ok g.types into result ≡ true → FramesLead p slots core result (waiting core into ops exit ∷ frames)
+    waiting_leads into result h = (g, record { of = of; vars = fit.vars; into = h; ops = left; exit = end }, waits)
+
+    call_leads : (into : Option ℕ) (f : ℕ) (xs : List COperand) (o : Option LlGraph) → slice_get p.graphs f ≡ o → call_ok p g.types into o xs ≡ true → NextLeads p slots (called f (operands core.vars xs) (waiting core into ops exit ∷ frames) core)
+    call_leads into f xs None e h = absurd (cc)
+    call_leads into f xs (Some other) e h =
+        let good : graph_ok p other ≡ true = graph_at p p.graphs f other all e in
+        choice_next (any_unset (operands core.vars xs)) (Sticks IsUnset) (Goes (Calling f (operands core.vars xs) (waiting core into ops exit ∷ frames) core)) tt (
+          other,
+          record {
+            of = e;
+            given = λ a t is. parameters_lead other.types 0 g core fit other.params xs (params_of other good) (and_right _ _ h) a t (ap (slice_get other.types) (omega arith) ∙ is);
+            waiting = waiting_leads into other.result (and_left _ _ h);
+            memory = fit.memory;
+          },
+        )
+
+    called_as_leads : (into : Option ℕ) (result : LlType) (params : List LlType) (f : ℕ) (xs : List COperand) (o : Option LlGraph) → slice_get p.graphs f ≡ o
+        → is_kind p.structs result ≡ true → are_types p.structs params ≡ true → result_ok g.types into result ≡ true → all_taken p g.types params xs ≡ true
+        → NextLeads p slots (called_as (c_result result) (map c_type params) f (operands core.vars xs) (waiting core into ops exit ∷ frames) core o)
+    called_as_leads into result params f xs None e a b c d = tt
+    called_as_leads into result params f xs (Some other) e a b c d = tested (same_result (c_result other.result) (c_result result) && same_types (param_types other) (map c_type params)) refl
+      where
+        good : graph_ok p other ≡ true
+        good = graph_at p p.graphs f other all e
+
+        tested : (t : Bool) → (same_result (c_result other.result) (c_result result) && same_types (param_types other) (map c_type params)) ≡ t
+            → NextLeads p slots (cond t (Goes (Calling f (operands core.vars xs) (waiting core into ops exit ∷ frames) core)) (Sticks Signature))
+        tested false h = tt
+        tested true h = (
+          other,
+          record {
+            of = e;
+            given = λ v t is. asked_lead other.types 0 g core fit other.params params xs (params_of other good) b (and_right _ _ h) d v t (ap (slice_get other.types) (omega arith) ∙ is);
+            waiting = waiting_leads into other.result (subst (λ r. result_ok g.types into r ≡ true) (sym (same_given p.structs other.result result (result_of other good) a (and_left _ _ h))) c);
+            memory = fit.memory;
+          },
+        )
+
+    called_value_leads : (into : Option ℕ) (result : LlType) (params : List LlType) (o : Option ℕ) (xs : List COperand)
+        → is_kind p.structs result ≡ true → are_types p.structs params ≡ true → result_ok g.types into result ≡ true → all_taken p g.types params xs ≡ true
+        → NextLeads p slots (called_value p (c_result result) (map c_type params) o (operands core.vars xs) (waiting core into ops exit ∷ frames) core)
+    called_value_leads into result params None xs a b c d = tt
+    called_value_leads into result params (Some f) xs a b c d = called_as_leads into result params f xs (slice_get p.graphs f) refl a b c d
+
+    operates_leads : (args : List (List ℕ)) (o : LlOp) → operation_ok p g.types o ≡ true → op_agrees slots g.types o ≡ true → NextLeads p slots (operates p args o ops exit frames core)
+    operates_leads args (op.Call into f xs) h k = call_leads into f xs (slice_get p.graphs f) refl h
+    operates_leads args (op.CallFn into result params b xs) h k =
+        choice_next (is_unset (read core.vars b) || any_unset (operands core.vars xs)) (Sticks IsUnset)
+        (called_value p (c_result result) (map c_type params) (fun_of (read core.vars b)) (operands core.vars xs) (waiting core into ops exit ∷ frames) core) tt
+        (called_value_leads into result params (fun_of (read core.vars b)) xs (and_right _ _ (and_left _ _ (and_left _ _ (and_left _ _ h)))) (and_right _ _ (and_left _ _ (and_left _ _ h)))
+        (and_right _ _ (and_left _ _ h)) (and_right _ _ h))
+    operates_leads args (op.Raise a) h k = absurd (raise_never slots g.types a k)
+    operates_leads args other h k = goes_lead g frames core of fit waits ops exit (does p args core other) left end (operation_leads p slots g.types core fit structs args other h k)
+
+  at_leads : (args : List (List ℕ)) (ops : List LlOp) (exit : LlExit) (frames : List Frame) (core : Core) (g : LlGraph) → AtLeads p slots ops exit frames core g → operations_ok p g.types ops ≡ true → exit_ok p g exit ≡ true
+      → NextLeads p slots (step p args (At ops exit frames core))
+  at_leads args [] exit frames core g l h k = leaves_leads g frames core l.of (record { vars = l.vars; memory = l.memory }) l.waiting exit k l.end
+  at_leads args (o ∷ ops) exit frames core g l h k =
+      operates_leads g frames core l.of (record { vars = l.vars; memory = l.memory }) l.waiting ops exit (and_right _ _ l.left) l.end args o (and_left _ _ h) (and_left _ _ l.left)
+
+  -- ---- back to who waits
+
+  ended_leads : (value : Value) (core : Core) → NextLeads p slots (goes_on (Returning value []) (ended core value))
+  ended_leads (Word z) core = tt
+  ended_leads other core = tt
+
+  taken_leads : (core : Core) (types : List LlType) (vars : List Value) (into : Option ℕ) (t : LlType) (value : Value) → AllLead p core.blocks core.statics types vars → result_ok types into t ≡ true
+      → LeadsBy p core.blocks core.statics t value → AllLead p core.blocks core.statics types (taken_by vars into value)
+  taken_leads core types vars None t value fit h k = fit
+  taken_leads core types vars (Some a) t value fit h k = vars_set p core.blocks core.statics types vars a t value fit (has_type_is t (slice_get types a) h) k
+
+  returned_leads : (value : Value) (frames : List Frame) (core : Core) (g : LlGraph) → ReturningLeads p slots value frames core g → NextLeads p slots (returned value frames core)
+  returned_leads value [] core g l = ended_leads value core
+  returned_leads value (frame ∷ frames) core g l = back l.waiting
+    where
+      vars : List Value
+      vars = taken_by frame.vars frame.into value
+
+      back : FramesLead p slots core g.result (frame ∷ frames) → NextLeads p slots (returned value (frame ∷ frames) core)
+      back (h, w, rest) = (
+        h,
+        record {
+          of = w.of;
+          vars = taken_leads core h.types frame.vars frame.into g.result value w.vars w.into l.leads;
+          left = w.ops;
+          end = w.exit;
+          waiting = frames_more p slots core (record core { function = frame.graph; block = frame.block; at = frame.at; vars = vars }) (grows_same core.blocks core.statics) h.result frames rest;
+          memory = same_memory p slots core frame.graph frame.block frame.at vars core.steps l.memory;
+        },
+      )
+
+  -- ---- steps
+
+  same_graph : (args : List (List ℕ)) (ops : List LlOp) (exit : LlExit) (frames : List Frame) (core : Core) (g h : LlGraph) → AtFits p ops exit frames core g → AtLeads p slots ops exit frames core h
+      → NextLeads p slots (step p args (At ops exit frames core))
+  same_graph args ops exit frames core g h fit l =
+      let e : Some g ≡ Some h = sym fit.of ∙ l.of in let same : g ≡ h = cc in
+      at_leads args ops exit frames core h l (subst (λ g. operations_ok p g.types ops ≡ true) same fit.left) (subst (λ g. exit_ok p g exit ≡ true) same fit.end)
+
+  pub step_leads : (args : List (List ℕ)) (s : State) → StateFits p s → StateLeads p slots s → NextLeads p slots (step p args s)
+  step_leads args (Calling f values frames core) fit (g, l) = entered_leads f values frames core g l
+  step_leads args (At ops exit frames core) (g, fit) (h, l) = same_graph args ops exit frames core g h fit l
+  step_leads args (Returning value frames core) fit (g, l) = returned_leads value frames core g l
+  step_leads args (Throwing value frames core) fit l = absurd l
