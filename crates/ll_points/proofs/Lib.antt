@@ -1,5 +1,7 @@
 pub mod Cores
+pub mod Found
 pub mod Leading
+mod Rows
 pub mod Runs
 pub mod Shapes
 pub mod Statics

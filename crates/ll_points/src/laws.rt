@@ -6,7 +6,7 @@ ghost use Rattle.ll_code.specs.State.{State};
 ghost use Rattle.ll_code.specs.Typed.{IsWellTyped};
 ghost use Rattle.ll_code.specs.declared.program.LlProgram.{LlProgram};
 ghost use Rattle.ll_laws.specs.States.{StateFits};
-ghost use Rattle.ll_points.specs.Agrees.{Slots, Agrees};
+ghost use Rattle.ll_points.specs.Agrees.{Slots, Agrees, slots_of};
 ghost use Rattle.ll_points.specs.Points.{StateLeads, NextLeads, RanLeads};
 
 /// A step of a well-typed program that raises and frees nothing leads from a state whose pointers lead
@@ -22,4 +22,10 @@ pub fn steps_keep_pointers()
 #[tactic(auto, using(crate::proofs::Runs::whole_run_leads))]
 pub fn pointers_lead_to_their_structs()
     ensures { (p : LlProgram) → IsWellTyped p → (slots : Slots) → Agrees slots p → (args : List (List ℕ)) (steps k : ℕ) → RanLeads p slots (run p args k (start p steps) [] []) }
+{}
+
+/// Where any slots agree with a program, those do that its first operation that sets them shows.
+#[tactic(auto, using(crate::proofs::Found::slots_found))]
+pub fn slots_are_found()
+    ensures { (p : LlProgram) (slots : Slots) → Agrees slots p → Agrees (slots_of p) p }
 {}
