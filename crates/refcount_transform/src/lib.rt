@@ -18,3 +18,4 @@ mod releases;
 mod slots;
 
 pub use counted::count;
+pub use plan::{counted_structs, reference_given, root};
