@@ -1,0 +1,4 @@
+pub mod Keeps
+pub mod Pointers
+pub mod Slots
+pub mod Tests
