@@ -1,7 +1,7 @@
 -- What each state of a run keeps, beside its types.
 use Rattle.std.proofs.Common.{◌≡◌, ℕ, Bool, true, false, List, [], ◌∷◌, Option, Some, None}
 use Rattle.std.specs.Prelude.{slice_get}
-use Rattle.csub_tree.specs.State.{Value, Ptr, Core}
+use Rattle.csub_tree.specs.State.{Value, Ptr, Block, Core}
 use Rattle.csub_tree.specs.Operation.{is_unset}
 use Rattle.csub_tree.specs.Statement.{read, any_unset}
 use Rattle.ll_code.specs.declared.program.LlType.{LlType}
@@ -19,13 +19,16 @@ use Rattle.refcount_ready.proofs.Pointers.{Sound, AreCounted}
 
 -- blocks are counted, no static names a block, and the slots hold what is set, which is no block where they refer to nothing that is
 -- counted
-pub record CoreKeeps (p : LlProgram) (core : Core) : Type 0 where
-  pub counted : AreCounted p core.blocks
-  pub apart : NoBlocksIn core.statics
-  pub set_type : is_unset core.exc_type ≡ false
-  pub set_value : is_unset core.exc_value ≡ false
-  pub slot_type : (m : ℕ) → core.exc_type ≡ Ptr m → (n : ℕ) × ((plan_of p).slots.kind ≡ Some n)
-  pub slot_value : (m : ℕ) → core.exc_value ≡ Ptr m → (n : ℕ) × ((plan_of p).slots.value ≡ Some n)
+pub record MemoryKeeps (p : LlProgram) (blocks : List (Option Block)) (statics : List Block) (exc_type exc_value : Value) : Type 0 where
+  pub counted : AreCounted p blocks
+  pub apart : NoBlocksIn statics
+  pub set_type : is_unset exc_type ≡ false
+  pub set_value : is_unset exc_value ≡ false
+  pub slot_type : (m : ℕ) → exc_type ≡ Ptr m → (n : ℕ) × ((plan_of p).slots.kind ≡ Some n)
+  pub slot_value : (m : ℕ) → exc_value ≡ Ptr m → (n : ℕ) × ((plan_of p).slots.value ≡ Some n)
+
+abbrev pub CoreKeeps : LlProgram → Core → Type 0
+CoreKeeps p core = MemoryKeeps p core.blocks core.statics core.exc_type core.exc_value
 
 -- variables that are used and are pointers are set
 abbrev pub SetIn : List LlType → (ℕ → Bool) → List Value → Type 0

@@ -1,3 +1,4 @@
+pub mod Doing
 pub mod Keeps
 pub mod Pointers
 pub mod Slots

@@ -159,8 +159,11 @@ module _ (p : LlProgram) (structs : IsWellTyped p) (blocks : List (Option Block)
   constant_set (constant.Static s g) = refl
   constant_set (constant.Fun z) = refl
 
+  pub operand_leads : (types : List LlType) (vars : List Value) → AllLead p blocks statics types vars → (t : LlType) (x : COperand) → takes p types t x ≡ true → LeadsBy p blocks statics t (operand vars x)
+  operand_leads types vars lead t (Var v) h = lead v t (has_type_is t (slice_get types v) h)
+  operand_leads types vars lead t (Const c) h = constant_leads t c h
+
   module _ (types : List LlType) (vars : List Value) (fit : AllFit p (length blocks) types vars) (lead : AllLead p blocks statics types vars) where
     -- an operand of a type is sound, if it is set
     pub operand_sound : (t : LlType) (x : COperand) → takes p types t x ≡ true → ((n : ℕ) → t ≡ type.Ptr n → is_unset (operand vars x) ≡ false) → Sound p blocks statics t (operand vars x)
-    operand_sound t (Var v) h set = record { fits = operand_fits p (length blocks) types vars fit t (Var v) h; leads = lead v t (has_type_is t (slice_get types v) h); set = set }
-    operand_sound t (Const c) h set = record { fits = constant_fits p (length blocks) t c h; leads = constant_leads t c h; set = set }
+    operand_sound t x h set = record { fits = operand_fits p (length blocks) types vars fit t x h; leads = operand_leads types vars lead t x h; set = set }

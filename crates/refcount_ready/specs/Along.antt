@@ -1,9 +1,10 @@
 -- What is asked of the states of a run: they are small, and no reference is written into a static.
 use Rattle.std.specs.Prelude.{◌≡◌, ℕ, List, [], ◌∷◌, Some}
-use Rattle.csub_tree.specs.State.{Event}
+use Rattle.csub_tree.specs.State.{Core, Event}
 use Rattle.ll_code.specs.State.{State, At}
 use Rattle.ll_code.specs.Machine.{start}
 use Rattle.ll_code.specs.Meaning.{Unfinished, run}
+use Rattle.ll_code.specs.declared.program.LlOp.{LlOp}
 use Rattle.ll_code.specs.declared.program.LlOp.TheVariants as op
 use Rattle.ll_code.specs.declared.program.LlProgram.{LlProgram}
 use Rattle.ll_held.specs.Held.{IsBelow}
@@ -20,8 +21,13 @@ EachState holds p args steps = (k : ℕ) (s : State) (text : List ℕ) (events :
 abbrev pub IsSmall : LlProgram → State → Type 0
 IsSmall p s = IsBelow most (core_of s).blocks (roots p s)
 
--- where a reference is written next, it is written into a block
+-- where the operation writes a reference, it writes into a block
+abbrev pub WritesBlocks : LlProgram → Core → LlOp → Type 0
+WritesBlocks p core (op.SetField n v i x) = (m : ℕ) → field_referred (plan_of p) n i ≡ Some m → InBlock core v
+WritesBlocks p core (op.SetItem n v i x) = (m : ℕ) → items_referred (plan_of p) n ≡ Some m → InBlock core v
+WritesBlocks p core other = Unit {0}
+
+-- so does what comes next
 abbrev pub LeavesStatics : LlProgram → State → Type 0
-LeavesStatics p (At (op.SetField n v i x ∷ ops) exit frames core) = (m : ℕ) → field_referred (plan_of p) n i ≡ Some m → InBlock core v
-LeavesStatics p (At (op.SetItem n v i x ∷ ops) exit frames core) = (m : ℕ) → items_referred (plan_of p) n ≡ Some m → InBlock core v
+LeavesStatics p (At (o ∷ ops) exit frames core) = WritesBlocks p core o
 LeavesStatics p other = Unit {0}
