@@ -1,5 +1,5 @@
 -- What each state of a run keeps, beside its types.
-use Rattle.std.proofs.Common.{◌≡◌, ℕ, Bool, true, false, List, [], ◌∷◌, Option, Some, None}
+use Rattle.std.proofs.Common.{◌≡◌, ℕ, Bool, true, false, List, [], ◌∷◌, length, Option, Some, None}
 use Rattle.std.specs.Prelude.{slice_get}
 use Rattle.csub_tree.specs.State.{Value, Ptr, Block, Core}
 use Rattle.csub_tree.specs.Operation.{is_unset}
@@ -11,6 +11,7 @@ use Rattle.ll_code.specs.declared.program.LlExit.{LlExit}
 use Rattle.ll_code.specs.declared.program.LlGraph.{LlGraph}
 use Rattle.ll_code.specs.declared.program.LlProgram.{LlProgram}
 use Rattle.ll_code.specs.State.{Frame, State, Calling, At, Returning, Throwing, Next, Goes, Puts, Tells, Ends, Sticks}
+use Rattle.ll_code.specs.Typed.{result_ok}
 use Rattle.ll_held.specs.Roots.{waits_for}
 use Rattle.ll_live.specs.Live.{live}
 use Rattle.refcount_transform.specs.Plan.{plan_of, reference_given}
@@ -37,6 +38,8 @@ SetIn types uses vars = (v n : ℕ) → uses v ≡ true → slice_get types v �
 -- a call that waits for a result of this type, and drops no reference
 pub record FrameKeeps (p : LlProgram) (result : LlType) (graph : LlGraph) (frame : Frame) : Type 0 where
   pub of : slice_get p.graphs frame.graph ≡ Some graph
+  pub typed : result_ok graph.types frame.into result ≡ true
+  pub long : length frame.vars ≡ length graph.types
   pub set : SetIn graph.types (waits_for p frame) frame.vars
   pub drops : frame.into ≡ None → reference_given (plan_of p).counted (Some result) ≡ None
 
