@@ -6,6 +6,7 @@ use Rattle.csub_tree.specs.Layout.{static_block}
 use Rattle.csub_tree.specs.Operation.{is_unset, word_of, flag_of}
 use Rattle.csub_tree.specs.Statement as st
 use Rattle.csub_tree.specs.Statement.{read, operand, operands, any_unset, taken_by, fun_of, same_result, same_types, reached, on_block}
+use Rattle.rpy_base.specs.declared.outcome.Outcome.TheVariants.{Returned}
 use Rattle.csub_tree.specs.declared.stuck.StuckReason.{StuckReason}
 use Rattle.csub_tree.specs.declared.stuck.StuckReason.TheVariants.{Outside, Signature, Unset as IsUnset}
 use Rattle.csub_tree.specs.declared.tree.COperand.{COperand}
@@ -43,7 +44,7 @@ use Rattle.refcount_laws.proofs.Cells.{set_here, set_other}
 use Rattle.refcount_laws.proofs.Numbers.{Based, all_based}
 use Rattle.refcount_typed.specs.Leads.{LeadsToRoots}
 use Rattle.refcount_typed.proofs.Roots.{made_counted, inside}
-use Rattle.refcount_ready.specs.Countable.{result_of, call_countable, calls_countable, op_countable, takes_params, is_countable}
+use Rattle.refcount_ready.specs.Countable.{result_of, call_countable, calls_countable, op_countable, takes_params, all_among, is_countable}
 use Rattle.refcount_ready.specs.Along.{WritesBlocks, LeavesStatics}
 use Rattle.refcount_ready.proofs.Tests.{Stands, stands_placed, graph_test, op_test, all_roots, graph_good, stands_made}
 use Rattle.refcount_ready.proofs.Pointers.{Sound, operand_sound}
@@ -234,3 +235,159 @@ module _ (p : LlProgram) (ok : IsWellTyped p) (slots : Slots) (agrees : Agrees s
     operates_keep (op.CallFn into result params v xs) keeps fit lead h placed writes agree = call_fn_keep into result params v xs keeps fit h placed
     operates_keep (op.Raise a) keeps fit lead h placed writes agree = absurd (raise_disagrees slots graph.types a agree)
     operates_keep other keeps fit lead h placed writes agree = stays other keeps fit lead h placed writes agree
+
+  -- ---- links
+
+  module _ (frames : List Frame) (core : Core) (graph : LlGraph) (closed : ReadsInputs p) (of : slice_get p.graphs core.function ≡ Some graph) (long : length core.vars ≡ length graph.types) (waits : FramesKeep p graph.result frames) (keeps : CoreKeeps p core) where
+    begins_keep : (to : ℕ) (xs : List COperand) (w : Option LlBlock) → slice_get graph.blocks to ≡ w → Rattle.ll_code.specs.Typed.enters p graph.types w xs ≡ true → any_unset (operands core.vars xs) ≡ false → NextKeeps p (begins frames core to (operands core.vars xs) w)
+    begins_keep to xs None there h set = tt
+    begins_keep to xs (Some block) there h set = (graph, record { of = of; set = set_in; waiting = waits; keeps = keeps })
+      where
+        inside_types : (types : List LlType) (v : ℕ) (t : LlType) → slice_get types v ≡ Some t → v < length types
+        inside_types [] v t e = absurd (cc)
+        inside_types (x ∷ types) zero t e = omega arith
+        inside_types (x ∷ types) (suc v) t e = omega (arith, inside_types types v t e)
+
+        set_in : SetIn graph.types (live block.ops block.exit) (set_all core.vars block.inputs (operands core.vars xs))
+        set_in v n u t =
+            inputs_set block.inputs core.vars (operands core.vars xs) v (sym (length_operands core.vars xs ∙ given_count p graph.types graph.types block.inputs xs h)) set
+            (let l : v < length graph.types = inside_types graph.types v (type.Ptr n) t in omega (arith, l, long)) (closed core.function graph of to block there v u)
+
+    jump_keep : (link : LlLink) → link_ok p graph link ≡ true → NextKeeps p (jump p frames core link)
+    jump_keep link h = by (any_unset (operands core.vars link.args)) refl
+      where
+        by : (b : Bool) → any_unset (operands core.vars link.args) ≡ b → NextKeeps p (cond b (Sticks IsUnset) (begins frames core link.to (operands core.vars link.args) (block_in (slice_get p.graphs core.function) link.to)))
+        by true set = tt
+        by false set =
+            subst (λ w. NextKeeps p (begins frames core link.to (operands core.vars link.args) w)) (ap (λ g. block_in g link.to) (sym of)) (begins_keep link.to link.args (slice_get graph.blocks link.to) refl h set)
+
+    branch_keep : (there elsewhere : LlLink) (w : Option Bool) → link_ok p graph there ≡ true → link_ok p graph elsewhere ≡ true → NextKeeps p (branch p frames core there elsewhere w)
+    branch_keep there elsewhere None h k = tt
+    branch_keep there elsewhere (Some true) h k = jump_keep there h
+    branch_keep there elsewhere (Some false) h k = jump_keep elsewhere k
+
+  -- ---- returns
+
+  void_sound : (blocks : List (Option Block)) (statics : List Block) (t : LlType) → is_void t ≡ true → Sound p blocks statics t Unset
+  void_sound blocks statics type.Void h = record { fits = tt; leads = tt; set = λ n e. absurd (cc) }
+  void_sound blocks statics type.Signed h = absurd (cc)
+  void_sound blocks statics type.Char h = absurd (cc)
+  void_sound blocks statics type.Bool h = absurd (cc)
+  void_sound blocks statics type.Fn h = absurd (cc)
+  void_sound blocks statics (type.Ptr n) h = absurd (cc)
+
+  module _ (frames : List Frame) (core : Core) (graph : LlGraph) (of : slice_get p.graphs core.function ≡ Some graph) (fit : CoreFits p graph.types core) (ops : List LlOp) (e : LlExit) (lead : AtLeads p slots ops e frames core graph) (waits : FramesKeep p graph.result frames) (keeps : CoreKeeps p core) where
+    gives_keep : (x : Option COperand) → return_ok p graph x ≡ true → NextKeeps p (gives_back x frames core)
+    gives_keep None h = (graph, record { of = of; sound = void_sound core.blocks core.statics graph.result h; waiting = waits; keeps = keeps })
+    gives_keep (Some x) h = by (is_unset (operand core.vars x)) refl
+      where
+        by : (b : Bool) → is_unset (operand core.vars x) ≡ b → NextKeeps p (cond b (Sticks IsUnset) (Goes (Returning (operand core.vars x) frames core)))
+        by true set = tt
+        by false set = (graph, record { of = of; sound = operand_sound p ok core.blocks core.statics lead.memory.stand graph.types core.vars fit.vars lead.vars graph.result x h (λ n q. set); waiting = waits; keeps = keeps })
+
+  -- ---- exits
+
+  fails_keep : (ops : List LlOp) (e : LlExit) (frames : List Frame) (core : Core) (w : Option _) → NextKeeps p (goes_on (At ops e frames) (st.fail core w))
+  fails_keep ops e frames core None = tt
+  fails_keep ops e frames core (Some name) = tt
+
+  raised_keep : (e : LlExit) (frames : List Frame) (core : Core) (w : Option CType) (value : Value) → NextKeeps p (goes_on (At [] e frames) (st.raised core (shapes_of p.structs) w value))
+  raised_keep e frames core w value = by w
+    where
+      named : (o : Option (List ℕ)) → NextKeeps p (goes_on (At [] e frames) (st.raised_as core o))
+      named None = tt
+      named (Some name) = tt
+
+      found : (r : Result Block StuckReason) → NextKeeps p (goes_on (At [] e frames) (on_block (λ block. st.raised_as core (st.bytes_of block.items)) r))
+      found (Ok block) = named (st.bytes_of block.items)
+      found (Err reason) = tt
+
+      by : (o : Option CType) → NextKeeps p (goes_on (At [] e frames) (st.raised core (shapes_of p.structs) o value))
+      by (Some (c.Ptr n)) = found (reached core (shapes_of p.structs) n value)
+      by None = tt
+      by (Some c.Signed) = tt
+      by (Some c.Char) = tt
+      by (Some c.Bool) = tt
+      by (Some c.Fn) = tt
+
+  leaves_keep : (closed : ReadsInputs p) (e : LlExit) (frames : List Frame) (core : Core) (graph : LlGraph) → AtKeeps p [] e frames core graph → CoreFits p graph.types core → AtLeads p slots [] e frames core graph → exit_ok p graph e ≡ true → exit_agrees e ≡ true
+      → NextKeeps p (leaves p e frames core)
+  leaves_keep closed (exit.Goto link) frames core graph keeps fit lead h agree = jump_keep frames core graph closed keeps.of fit.vars.count keeps.waiting keeps.keeps link h
+  leaves_keep closed (exit.If a there elsewhere) frames core graph keeps fit lead h agree =
+      branch_keep frames core graph closed keeps.of fit.vars.count keeps.waiting keeps.keeps there elsewhere (flag_of (read core.vars a)) (and_right _ _ (and_left _ _ h)) (and_right _ _ h)
+  leaves_keep closed (exit.OnRaise a link without) frames core graph keeps fit lead h agree = absurd (cc)
+  leaves_keep closed (exit.Return x) frames core graph keeps fit lead h agree = gives_keep frames core graph keeps.of fit [] (exit.Return x) lead keeps.waiting keeps.keeps x h
+  leaves_keep closed (exit.Raise a) frames core graph keeps fit lead h agree = absurd (cc)
+  leaves_keep closed (exit.Fail number) frames core graph keeps fit lead h agree = fails_keep [] (exit.Fail number) frames core _
+  leaves_keep closed (exit.Raised a) frames core graph keeps fit lead h agree = raised_keep (exit.Raised a) frames core (type_in (slice_get p.graphs core.function) a) (read core.vars a)
+
+  -- ---- graphs that are entered
+
+  enters_keep : (closed : ReadsInputs p) (f : ℕ) (values : List Value) (frames : List Frame) (core : Core) (graph : LlGraph) → CallingKeeps p f values frames core graph → length values ≡ length graph.params → (w : Option LlBlock) → slice_get graph.blocks 0 ≡ w → NextKeeps p (enters f values frames core graph w)
+  enters_keep closed f values frames core graph keeps count None there = tt
+  enters_keep closed f values frames core graph keeps count (Some block) there = (graph, record { of = keeps.of; set = set_in; waiting = keeps.waiting; keeps = keeps.keeps })
+    where
+      takes_them : takes_params graph.params (Some block) ≡ true
+      takes_them = ap (takes_params graph.params) (sym there) ∙ and_left _ _ (graph_test p countable f graph keeps.of)
+
+      set_in : SetIn graph.types (live block.ops block.exit) (values ++ replicate (length graph.types - length graph.params) Unset)
+      set_in v n u t =
+          let a : among v graph.params ≡ true = all_are block.inputs graph.params v (and_right (all_among graph.params block.inputs) (all_among block.inputs graph.params) takes_them) (closed f graph keeps.of 0 block there v u) in
+          let l : v < length graph.params = params_below p graph.types graph.params v (params_of f graph keeps.of) a in
+          let m : v < length values = omega (arith, l, count) in
+          ap is_unset (read_first values (replicate (length graph.types - length graph.params) Unset) v m) ∙ each_set values v keeps.set m
+
+  -- ---- calls that go on
+
+  ended_keep : (value : Value) (core : Core) → NextKeeps p (goes_on (Returning value []) (st.ended core value))
+  ended_keep value core = by (word_of value)
+    where
+      by : (w : Option ℤ) → NextKeeps p (goes_on (Returning value []) (st.on (λ n. Over (Returned n) (record core { vars = [] })) w))
+      by None = tt
+      by (Some n) = tt
+
+  returned_keep : (value : Value) (frames : List Frame) (core : Core) (graph : LlGraph) → ReturningKeeps p value frames core graph → NextKeeps p (returned value frames core)
+  returned_keep value [] core graph keeps = ended_keep value core
+  returned_keep value (frame ∷ frames) core graph keeps = back keeps.waiting
+    where
+      back : FramesKeep p graph.result (frame ∷ frames) → NextKeeps p (returned value (frame ∷ frames) core)
+      back (other, w, rest) = (other, record { of = w.of; set = by frame.into refl; waiting = rest; keeps = keeps.keeps })
+        where
+          inside_types : (types : List LlType) (v : ℕ) (t : LlType) → slice_get types v ≡ Some t → v < length types
+          inside_types [] v t e = absurd (cc)
+          inside_types (x ∷ types) zero t e = omega arith
+          inside_types (x ∷ types) (suc v) t e = omega (arith, inside_types types v t e)
+
+          waited : (v : ℕ) → sets frame.into v ≡ false → live frame.ops frame.exit v ≡ true → waits_for p frame v ≡ true
+          waited v h u = or_right (read_by (under_way p frame) v) _ (ap (λ b. not b && live frame.ops frame.exit v) h ∙ u)
+
+          by : (into : Option ℕ) → frame.into ≡ into → SetIn other.types (live frame.ops frame.exit) (taken_by frame.vars into value)
+          by None e v n u t = w.set v n (waited v (ap (λ s. sets s v) e) u) t
+          by (Some a) e v n u t = one (a == v) refl
+            where
+              one : (b : Bool) → (a == v) ≡ b → is_unset (read (slice_set frame.vars a value) v) ≡ false
+              one true h =
+                  let f : a ≡ v = is_same a v h in
+                  let g : slice_get other.types a ≡ Some graph.result = has_type_is graph.result (slice_get other.types a) (ap (λ s. result_ok other.types s graph.result) (sym e) ∙ w.typed) in
+                  let k : graph.result ≡ type.Ptr n = (let z : Some graph.result ≡ Some (type.Ptr n) = sym g ∙ ap (slice_get other.types) f ∙ t in cc) in
+                  ap (λ v. is_unset (read (slice_set frame.vars a value) v)) (sym f) ∙ ap is_unset (set_here frame.vars a value Unset (let l : a < length other.types = inside_types other.types a graph.result g in omega (arith, l, w.long))) ∙ keeps.sound.set n k
+              one false h = ap is_unset (set_other frame.vars a v value Unset (λ q. (let x : (a == v) ≡ true = ap (λ k. k == v) q ∙ same_number v in cc))) ∙ w.set v n (waited v (ap (λ s. sets s v) e ∙ h) u) t
+
+  -- ---- steps
+
+  pub step_keeps : ReadsInputs p → (args : List (List ℕ)) (s : State) → StateFits p s → StateLeads p slots s → IsPlaced p s → LeavesStatics p s → StateKeeps p s → NextKeeps p (step p args s)
+  step_keeps closed args (Calling f values frames core) (g, fit) lead placed writes (graph, keeps) =
+      let same : g ≡ graph = (let z : Some g ≡ Some graph = sym fit.of ∙ keeps.of in cc) in
+      subst (λ o. NextKeeps p (entered f values frames core o)) (sym keeps.of)
+      (enters_keep closed f values frames core graph keeps (fit.count ∙ ap (λ g. length g.params) same) (slice_get graph.blocks 0) refl)
+  step_keeps closed args (At [] e frames core) (g, fit) (g2, lead) placed writes (graph, keeps) =
+      let same : g ≡ graph = (let z : Some g ≡ Some graph = sym fit.of ∙ keeps.of in cc) in
+      let same2 : g2 ≡ graph = (let z : Some g2 ≡ Some graph = sym lead.of ∙ keeps.of in cc) in
+      leaves_keep closed e frames core graph keeps (subst (λ g. CoreFits p g.types core) same fit.fits) (subst (AtLeads p slots [] e frames core) same2 lead) (subst (λ g. exit_ok p g e ≡ true) same fit.end) lead.end
+  step_keeps closed args (At (o ∷ ops) e frames core) (g, fit) (g2, lead) (placed, behind) writes (graph, keeps) =
+      let same : g ≡ graph = (let z : Some g ≡ Some graph = sym fit.of ∙ keeps.of in cc) in
+      let same2 : g2 ≡ graph = (let z : Some g2 ≡ Some graph = sym lead.of ∙ keeps.of in cc) in
+      operates_keep args ops e frames core graph o keeps (subst (λ g. CoreFits p g.types core) same fit.fits) (subst (AtLeads p slots (o ∷ ops) e frames core) same2 lead)
+      (subst (λ g. operation_ok p g.types o ≡ true) same (and_left _ _ fit.left)) placed writes (subst (λ g. op_agrees slots g.types o ≡ true) same2 (and_left _ _ lead.left))
+  step_keeps closed args (Returning value frames core) fit lead placed writes (graph, keeps) = returned_keep value frames core graph keeps
+  step_keeps closed args (Throwing value frames core) fit lead placed writes keeps = absurd keeps
