@@ -1,5 +1,5 @@
 -- When a program uses its exception slots alike everywhere, and raises and frees nothing.
-use Rattle.std.specs.Prelude.{◌≡◌, ℕ, ◌==◌, ◌&&◌, ◌×◌, Bool, true, false, List, [], ◌∷◌, slice_get, Option, Some, None}
+use Rattle.std.specs.Prelude.{◌≡◌, ℕ, ◌==◌, ◌&&◌, Bool, true, false, List, [], ◌∷◌, slice_get, Option, Some, None}
 use Rattle.ll_code.specs.Typed.{has_type}
 use Rattle.ll_code.specs.declared.program.LlType.{LlType}
 use Rattle.ll_code.specs.declared.program.LlType.TheVariants as type
@@ -47,3 +47,32 @@ graphs_agree slots (graph ∷ graphs) = blocks_agree slots graph.types graph.blo
 
 abbrev pub Agrees : Slots → LlProgram → Type 0
 Agrees slots p = graphs_agree slots p.graphs ≡ true
+
+-- ---- the slots of a program: as the first operation that sets them does
+
+abbrev pub pointed : Option LlType → Option LlType → Slots
+pointed (Some (type.Ptr k)) (Some (type.Ptr v)) = Some (k, v)
+pointed s t = None
+
+abbrev pub or_else : Slots → Slots → Slots
+or_else None others = others
+or_else slots others = slots
+
+abbrev pub slots_set : List LlType → LlOp → Slots
+slots_set types (op.ExcSet a b) = pointed (slice_get types a) (slice_get types b)
+slots_set types other = None
+
+abbrev pub slots_in : List LlType → List LlOp → Slots
+slots_in types [] = None
+slots_in types (o ∷ ops) = or_else (slots_set types o) (slots_in types ops)
+
+abbrev pub slots_within : List LlType → List LlBlock → Slots
+slots_within types [] = None
+slots_within types (block ∷ blocks) = or_else (slots_in types block.ops) (slots_within types blocks)
+
+abbrev pub slots_among : List LlGraph → Slots
+slots_among [] = None
+slots_among (graph ∷ graphs) = or_else (slots_within graph.types graph.blocks) (slots_among graphs)
+
+abbrev pub slots_of : LlProgram → Slots
+slots_of p = slots_among p.graphs

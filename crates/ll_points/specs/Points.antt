@@ -3,13 +3,14 @@ use Rattle.std.specs.Prelude.{◌≡◌, ℕ, true, List, [], ◌∷◌, slice_g
 use Rattle.csub_tree.specs.State.{Value, Null, Ptr, Static, Block, Core}
 use Rattle.csub_tree.specs.Layout.{begins_with}
 use Rattle.csub_tree.specs.Statement.{read}
+use Rattle.csub_tree.specs.declared.tree.CStatic.{CStatic}
 use Rattle.ll_code.specs.declared.program.LlType.{LlType}
 use Rattle.ll_code.specs.declared.program.LlType.TheVariants as type
 use Rattle.ll_code.specs.declared.program.LlOp.{LlOp}
 use Rattle.ll_code.specs.declared.program.LlExit.{LlExit}
 use Rattle.ll_code.specs.declared.program.LlGraph.{LlGraph}
 use Rattle.ll_code.specs.declared.program.LlProgram.{LlProgram}
-use Rattle.ll_code.specs.State.{Frame, State, Calling, At, Returning, Throwing}
+use Rattle.ll_code.specs.State.{Frame, State, Calling, At, Returning, Throwing, Next, Goes, Puts, Tells, Ends, Sticks}
 use Rattle.ll_code.specs.Machine.{shapes_of}
 use Rattle.ll_code.specs.Meaning.{Ran, Ended, Unfinished}
 use Rattle.ll_code.specs.Typed.{items_of, result_ok}
@@ -37,6 +38,10 @@ pub record BlockLeads (p : LlProgram) (blocks : List (Option Block)) (statics : 
   pub fields : AllLead p blocks statics (fields_of p.structs block.kind) block.fields
   pub items : (i : ℕ) (t : LlType) → items_of (slice_get p.structs block.kind) ≡ Some t → LeadsBy p blocks statics t (read block.items i)
 
+-- each static of the program is there, of its struct
+abbrev pub StaticsStand : LlProgram → List Block → Type 0
+StaticsStand p statics = (s : ℕ) (static : CStatic) → slice_get p.statics s ≡ Some static → (block : Block) × (slice_get statics s ≡ Some block) × (block.kind ≡ static.kind)
+
 -- what the slots hold leads where they point; slots that nothing sets hold NULL
 abbrev pub SlotsLead : LlProgram → Slots → Core → Type 0
 SlotsLead p None core = (core.exc_type ≡ Null) × (core.exc_value ≡ Null)
@@ -45,6 +50,7 @@ SlotsLead p (Some (k, v)) core = Leads p core.blocks core.statics k core.exc_typ
 pub record MemoryLeads (p : LlProgram) (slots : Slots) (core : Core) : Type 0 where
   pub each : (b : ℕ) (block : Block) → slice_index_or core.blocks b None ≡ Some block → BlockLeads p core.blocks core.statics block
   pub each_static : (s : ℕ) (block : Block) → slice_get core.statics s ≡ Some block → BlockLeads p core.blocks core.statics block
+  pub stand : StaticsStand p core.statics
   pub held : SlotsLead p slots core
 
 -- ---- who waits
@@ -94,3 +100,11 @@ StateLeads p slots (Throwing value frames core) = ⊥
 abbrev pub RanLeads : LlProgram → Slots → Ran → Type 0
 RanLeads p slots (Unfinished state text events) = StateLeads p slots state
 RanLeads p slots (Ended ending steps text events) = Unit {0}
+
+-- what a step leads to
+abbrev pub NextLeads : LlProgram → Slots → Next → Type 0
+NextLeads p slots (Goes state) = StateLeads p slots state
+NextLeads p slots (Puts byte state) = StateLeads p slots state
+NextLeads p slots (Tells event state) = StateLeads p slots state
+NextLeads p slots (Ends outcome core) = Unit {0}
+NextLeads p slots (Sticks reason) = Unit {0}

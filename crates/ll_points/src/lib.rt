@@ -3,4 +3,4 @@
 
 mod laws;
 
-pub use laws::pointers_lead_to_their_structs;
+pub use laws::{pointers_lead_to_their_structs, slots_are_found, steps_keep_pointers};
