@@ -207,25 +207,25 @@ module _ (p : LlProgram) (ok : IsWellTyped p) (based : Based p.structs) (types :
       block_refers p core.blocks core.statics based keeps.counted t m (subst (Rattle.ll_laws.specs.Fits.Fits p (length core.blocks) t) e (operand_fits p (length core.blocks) types core.vars fit.vars t x h))
       (subst (Rattle.ll_points.specs.Points.LeadsBy p core.blocks core.statics t) e (operand_leads p ok core.blocks core.statics stand types core.vars lead t x h))
 
-  set_field_done : (n v k : ℕ) (x : COperand) → set_by o ≡ None → (w : Option LlType) → field_of (slice_get p.structs n) k ≡ w → given_takes p types w x ≡ true → ((m : ℕ) → field_referred (plan_of p) n k ≡ Some m → InBlock core v)
+  set_field_done : (n v k : ℕ) (x : COperand) → set_by o ≡ None → (w : Option LlType) → field_of (slice_get p.structs n) k ≡ w → given_takes p types w x ≡ true → InBlock core v (field_referred (plan_of p) n k)
       → After_ (st.set_field core (shapes_of p.structs) n (read core.vars v) k (operand core.vars x))
   set_field_done n v k x e None f h writes = absurd (cc)
   set_field_done n v k x e (Some t) f h writes =
       choice (is_unset (operand core.vars x)) (Stuck IsUnset) _ tt
       (found_done _ n (read core.vars v) (λ old there. stored_done (read core.vars v) old (record old { fields = slice_set old.fields (place (shape_at (shapes_of p.structs) n) k) (operand core.vars x) }) e there refl
       (λ s is. (let w : ((j m : ℕ) → read old.fields j ≡ Ptr m → ⊥) × ((j m : ℕ) → read old.items j ≡ Ptr m → ⊥) = static_apart (read core.vars v) old s there is in
-      (set_apart old.fields (place (shape_at (shapes_of p.structs) n) k) (operand core.vars x) w.0 (λ m q. (let r : (n : ℕ) × (reference_to (plan_of p).counted t ≡ Some n) = written_refers t x h m q in writes r.0 (field_is p n k t f ∙ r.1) s is)), w.1)))))
+      (set_apart old.fields (place (shape_at (shapes_of p.structs) n) k) (operand core.vars x) w.0 (λ m q. (let r : (n : ℕ) × (reference_to (plan_of p).counted t ≡ Some n) = written_refers t x h m q in writes r.0 s (field_is p n k t f ∙ r.1) is)), w.1)))))
 
-  put_item_done : (n v : ℕ) (x : COperand) (t : LlType) → set_by o ≡ None → items_of (slice_get p.structs n) ≡ Some t → takes p types t x ≡ true → ((m : ℕ) → items_referred (plan_of p) n ≡ Some m → InBlock core v)
+  put_item_done : (n v : ℕ) (x : COperand) (t : LlType) → set_by o ≡ None → items_of (slice_get p.structs n) ≡ Some t → takes p types t x ≡ true → InBlock core v (items_referred (plan_of p) n)
       → (old : Block) → block_at core (read core.vars v) ≡ Some old → (i : ℤ) → After_ (st.put_item core (read core.vars v) old i (operand core.vars x))
   put_item_done n v x t e f h writes old there (pos i) =
       choice (nat_lt i (length old.items)) _ (Stuck Outside)
       (stored_done (read core.vars v) old (record old { items = slice_set old.items i (operand core.vars x) }) e there refl
       (λ s is. (let w : ((j m : ℕ) → read old.fields j ≡ Ptr m → ⊥) × ((j m : ℕ) → read old.items j ≡ Ptr m → ⊥) = static_apart (read core.vars v) old s there is in
-      (w.0, set_apart old.items i (operand core.vars x) w.1 (λ m q. (let r : (n : ℕ) × (reference_to (plan_of p).counted t ≡ Some n) = written_refers t x h m q in writes r.0 (items_is p n t f ∙ r.1) s is)))))) tt
+      (w.0, set_apart old.items i (operand core.vars x) w.1 (λ m q. (let r : (n : ℕ) × (reference_to (plan_of p).counted t ≡ Some n) = written_refers t x h m q in writes r.0 s (items_is p n t f ∙ r.1) is)))))) tt
   put_item_done n v x t e f h writes old there (negsuc i) = tt
 
-  set_item_done : (n v : ℕ) (i x : COperand) → set_by o ≡ None → (w : Option LlType) → items_of (slice_get p.structs n) ≡ w → given_takes p types w x ≡ true → ((m : ℕ) → items_referred (plan_of p) n ≡ Some m → InBlock core v)
+  set_item_done : (n v : ℕ) (i x : COperand) → set_by o ≡ None → (w : Option LlType) → items_of (slice_get p.structs n) ≡ w → given_takes p types w x ≡ true → InBlock core v (items_referred (plan_of p) n)
       → After_ (st.set_item core (shapes_of p.structs) n (read core.vars v) (operand core.vars i) (operand core.vars x))
   set_item_done n v i x e None f h writes = absurd (cc)
   set_item_done n v i x e (Some t) f h writes =

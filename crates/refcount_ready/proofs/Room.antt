@@ -246,7 +246,7 @@ occurs_two r (x ∷ xs) ys = omega (arith, occurs_two r xs ys)
 -- cells that are near have as many references
 near_same : (x y : Value) → Near x y → is_reference x ≡ is_reference y
 near_same x y (inl e) = ap is_reference e
-near_same x y (inr (u, n)) = ap is_reference u ∙ sym (ap is_reference n)
+near_same x y (inr (u, n)) = ap is_reference u ∙ sym n
 
 near_references : (xs ys : List Value) → AllNear xs ys → references_of xs ≡ references_of ys
 near_references [] [] w = refl

@@ -23,8 +23,8 @@ IsSmall p s = IsBelow most (core_of s).blocks (roots p s)
 
 -- where the operation writes a reference, it writes into a block
 abbrev pub WritesBlocks : LlProgram → Core → LlOp → Type 0
-WritesBlocks p core (op.SetField n v i x) = (m : ℕ) → field_referred (plan_of p) n i ≡ Some m → InBlock core v
-WritesBlocks p core (op.SetItem n v i x) = (m : ℕ) → items_referred (plan_of p) n ≡ Some m → InBlock core v
+WritesBlocks p core (op.SetField n v i x) = InBlock core v (field_referred (plan_of p) n i)
+WritesBlocks p core (op.SetItem n v i x) = InBlock core v (items_referred (plan_of p) n)
 WritesBlocks p core other = Unit {0}
 
 -- so does what comes next
