@@ -1,12 +1,13 @@
 -- What each state of a run keeps, beside its types.
 use Rattle.std.proofs.Common.{◌≡◌, ℕ, Bool, true, false, List, [], ◌∷◌, length, Option, Some, None}
-use Rattle.std.specs.Prelude.{slice_get}
-use Rattle.csub_tree.specs.State.{Value, Ptr, Block, Core}
+use Rattle.std.specs.Prelude.{slice_get, slice_index_or, pos}
+use Rattle.csub_tree.specs.State.{Value, Word, Ptr, Block, Core}
 use Rattle.csub_tree.specs.Operation.{is_unset}
-use Rattle.csub_tree.specs.Statement.{read, any_unset}
+use Rattle.csub_tree.specs.Statement.{read, operand, any_unset}
 use Rattle.ll_code.specs.declared.program.LlType.{LlType}
 use Rattle.ll_code.specs.declared.program.LlType.TheVariants as type
 use Rattle.ll_code.specs.declared.program.LlOp.{LlOp}
+use Rattle.ll_code.specs.declared.program.LlOp.TheVariants as op
 use Rattle.ll_code.specs.declared.program.LlExit.{LlExit}
 use Rattle.ll_code.specs.declared.program.LlGraph.{LlGraph}
 use Rattle.ll_code.specs.declared.program.LlProgram.{LlProgram}
@@ -16,6 +17,7 @@ use Rattle.ll_held.specs.Roots.{waits_for}
 use Rattle.ll_live.specs.Live.{live}
 use Rattle.refcount_transform.specs.Plan.{plan_of, reference_given}
 use Rattle.refcount_laws.specs.Before.{NoBlocksIn}
+use Rattle.refcount_ready.specs.Countable.{is_number}
 use Rattle.refcount_ready.proofs.Pointers.{Sound, AreCounted}
 
 -- blocks are counted, no static names a block, and the slots hold what is set, which is no block where they refer to nothing that is
@@ -35,6 +37,11 @@ CoreKeeps p core = MemoryKeeps p core.blocks core.statics core.exc_type core.exc
 abbrev pub SetIn : List LlType → (ℕ → Bool) → List Value → Type 0
 SetIn types uses vars = (v n : ℕ) → uses v ≡ true → slice_get types v ≡ Some (type.Ptr n) → is_unset (read vars v) ≡ false
 
+-- where the number of an array of references is set next, it is that
+abbrev pub NumberNext : LlProgram → Core → List LlOp → Type 0
+NumberNext p core (op.SetField n v k x ∷ ops) = is_number (plan_of p) n k ≡ true → (b : ℕ) (block : Block) → read core.vars v ≡ Ptr b → slice_index_or core.blocks b None ≡ Some block → operand core.vars x ≡ Word (pos (length block.items))
+NumberNext p core other = Unit {0}
+
 -- a call that waits for a result of this type, and drops no reference
 pub record FrameKeeps (p : LlProgram) (result : LlType) (graph : LlGraph) (frame : Frame) : Type 0 where
   pub of : slice_get p.graphs frame.graph ≡ Some graph
@@ -42,6 +49,7 @@ pub record FrameKeeps (p : LlProgram) (result : LlType) (graph : LlGraph) (frame
   pub long : length frame.vars ≡ length graph.types
   pub set : SetIn graph.types (waits_for p frame) frame.vars
   pub drops : frame.into ≡ None → reference_given (plan_of p).counted (Some result) ≡ None
+  pub number : (core : Core) → NumberNext p core frame.ops
 
 abbrev pub FramesKeep : LlProgram → LlType → List Frame → Type 0
 FramesKeep p result [] = Unit {0}
@@ -56,6 +64,7 @@ pub record CallingKeeps (p : LlProgram) (f : ℕ) (values : List Value) (frames 
 pub record AtKeeps (p : LlProgram) (ops : List LlOp) (exit : LlExit) (frames : List Frame) (core : Core) (graph : LlGraph) : Type 0 where
   pub of : slice_get p.graphs core.function ≡ Some graph
   pub set : SetIn graph.types (live ops exit) core.vars
+  pub number : NumberNext p core ops
   pub waiting : FramesKeep p graph.result frames
   pub keeps : CoreKeeps p core
 

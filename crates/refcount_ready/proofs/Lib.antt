@@ -1,4 +1,5 @@
 pub mod Doing
+pub mod Filling
 pub mod Keeps
 pub mod Lists
 pub mod Pointers

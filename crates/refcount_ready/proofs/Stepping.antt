@@ -44,13 +44,14 @@ use Rattle.refcount_laws.proofs.Cells.{set_here, set_other}
 use Rattle.refcount_laws.proofs.Numbers.{Based, all_based}
 use Rattle.refcount_typed.specs.Leads.{LeadsToRoots}
 use Rattle.refcount_typed.proofs.Roots.{made_counted, inside}
-use Rattle.refcount_ready.specs.Countable.{result_of, call_countable, calls_countable, op_countable, takes_params, all_among, is_countable}
+use Rattle.refcount_ready.specs.Countable.{result_of, call_countable, calls_countable, op_countable, takes_params, all_among, numbers_follow, is_countable}
 use Rattle.refcount_ready.specs.Along.{WritesBlocks, LeavesStatics}
-use Rattle.refcount_ready.proofs.Tests.{Stands, stands_placed, graph_test, op_test, all_roots, graph_good, stands_made}
+use Rattle.refcount_ready.proofs.Tests.{Stands, stands_placed, graph_test, op_test, all_roots, graph_good, stands_made, numbers_first, numbers_behind}
 use Rattle.refcount_ready.proofs.Pointers.{Sound, operand_sound}
 use Rattle.refcount_ready.proofs.Slots.{Found, slots_found}
 use Rattle.refcount_ready.proofs.Keeps.{MemoryKeeps, CoreKeeps, SetIn, FrameKeeps, FramesKeep, CallingKeeps, AtKeeps, ReturningKeeps, StateKeeps, NextKeeps}
 use Rattle.refcount_ready.proofs.Lists.{each_set, read_first, inputs_set, length_operands, given_count, all_are, params_below, same_given}
+use Rattle.refcount_ready.proofs.Filling.{Filled, AfterFilled, does_filled, number_next, number_first}
 use Rattle.refcount_ready.proofs.Doing.{Done, AfterDone, Known, does_done}
 
 -- ---- what is known of an operation
@@ -140,19 +141,20 @@ module _ (p : LlProgram) (ok : IsWellTyped p) (slots : Slots) (agrees : Agrees s
         by true h = done.new v n (sets_is (set_by o) v h) t
         by false h = ap is_unset (done.same v h) ∙ keeps.set v n (or_right (among v (reads o)) _ (ap (λ b. not b && live ops e v) h ∙ u)) t
 
-    went_on : (next : Core) → Done p graph.types o core next → StateKeeps p (At ops e frames next)
-    went_on next done = (graph, record { of = ap (slice_get p.graphs) done.function ∙ keeps.of; set = rest_set next done; waiting = keeps.waiting; keeps = done.keeps })
+    module _ (numbers : numbers_follow (plan_of p) (Some o) ops ≡ true) where
+      went_on : (next : Core) → Done p graph.types o core next → Filled o next → StateKeeps p (At ops e frames next)
+      went_on next done filled = (graph, record { of = ap (slice_get p.graphs) done.function ∙ keeps.of; set = rest_set next done; number = number_next p o ops next numbers filled; waiting = keeps.waiting; keeps = done.keeps })
 
-    goes_keep : (after : After) → AfterDone p graph.types o core after → NextKeeps p (goes_on (At ops e frames) after)
-    goes_keep (Onward next) done = went_on next done
-    goes_keep (PutsByte byte next) done = went_on next done
-    goes_keep (Told event next) done = went_on next done
-    goes_keep (Over outcome next) done = tt
-    goes_keep (Stuck reason) done = tt
+      goes_keep : (after : After) → AfterDone p graph.types o core after → AfterFilled o after → NextKeeps p (goes_on (At ops e frames) after)
+      goes_keep (Onward next) done filled = went_on next done filled
+      goes_keep (PutsByte byte next) done filled = went_on next done filled
+      goes_keep (Told event next) done filled = went_on next done filled
+      goes_keep (Over outcome next) done filled = tt
+      goes_keep (Stuck reason) done filled = tt
 
     -- ---- calls
 
-    module _ (placed : PlacedAt p core.function core.block core.at (o ∷ ops) e) (long : length core.vars ≡ length graph.types) where
+    module _ (placed : PlacedAt p core.function core.block core.at (o ∷ ops) e) (long : length core.vars ≡ length graph.types) (fills_none : (core : Core) → Filled o core) where
       waits_keep : (into : Option ℕ) (result : LlType) → set_by o ≡ into → result_ok graph.types into result ≡ true → (into ≡ None → reference_given (plan_of p).counted (Some result) ≡ None) → FramesKeep p result (waiting core into ops e ∷ frames)
       waits_keep into result is typed drops = (
         graph,
@@ -162,6 +164,7 @@ module _ (p : LlProgram) (ok : IsWellTyped p) (slots : Slots) (agrees : Agrees s
           long = long;
           set = λ v n u t. keeps.set v n (ap (λ s. among v (reads o) || (not (sets s v) && live ops e v)) is ∙ (sym (ap (λ w. read_by w v || (not (sets into v) && live ops e v)) (under_is p o ops e into core placed)) ∙ u)) t;
           drops = drops;
+          number = λ core. number_next p o ops core (numbers_behind p countable _ graph keeps.of _ _ o ops e placed) (fills_none core);
         },
         keeps.waiting,
       )
@@ -204,8 +207,9 @@ module _ (p : LlProgram) (ok : IsWellTyped p) (slots : Slots) (agrees : Agrees s
     stays : (o : LlOp) → AtKeeps p (o ∷ ops) e frames core graph → CoreFits p graph.types core → AtLeads p slots (o ∷ ops) e frames core graph → operation_ok p graph.types o ≡ true → PlacedAt p core.function core.block core.at (o ∷ ops) e → WritesBlocks p core o
         → op_agrees slots graph.types o ≡ true → NextKeeps p (goes_on (At ops e frames) (does p args core o))
     stays o keeps fit lead h placed writes agree =
-        goes_keep o ops e frames core graph keeps (does p args core o)
+        goes_keep o ops e frames core graph keeps (numbers_behind p countable core.function graph keeps.of core.block core.at o ops e placed) (does p args core o)
         (does_done p ok based graph.types core fit lead.vars lead.memory.stand keeps.keeps args o h (known graph core o (stands_placed p graph core.function core.block core.at o ops e keeps.of placed) h agree writes))
+        (does_filled p args graph.types core fit.vars.count o h)
 
     call_keep : (into : Option ℕ) (f : ℕ) (xs : List COperand) → AtKeeps p (op.Call into f xs ∷ ops) e frames core graph → CoreFits p graph.types core → operation_ok p graph.types (op.Call into f xs) ≡ true → PlacedAt p core.function core.block core.at (op.Call into f xs ∷ ops) e
         → NextKeeps p (called f (operands core.vars xs) (waiting core into ops e ∷ frames) core)
@@ -214,8 +218,8 @@ module _ (p : LlProgram) (ok : IsWellTyped p) (slots : Slots) (agrees : Agrees s
         by : (w : Option LlGraph) → slice_get p.graphs f ≡ w → call_ok p graph.types into w xs ≡ true → call_countable (plan_of p) into (result_of w) xs ≡ true → NextKeeps p (called f (operands core.vars xs) (waiting core into ops e ∷ frames) core)
         by None there h k = absurd (cc)
         by (Some other) there h k =
-            called_keep (op.Call into f xs) ops e frames core graph keeps placed fit.vars.count f (operands core.vars xs) into other there
-            (waits_keep (op.Call into f xs) ops e frames core graph keeps placed fit.vars.count into other.result refl (and_left _ _ h) (drops_none into (Some other.result) xs k))
+            called_keep (op.Call into f xs) ops e frames core graph keeps placed fit.vars.count (λ c. tt) f (operands core.vars xs) into other there
+            (waits_keep (op.Call into f xs) ops e frames core graph keeps placed fit.vars.count (λ c. tt) into other.result refl (and_left _ _ h) (drops_none into (Some other.result) xs k))
 
     call_fn_keep : (into : Option ℕ) (result : LlType) (params : List LlType) (v : ℕ) (xs : List COperand) → AtKeeps p (op.CallFn into result params v xs ∷ ops) e frames core graph → CoreFits p graph.types core → operation_ok p graph.types (op.CallFn into result params v xs) ≡ true
         → PlacedAt p core.function core.block core.at (op.CallFn into result params v xs ∷ ops) e → NextKeeps p (operates p args (op.CallFn into result params v xs) ops e frames core)
@@ -225,7 +229,7 @@ module _ (p : LlProgram) (ok : IsWellTyped p) (slots : Slots) (agrees : Agrees s
         by true y set = tt
         by false true set = tt
         by false false set =
-            called_value_keep (op.CallFn into result params v xs) ops e frames core graph keeps placed fit.vars.count into result (map c_type params) (fun_of (read core.vars v)) (operands core.vars xs)
+            called_value_keep (op.CallFn into result params v xs) ops e frames core graph keeps placed fit.vars.count (λ c. tt) into result (map c_type params) (fun_of (read core.vars v)) (operands core.vars xs)
             (and_right _ _ (and_left _ _ (and_left _ _ (and_left _ _ h)))) refl (and_right _ _ (and_left _ _ h))
             (drops_none into (Some result) xs (and_right _ _ (op_test p countable graph (op.CallFn into result params v xs) (stands_placed p graph core.function core.block core.at (op.CallFn into result params v xs) ops e keeps.of placed)))) set
 
@@ -241,7 +245,7 @@ module _ (p : LlProgram) (ok : IsWellTyped p) (slots : Slots) (agrees : Agrees s
   module _ (frames : List Frame) (core : Core) (graph : LlGraph) (closed : ReadsInputs p) (of : slice_get p.graphs core.function ≡ Some graph) (long : length core.vars ≡ length graph.types) (waits : FramesKeep p graph.result frames) (keeps : CoreKeeps p core) where
     begins_keep : (to : ℕ) (xs : List COperand) (w : Option LlBlock) → slice_get graph.blocks to ≡ w → Rattle.ll_code.specs.Typed.enters p graph.types w xs ≡ true → any_unset (operands core.vars xs) ≡ false → NextKeeps p (begins frames core to (operands core.vars xs) w)
     begins_keep to xs None there h set = tt
-    begins_keep to xs (Some block) there h set = (graph, record { of = of; set = set_in; waiting = waits; keeps = keeps })
+    begins_keep to xs (Some block) there h set = (graph, record { of = of; set = set_in; number = number_first p block.ops (record core { block = to; at = 0; vars = set_all core.vars block.inputs (operands core.vars xs) }) (numbers_first p countable core.function graph of to block there); waiting = waits; keeps = keeps })
       where
         inside_types : (types : List LlType) (v : ℕ) (t : LlType) → slice_get types v ≡ Some t → v < length types
         inside_types [] v t e = absurd (cc)
@@ -325,7 +329,7 @@ module _ (p : LlProgram) (ok : IsWellTyped p) (slots : Slots) (agrees : Agrees s
 
   enters_keep : (closed : ReadsInputs p) (f : ℕ) (values : List Value) (frames : List Frame) (core : Core) (graph : LlGraph) → CallingKeeps p f values frames core graph → length values ≡ length graph.params → (w : Option LlBlock) → slice_get graph.blocks 0 ≡ w → NextKeeps p (enters f values frames core graph w)
   enters_keep closed f values frames core graph keeps count None there = tt
-  enters_keep closed f values frames core graph keeps count (Some block) there = (graph, record { of = keeps.of; set = set_in; waiting = keeps.waiting; keeps = keeps.keeps })
+  enters_keep closed f values frames core graph keeps count (Some block) there = (graph, record { of = keeps.of; set = set_in; number = number_first p block.ops (record core { function = f; block = 0; at = 0; vars = values ++ replicate (length graph.types - length graph.params) Unset }) (numbers_first p countable f graph keeps.of 0 block there); waiting = keeps.waiting; keeps = keeps.keeps })
     where
       takes_them : takes_params graph.params (Some block) ≡ true
       takes_them = ap (takes_params graph.params) (sym there) ∙ and_left _ _ (graph_test p countable f graph keeps.of)
@@ -351,7 +355,7 @@ module _ (p : LlProgram) (ok : IsWellTyped p) (slots : Slots) (agrees : Agrees s
   returned_keep value (frame ∷ frames) core graph keeps = back keeps.waiting
     where
       back : FramesKeep p graph.result (frame ∷ frames) → NextKeeps p (returned value (frame ∷ frames) core)
-      back (other, w, rest) = (other, record { of = w.of; set = by frame.into refl; waiting = rest; keeps = keeps.keeps })
+      back (other, w, rest) = (other, record { of = w.of; set = by frame.into refl; number = w.number (record (resumed frame core) { vars = taken_by frame.vars frame.into value }); waiting = rest; keeps = keeps.keeps })
         where
           inside_types : (types : List LlType) (v : ℕ) (t : LlType) → slice_get types v ≡ Some t → v < length types
           inside_types [] v t e = absurd (cc)

@@ -26,7 +26,7 @@ use Rattle.refcount_laws.specs.Leaves.{are_apart, InputsAreApart}
 use Rattle.refcount_typed.specs.Leads.{LeadsToRoots, graph_leads, graphs_lead, ops_lead, blocks_lead, op_leads}
 use Rattle.refcount_typed.proofs.Calls.{lead_at}
 use Rattle.refcount_typed.proofs.Fields.{given_root}
-use Rattle.refcount_ready.specs.Countable.{most, sets_unread, op_countable, ops_countable, block_countable, blocks_countable, graph_countable, graphs_countable, is_countable}
+use Rattle.refcount_ready.specs.Countable.{most, sets_unread, op_countable, ops_countable, block_countable, blocks_countable, graph_countable, graphs_countable, number_follows, numbers_follow, is_countable}
 
 -- ---- where operations stand
 
@@ -84,6 +84,14 @@ leads_blocks plan types [] k block h e = absurd (cc)
 leads_blocks plan types (x ∷ blocks) zero block h e = let f : x ≡ block = cc in subst (λ o. ops_lead plan types o.ops ≡ true) f (and_left _ _ h)
 leads_blocks plan types (x ∷ blocks) (suc k) block h e = leads_blocks plan types blocks k block (and_right _ _ h) e
 
+numbers_from : (plan : Plan) (before : Option LlOp) (n : ℕ) (xs : List LlOp) (o : LlOp) (ops : List LlOp) → numbers_follow plan before xs ≡ true → drop n xs ≡ o ∷ ops → numbers_follow plan (Some o) ops ≡ true
+numbers_from plan before zero [] o ops h e = absurd (cc)
+numbers_from plan before zero (x ∷ xs) o ops h e =
+    let f : x ≡ o = cc in let g : xs ≡ ops = cc in
+    subst (λ o. numbers_follow plan (Some o) ops ≡ true) f (subst (λ l. numbers_follow plan (Some x) l ≡ true) g (and_right (number_follows plan before x) (numbers_follow plan (Some x) xs) h))
+numbers_from plan before (suc n) [] o ops h e = absurd (cc)
+numbers_from plan before (suc n) (x ∷ xs) o ops h e = numbers_from plan (Some x) n xs o ops (and_right (number_follows plan before x) (numbers_follow plan (Some x) xs) h) e
+
 module _ (p : LlProgram) (countable : is_countable p ≡ true) where
   pub graph_test : (f : ℕ) (graph : LlGraph) → slice_get p.graphs f ≡ Some graph → graph_countable (plan_of p) p.graphs graph ≡ true
   graph_test f graph e = graphs_each (plan_of p) p.graphs p.graphs f graph countable e
@@ -92,13 +100,19 @@ module _ (p : LlProgram) (countable : is_countable p ≡ true) where
   block_test f graph e n block b = blocks_each (plan_of p) p.graphs graph.types graph.blocks n block (and_right _ _ (graph_test f graph e)) b
 
   pub op_test : (graph : LlGraph) (o : LlOp) → Stands p graph o → op_countable (plan_of p) p.graphs graph.types o ≡ true
-  op_test graph o w = ops_each (plan_of p) p.graphs graph.types w.block.ops w.at o (and_right _ _ (block_test w.f graph w.there w.n w.block w.of)) w.is
+  op_test graph o w = ops_each (plan_of p) p.graphs graph.types w.block.ops w.at o (and_right _ _ (and_left _ _ (block_test w.f graph w.there w.n w.block w.of))) w.is
 
   pub inputs_apart : (f : ℕ) (graph : LlGraph) → slice_get p.graphs f ≡ Some graph → InputsAreApart graph
-  inputs_apart f graph e n block b = and_left _ _ (and_left _ _ (block_test f graph e n block b))
+  inputs_apart f graph e n block b = and_left _ _ (and_left _ _ (and_left _ _ (block_test f graph e n block b)))
 
   pub inputs_few : (f : ℕ) (graph : LlGraph) → slice_get p.graphs f ≡ Some graph → (n : ℕ) (block : LlBlock) → slice_get graph.blocks n ≡ Some block → length block.inputs < most
-  inputs_few f graph e n block b = is_less (length block.inputs) most (and_right _ _ (and_left _ _ (block_test f graph e n block b)))
+  inputs_few f graph e n block b = is_less (length block.inputs) most (and_right _ _ (and_left _ _ (and_left _ _ (block_test f graph e n block b))))
+
+  pub numbers_first : (f : ℕ) (graph : LlGraph) → slice_get p.graphs f ≡ Some graph → (n : ℕ) (block : LlBlock) → slice_get graph.blocks n ≡ Some block → numbers_follow (plan_of p) None block.ops ≡ true
+  numbers_first f graph e n block b = and_right _ _ (block_test f graph e n block b)
+
+  pub numbers_behind : (f : ℕ) (graph : LlGraph) → slice_get p.graphs f ≡ Some graph → (n at : ℕ) (o : LlOp) (ops : List LlOp) (e : LlExit) → PlacedAt p f n at (o ∷ ops) e → numbers_follow (plan_of p) (Some o) ops ≡ true
+  numbers_behind f graph e n at o ops ex placed = numbers_from (plan_of p) None at placed.block.ops o ops (numbers_first f graph e n placed.block (ap (λ g. block_in g n) (sym e) ∙ placed.of)) placed.left
 
   -- what it sets, where that is a reference, it does not read
   pub unread : (graph : LlGraph) (o : LlOp) → Stands p graph o → (a n : ℕ) → set_by o ≡ Some a → var_referred (around_of (plan_of p) graph.types) a ≡ Some n → among a (reads o) ≡ false

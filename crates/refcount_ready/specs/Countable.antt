@@ -1,6 +1,7 @@
 -- A test of a program, beside its types, that lets its references be counted.
-use Rattle.std.specs.Prelude.{ℕ, ◌&&◌, ◌^◌, not, nat_lt, Bool, true, List, [], ◌∷◌, length, slice_get, Option, Some, None, is_some, is_none}
+use Rattle.std.specs.Prelude.{ℕ, ◌==◌, ◌&&◌, ◌||◌, ◌^◌, not, nat_lt, Bool, true, false, List, [], ◌∷◌, length, slice_get, Option, Some, None, is_some, is_none}
 use Rattle.csub_tree.specs.declared.tree.COperand.{COperand}
+use Rattle.csub_tree.specs.declared.tree.COperand.TheVariants.{Var}
 use Rattle.ll_code.specs.declared.program.LlType.{LlType}
 use Rattle.ll_code.specs.declared.program.LlOp.{LlOp}
 use Rattle.ll_code.specs.declared.program.LlOp.TheVariants as op
@@ -8,7 +9,7 @@ use Rattle.ll_code.specs.declared.program.LlBlock.{LlBlock}
 use Rattle.ll_code.specs.declared.program.LlGraph.{LlGraph}
 use Rattle.ll_code.specs.declared.program.LlProgram.{LlProgram}
 use Rattle.ll_live.specs.Live.{among, reads, set_by}
-use Rattle.refcount_transform.specs.Plan.{Plan, plan_of, reference_given}
+use Rattle.refcount_transform.specs.Plan.{Plan, plan_of, reference_given, items_referred, place_of}
 use Rattle.refcount_transform.specs.Changes.{around_of, var_referred}
 use Rattle.refcount_laws.specs.Leaves.{are_apart}
 
@@ -42,9 +43,26 @@ abbrev pub ops_countable : Plan → List LlGraph → List LlType → List LlOp �
 ops_countable plan graphs types [] = true
 ops_countable plan graphs types (o ∷ ops) = op_countable plan graphs types o && ops_countable plan graphs types ops
 
+-- the number of an array of references is set right behind the operation that makes it, by the variable that says how many
+abbrev pub is_number : Plan → ℕ → ℕ → Bool
+is_number plan n k = is_some (items_referred plan n) && (place_of plan n k == 0)
+
+abbrev pub fills : Option LlOp → ℕ → ℕ → COperand → Bool
+fills (Some (op.NewArray a m k (Var w))) n v (Var u) = (a == v) && (k == n) && (w == u)
+fills before n v x = false
+
+abbrev pub number_follows : Plan → Option LlOp → LlOp → Bool
+number_follows plan before (op.SetField n v k x) = not (is_number plan n k) || fills before n v x
+number_follows plan before other = true
+
+-- behind this operation, if there is one
+abbrev pub numbers_follow : Plan → Option LlOp → List LlOp → Bool
+numbers_follow plan before [] = true
+numbers_follow plan before (o ∷ ops) = number_follows plan before o && numbers_follow plan (Some o) ops
+
 -- each input stands once, and not too many
 abbrev pub block_countable : Plan → List LlGraph → List LlType → LlBlock → Bool
-block_countable plan graphs types block = are_apart block.inputs && nat_lt (length block.inputs) most && ops_countable plan graphs types block.ops
+block_countable plan graphs types block = are_apart block.inputs && nat_lt (length block.inputs) most && ops_countable plan graphs types block.ops && numbers_follow plan None block.ops
 
 abbrev pub blocks_countable : Plan → List LlGraph → List LlType → List LlBlock → Bool
 blocks_countable plan graphs types [] = true
