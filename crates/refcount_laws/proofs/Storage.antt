@@ -184,7 +184,7 @@ module _ (p : LlProgram) (based : Based p.structs) (counting : Counting (counted
         let value : Value = operand core.vars x in
         let near_w : NearBlock block (record { kind = st_kind.kind; fields = st_kind.fields; items = st_kind.items }) = subst (λ d. NearBlock block d) (ap bare st_kind.is) (subst (λ b. NearBlock b (bare_at g.blocks a)) same near.2) in
         let side : (m : ℕ) → c.items st_kind.kind ≡ Some m → c.number_at st_kind.kind ≡ spot_at → value ≡ Word (pos (length st_kind.items)) = λ m f q.
-        keeps a m block is_a is (ap c.items kind_same ∙ f) (ap c.number_at kind_same ∙ q) ∙ ap (λ k. Word (pos k)) near_w.items.size in
+        keeps a m block is_a is of (ap c.items kind_same ∙ f) (ap c.number_at kind_same ∙ q) ∙ ap (λ k. Word (pos k)) near_w.items.size in
         comes_before p based counting args types roots own (op.SetField n v i x) ops rest e ex frames b (live ops e) (q_here (op.SetField n v (shifted plan n i) x ∷ behind))
         (At behind ex frames (here qcore core.function b (at + 1) core.vars (slice_set h a (shown c (S (suc st_kind.n) st_kind.kind (slice_set st_kind.fields spot_at value) st_kind.items))) (memory (written g a (S (suc st_kind.n) st_kind.kind (slice_set st_kind.fields spot_at value) st_kind.items)))))
         (core_after a block)
@@ -313,7 +313,7 @@ module _ (p : LlProgram) (based : Based p.structs) (counting : Counting (counted
         let value : Value = operand core.vars x in
         let lead : LeadsTo q g m value = value_leads p based counting args types roots core.blocks core.statics g stands.near m value (reference_marked plan.counted t m refer) root_m points in
         let put : Done q args c (written g a (S (suc d.n) d.kind (slice_set d.fields r.at value) d.items)) had (q_here (op.Call None (put_of plan n i) (Var v ∷ x ∷ []) ∷ behind)) (λ h' s'. At behind ex frames (here qcore core.function b (at + 1) core.vars h' s')) =
-        put_done q args c counting r (put_of plan n i) stand g h had a d.n d.kind d.fields d.items d.is field once (λ m2 f q. subst (PointsTo p core.blocks core.statics m) (keeps a m2 block is_a is (ap c.items both.kind ∙ f) (ap c.number_at both.kind ∙ q ∙ at_r)) points) value stands.shown counts (omega (arith, owned_a)) lead
+        put_done q args c counting r (put_of plan n i) stand g h had a d.n d.kind d.fields d.items d.is field once (λ m2 f q. subst (PointsTo p core.blocks core.statics m) (keeps a m2 block is_a is of (ap c.items both.kind ∙ f) (ap c.number_at both.kind ∙ q ∙ at_r)) points) value stands.shown counts (omega (arith, owned_a)) lead
         (room_for q c g had k value counts room alive_x) qcore core.function b ex frames (Var v) x at behind core.vars is_a refl in
         let block2 : Block = record block { fields = slice_set block.fields spot_at value } in
         let near2 : NearBlock block2 (record { kind = d.kind; fields = slice_set d.fields r.at value; items = d.items }) =

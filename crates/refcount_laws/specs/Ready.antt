@@ -29,7 +29,7 @@ MayBeGiven p core (Some m) x = PointsTo p core.blocks core.statics m (operand co
 
 -- what is written into the field that has the number of the items of an array of references is that number
 abbrev pub KeepsNumber : LlProgram → Core → ℕ → ℕ → ℕ → COperand → Type 0
-KeepsNumber p core n v i x = (b m : ℕ) (block : Block) → read core.vars v ≡ Ptr b → block_in core.blocks b ≡ Some block → (counts_of (plan_of p)).items block.kind ≡ Some m
+KeepsNumber p core n v i x = (b m : ℕ) (block : Block) → read core.vars v ≡ Ptr b → block_in core.blocks b ≡ Some block → begins_with (shapes_of p.structs) block.kind n ≡ true → (counts_of (plan_of p)).items block.kind ≡ Some m
     → (counts_of (plan_of p)).number_at block.kind ≡ place (shape_at (shapes_of p.structs) n) i → operand core.vars x ≡ Word (pos (length block.items))
 
 -- a block of a struct that is counted is made, for a variable that may hold it

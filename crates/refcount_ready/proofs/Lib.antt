@@ -1,0 +1,9 @@
+pub mod Doing
+pub mod Filling
+pub mod Keeps
+pub mod Lists
+pub mod Pointers
+pub mod Room
+pub mod Slots
+pub mod Stepping
+pub mod Tests
