@@ -1,151 +1,158 @@
 // References lead to root structs, and arrays of references have their numbers.
-use ll_code::{LlBlock, LlGraph, LlOp, LlProgram, LlStruct, LlType, VarId};
-use refcount_transform::{reference_given, root};
+ghost use Rattle.std.specs.Prelude.{◌≡◌, ◌&&◌, slice_get};
+ghost use Rattle.ll_code.specs.declared.program.LlType.TheVariants as type;
+ghost use Rattle.refcount_transform.specs.Plan as p;
+ghost use Rattle.refcount_transform.specs.Seen.{the_plan};
+ghost use Rattle.ll_code.specs.Typed as typed;
+ghost use Rattle.refcount_laws.specs.Made as made;
+ghost use Rattle.refcount_typed.specs.Leads as spec;
+ghost use Rattle.refcount_typed.specs.Numbered as numbered;
 
-/// The structs of a program, and which of them are counted.
-#[derive(Clone, Copy)]
-pub struct Kinds<'a> {
-    pub structs: &'a [LlStruct],
-    pub counted: &'a [bool],
-}
+use ll_code::{LlBlock, LlGraph, LlOp, LlStruct, LlType, VarId};
+use refcount_transform::{
+    Plan, field_referred, items_referred, reference_given, referred, root_of,
+};
 
-/// What a variable refers to, where that is counted.
-pub fn var_referred(kinds: Kinds<'_>, types: &[LlType], v: VarId) -> Option<u64> {
-    match types.get(v as usize) {
-        None => None,
-        Some(kind) => reference_given(kinds.counted, Some(*kind)),
-    }
-}
-
-fn is_root_given(kinds: Kinds<'_>, to: Option<u64>) -> bool {
+fn is_root_given(plan: Plan<'_>, to: Option<u64>) -> bool
+    ensures { result ≡ made.is_root_given (the_plan plan.entry) to }
+{
     match to {
         None => true,
-        Some(m) => root(kinds.structs, m) == m,
+        Some(m) => root_of(plan, m) == m,
     }
 }
 
-pub fn type_leads(kinds: Kinds<'_>, kind: LlType) -> bool {
-    is_root_given(kinds, reference_given(kinds.counted, Some(kind)))
-}
-
-pub fn all_lead(kinds: Kinds<'_>, types: &[LlType]) -> bool {
-    for kind in types {
-        if !type_leads(kinds, *kind) {
+fn all_lead(plan: Plan<'_>, kinds: &[LlType]) -> bool
+    ensures { result ≡ made.all_lead (the_plan plan.entry) kinds.now }
+{
+    for kind in kinds {
+        if !is_root_given(plan, referred(plan, *kind)) {
             return false;
         }
     }
     true
 }
 
-fn struct_leads(kinds: Kinds<'_>, s: &LlStruct) -> bool {
-    all_lead(kinds, s.fields.as_slice()) && is_root_given(kinds, reference_given(kinds.counted, s.items))
-}
-
-pub fn structs_lead(kinds: Kinds<'_>) -> bool {
-    for s in kinds.structs {
-        if !struct_leads(kinds, s) {
+fn structs_lead(plan: Plan<'_>, structs: &[LlStruct]) -> bool
+    ensures { result ≡ made.structs_lead (the_plan plan.entry) structs.now }
+{
+    for s in structs {
+        if !all_lead(plan, s.fields.as_slice())
+            || !is_root_given(plan, reference_given(plan.counted, s.items))
+        {
             return false;
         }
     }
     true
 }
 
-fn is_signed(kind: Option<&LlType>) -> bool {
-    matches!(kind, Some(LlType::Signed))
+fn begins_with_word(kinds: &[LlType]) -> bool
+    ensures { result ≡ typed.has_type type.Signed (slice_get kinds.now 0) }
+{
+    match kinds.first() {
+        Some(LlType::Signed) => true,
+        _ => false,
+    }
 }
 
-fn number_first(kinds: Kinds<'_>, s: &LlStruct) -> bool {
-    match reference_given(kinds.counted, s.items) {
+fn number_first(plan: Plan<'_>, s: &LlStruct) -> bool
+    ensures { result ≡ numbered.number_first s.now.fields (p.reference_given (the_plan plan.entry).counted s.now.items) }
+{
+    match reference_given(plan.counted, s.items) {
         None => true,
-        Some(_) => is_signed(s.fields.as_slice().get(0)),
+        Some(_) => begins_with_word(s.fields.as_slice()),
     }
 }
 
-/// The first own field of a struct of which the items are references is their number.
-pub fn has_numbers(kinds: Kinds<'_>) -> bool {
-    for s in kinds.structs {
-        if !number_first(kinds, s) {
+/// Whether the first field of its own of each struct of which the items are references is their number.
+pub fn structs_numbered(plan: Plan<'_>, structs: &[LlStruct]) -> bool
+    ensures { result ≡ numbered.structs_numbered (the_plan plan.entry) structs.now }
+{
+    for s in structs {
+        if !number_first(plan, s) {
             return false;
         }
     }
     true
 }
 
-fn items_referred(kinds: Kinds<'_>, n: u64) -> Option<u64> {
-    match kinds.structs.get(n as usize) {
-        None => None,
-        Some(s) => reference_given(kinds.counted, s.items),
+pub fn is_pointer_to(kinds: &[LlType], v: VarId, n: u64) -> bool
+    ensures { result ≡ typed.has_type (type.Ptr n) (slice_get kinds.now v) }
+{
+    match kinds.get(v as usize) {
+        Some(LlType::Ptr(m)) => n == *m,
+        _ => false,
     }
 }
 
-fn field_referred(kinds: Kinds<'_>, n: u64, k: u64) -> Option<u64> {
-    match kinds.structs.get(n as usize) {
-        None => None,
-        Some(s) => {
-            let place = match s.base {
-                None => k,
-                Some(_) => k.saturating_sub(1),
-            };
-            match s.fields.as_slice().get(place as usize) {
-                None => None,
-                Some(kind) => reference_given(kinds.counted, Some(*kind)),
-            }
-        }
-    }
-}
-
-fn stands_in_root(kinds: Kinds<'_>, types: &[LlType], n: u64, b: VarId, to: Option<u64>) -> bool {
+fn stands_in_root(plan: Plan<'_>, kinds: &[LlType], n: u64, b: VarId, to: Option<u64>) -> bool
+    ensures { result ≡ spec.stands_in_root (the_plan plan.entry) kinds.now n b to }
+{
     match to {
         None => true,
-        Some(_) => match types.get(b as usize) {
-            Some(LlType::Ptr(m)) => *m == root(kinds.structs, n),
-            _ => false,
-        },
+        Some(_) => is_pointer_to(kinds, b, root_of(plan, n)),
     }
 }
 
-fn op_leads(kinds: Kinds<'_>, types: &[LlType], op: &LlOp) -> bool {
+fn op_leads(plan: Plan<'_>, kinds: &[LlType], op: &LlOp) -> bool
+    ensures { result ≡ spec.op_leads (the_plan plan.entry) kinds.now op.now }
+{
     match op {
         LlOp::SetField(n, b, k, _) => {
-            stands_in_root(kinds, types, *n, *b, field_referred(kinds, *n, *k))
+            stands_in_root(plan, kinds, *n, *b, field_referred(plan, *n, *k))
         }
-        LlOp::SetItem(n, b, _, _) => stands_in_root(kinds, types, *n, *b, items_referred(kinds, *n)),
-        LlOp::NewArray(a, _, n, _) => stands_in_root(kinds, types, *n, *a, items_referred(kinds, *n)),
-        LlOp::CallFn(_, _, params, _, _) => all_lead(kinds, params.as_slice()),
+        LlOp::SetItem(n, b, _, _) | LlOp::NewArray(b, _, n, _) => {
+            stands_in_root(plan, kinds, *n, *b, items_referred(plan, *n))
+        }
+        LlOp::CallFn(_, _, params, _, _) => all_lead(plan, params.as_slice()),
         _ => true,
     }
 }
 
-fn block_leads(kinds: Kinds<'_>, types: &[LlType], block: &LlBlock) -> bool {
-    for op in block.ops.as_slice() {
-        if !op_leads(kinds, types, op) {
+fn ops_lead(plan: Plan<'_>, kinds: &[LlType], ops: &[LlOp]) -> bool
+    ensures { result ≡ spec.ops_lead (the_plan plan.entry) kinds.now ops.now }
+{
+    for op in ops {
+        if !op_leads(plan, kinds, op) {
             return false;
         }
     }
     true
 }
 
-fn graph_leads(kinds: Kinds<'_>, graph: &LlGraph) -> bool {
-    if !all_lead(kinds, graph.types.as_slice()) || !type_leads(kinds, graph.result) {
-        return false;
-    }
-    for block in graph.blocks.as_slice() {
-        if !block_leads(kinds, graph.types.as_slice(), block) {
+fn blocks_lead(plan: Plan<'_>, kinds: &[LlType], blocks: &[LlBlock]) -> bool
+    ensures { result ≡ spec.blocks_lead (the_plan plan.entry) kinds.now blocks.now }
+{
+    for block in blocks {
+        if !ops_lead(plan, kinds, block.ops.as_slice()) {
             return false;
         }
     }
     true
 }
 
-/// References lead to root structs.
-pub fn leads_to_roots(kinds: Kinds<'_>, program: &LlProgram) -> bool {
-    if !structs_lead(kinds) {
-        return false;
-    }
-    for graph in program.graphs.as_slice() {
-        if !graph_leads(kinds, graph) {
+fn graph_leads(plan: Plan<'_>, graph: &LlGraph) -> bool
+    ensures { result ≡ spec.graph_leads (the_plan plan.entry) graph.now }
+{
+    all_lead(plan, graph.types.as_slice())
+        && is_root_given(plan, referred(plan, graph.result))
+        && blocks_lead(plan, graph.types.as_slice(), graph.blocks.as_slice())
+}
+
+fn graphs_lead(plan: Plan<'_>, graphs: &[LlGraph]) -> bool
+    ensures { result ≡ spec.graphs_lead (the_plan plan.entry) graphs.now }
+{
+    for graph in graphs {
+        if !graph_leads(plan, graph) {
             return false;
         }
     }
     true
+}
+
+/// Whether references lead to root structs.
+pub fn references_lead(plan: Plan<'_>, graphs: &[LlGraph]) -> bool
+    ensures { result ≡ (made.structs_lead (the_plan plan.entry) (the_plan plan.entry).structs && spec.graphs_lead (the_plan plan.entry) graphs.now) }
+{
+    structs_lead(plan, plan.structs) && graphs_lead(plan, graphs)
 }

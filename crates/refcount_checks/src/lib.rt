@@ -1,10 +1,10 @@
-//! Tests of low-level programs: that their references can be counted.
+//! Tests of low-level programs with explicit exceptions: that their references can be counted.
 #![tactic(auto)]
 
 mod countable;
 mod leads;
 mod slots;
+mod watch;
+mod whole;
 
-pub use countable::{is_countable, reads_inputs};
-pub use leads::{Kinds, has_numbers, leads_to_roots};
-pub use slots::{agrees, slots_of};
+pub use whole::passes;
