@@ -2,6 +2,7 @@ pub mod Doing
 pub mod Filling
 pub mod Keeps
 pub mod Lists
+pub mod Operands
 pub mod Pointers
 pub mod Room
 pub mod Slots
