@@ -3,6 +3,7 @@ pub mod Filling
 pub mod Keeps
 pub mod Lists
 pub mod Operands
+pub mod Operating
 pub mod Pointers
 pub mod Room
 pub mod Slots
