@@ -1,6 +1,7 @@
 pub mod Doing
 pub mod Filling
 pub mod Keeps
+pub mod Leaving
 pub mod Lists
 pub mod Operands
 pub mod Operating
@@ -9,3 +10,4 @@ pub mod Room
 pub mod Slots
 pub mod Stepping
 pub mod Tests
+pub mod Whole

@@ -61,7 +61,7 @@ use Rattle.refcount_ready.proofs.Doing.{field_is, items_is}
 use Rattle.refcount_ready.proofs.Stepping.{based, made_by_it, slots_set, free_disagrees, raise_disagrees}
 use Rattle.refcount_ready.proofs.Operands.{among_first, among_second, may_stand, operand_is_sound, operand_points, field_sound, item_sound}
 
-one_same : (m : ℕ) → one m m ≡ 1
+pub one_same : (m : ℕ) → one m m ≡ 1
 one_same zero = refl
 one_same (suc m) = one_same m
 
