@@ -1,3 +1,4 @@
+pub mod Composed
 pub mod Doing
 pub mod Filling
 pub mod Keeps

@@ -6,7 +6,7 @@ use Rattle.csub_tree.specs.State.{Value, Unset, Word, Byte, Flag, Fun, Null, Ptr
 use Rattle.csub_tree.specs.Layout.{shape_at}
 use Rattle.csub_tree.specs.Statement.{read}
 use Rattle.ll_code.specs.Machine.{shapes_of}
-use Rattle.ll_code.specs.State.{Frame, State, At}
+use Rattle.ll_code.specs.State.{Frame, State, Calling, At, Returning}
 use Rattle.ll_code.specs.Typed as typed
 use Rattle.ll_code.specs.declared.program.LlType.{LlType}
 use Rattle.ll_code.specs.declared.program.LlStruct.{LlStruct}
@@ -146,6 +146,25 @@ owns_at p types calls ops e frames others core w =
     (owns_both (λ r. owned (around_of (plan_of p) types) (live ops e) core.vars r + slots_own p core r) (λ r. waits_own p calls frames r) (kept (live ops e) 0 core.vars ++ slots core) (waiting_roots p frames)
     (owns_both (λ r. owned (around_of (plan_of p) types) (live ops e) core.vars r) (λ r. slots_own p core r) (kept (live ops e) 0 core.vars) (slots core) (owns_vars (around_of (plan_of p) types) (live ops e) (live ops e) core.vars (λ v e. e)) (owns_slots p core))
     (owns_waits p calls frames others w))
+
+owns_given : (around : Around) (n : ℕ) (values : List Value) → Owns (λ r. given_to around n values r) values
+owns_given around n [] = owns_none
+owns_given around n (x ∷ values) = owns_first (λ r. hits_by (var_referred around n) x r) (λ r. given_to around (suc n) values r) x values (owns_hit (var_referred around n) x) (owns_given around (suc n) values)
+
+pub owns_calling : (p : LlProgram) (types : List LlType) (calls : List Call) (f : ℕ) (values : List Value) (frames others : List Frame) (core : Core) → AllWait p calls frames others
+    → Owns (λ r. given_to (around_of (plan_of p) types) 0 values r + beside p calls frames core r) (roots p (Calling f values frames core))
+owns_calling p types calls f values frames others core w =
+    owns_same (λ r. (given_to (around_of (plan_of p) types) 0 values r + slots_own p core r) + waits_own p calls frames r) (λ r. given_to (around_of (plan_of p) types) 0 values r + beside p calls frames core r) (roots p (Calling f values frames core))
+    (λ r. omega arith)
+    (owns_both (λ r. given_to (around_of (plan_of p) types) 0 values r + slots_own p core r) (λ r. waits_own p calls frames r) (values ++ slots core) (waiting_roots p frames)
+    (owns_both (λ r. given_to (around_of (plan_of p) types) 0 values r) (λ r. slots_own p core r) values (slots core) (owns_given (around_of (plan_of p) types) 0 values) (owns_slots p core))
+    (owns_waits p calls frames others w))
+
+pub owns_returning : (p : LlProgram) (o : Option ℕ) (calls : List Call) (value : Value) (frames others : List Frame) (core : Core) → AllWait p calls frames others
+    → Owns (λ r. hits_by o value r + beside p calls frames core r) (roots p (Returning value frames core))
+owns_returning p o calls value frames others core w =
+    owns_first (λ r. hits_by o value r) (λ r. beside p calls frames core r) value (slots core ++ waiting_roots p frames) (owns_hit o value)
+    (owns_both (λ r. slots_own p core r) (λ r. waits_own p calls frames r) (slots core) (waiting_roots p frames) (owns_slots p core) (owns_waits p calls frames others w))
 
 -- ---- the references of a block stand at different places
 
