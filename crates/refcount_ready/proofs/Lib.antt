@@ -1,6 +1,7 @@
 pub mod Composed
 pub mod Doing
 pub mod Filling
+pub mod Inputs
 pub mod Keeps
 pub mod Leaving
 pub mod Lists
@@ -12,3 +13,5 @@ pub mod Slots
 pub mod Stepping
 pub mod Tests
 pub mod Whole
+pub mod Rows
+pub mod Small

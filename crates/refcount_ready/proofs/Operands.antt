@@ -58,7 +58,7 @@ module _ (p : LlProgram) (ok : IsWellTyped p) (based : Based p.structs) (slots :
   may_stand a t value e sound = record {
     points = λ n r. sound_points p core.blocks core.statics t value sound n (sym (ap (reference_given (plan_of p).counted) e) ∙ r);
     refers = λ m is. (let w : (n : ℕ) × (reference_to (plan_of p).counted t ≡ Some n) = block_refers p core.blocks core.statics based counted t m (subst (Fits p (length core.blocks) t) is sound.fits) (subst (LeadsBy p core.blocks core.statics t) is sound.leads) in
-      (w.0, ap (reference_given (plan_of p).counted) e ∙ w.1));
+        (w.0, ap (reference_given (plan_of p).counted) e ∙ w.1));
   }
 
   -- ---- operands

@@ -253,7 +253,7 @@ module _ (p : LlProgram) (ok : IsWellTyped p) (slots : Slots) (agrees : Agrees s
   call_fn_points (t ∷ ts) [] l h set = absurd (cc)
   call_fn_points (t ∷ ts) (x ∷ xs) l h set = (
     operand_points p ok based_ slots graph.types core fit lead memory keeps.counted t x (and_left _ _ h) (λ u n a t. set u n (among_first u (variables_of x) (variables_in xs) a) t)
-    (λ n r. given_root (plan_of p) (referred (plan_of p) t) n r (and_left _ _ l)),
+        (λ n r. given_root (plan_of p) (referred (plan_of p) t) n r (and_left _ _ l)),
     call_fn_points ts xs (and_right _ _ l) (and_right _ _ h) (λ u n a t. set u n (among_second u (variables_of x) (variables_in xs) a) t),
   )
 

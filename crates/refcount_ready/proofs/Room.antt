@@ -316,7 +316,7 @@ module _ (p : LlProgram) (based : Based p.structs) where
         by None d = d
         by (Some m) d = (
           low_apart (reference_of (plan_of p) (record { owner = n; number = field_number (plan_of p) n place; to = m })) (begin p based n s e c + suc place) (map (reference_of (plan_of p)) (held_from (plan_of p) n (suc place) ts))
-          (let x : place_in (plan_of p) n (field_number (plan_of p) n place) ≡ begin p based n s e c + place = own_at p based n s e c place in omega (arith, x)) (own_low (suc place) ts),
+              (let x : place_in (plan_of p) n (field_number (plan_of p) n place) ≡ begin p based n s e c + place = own_at p based n s e c place in omega (arith, x)) (own_low (suc place) ts),
           d,
         )
 
@@ -375,10 +375,15 @@ module _ (p : LlProgram) (based : Based p.structs) (blocks : List (Option Block)
       by : (block : Block) → NearBlock block (bare_at g.blocks a) → occurs r (references (counts_of (plan_of p)) (bare_at g.blocks a)) ≤ references_of (block.fields ++ block.items)
       by block n =
           let x : occurs r (field_references ((counts_of (plan_of p)).held (bare_at g.blocks a).kind) (bare_at g.blocks a).fields) ≤ references_of (bare_at g.blocks a).fields =
-              fields_fewer ((counts_of (plan_of p)).held (bare_at g.blocks a).kind) (bare_at g.blocks a).fields r (held_distinct p based p.structs (bare_at g.blocks a).kind (counts.whole a there).counted) in
+          fields_fewer ((counts_of (plan_of p)).held (bare_at g.blocks a).kind) (bare_at g.blocks a).fields r (held_distinct p based p.structs (bare_at g.blocks a).kind (counts.whole a there).counted) in
           let y : occurs r (item_references ((counts_of (plan_of p)).items (bare_at g.blocks a).kind) (bare_at g.blocks a).items) ≤ references_of (bare_at g.blocks a).items = items ((counts_of (plan_of p)).items (bare_at g.blocks a).kind) in
           omega (
-            arith, x, y, near_references block.fields (bare_at g.blocks a).fields n.fields, near_references block.items (bare_at g.blocks a).items n.items, references_append block.fields block.items,
+            arith,
+            x,
+            y,
+            near_references block.fields (bare_at g.blocks a).fields n.fields,
+            near_references block.items (bare_at g.blocks a).items n.items,
+            references_append block.fields block.items,
             occurs_two r (field_references ((counts_of (plan_of p)).held (bare_at g.blocks a).kind) (bare_at g.blocks a).fields) (item_references ((counts_of (plan_of p)).items (bare_at g.blocks a).kind) (bare_at g.blocks a).items),
           )
         where
