@@ -151,7 +151,7 @@ module _ (p : LlProgram) (structs : IsWellTyped p) (blocks : List (Option Block)
   constant_leads type.Void c h = tt
   constant_leads type.Fn c h = tt
 
-  constant_set : (c : CConst) → is_unset (Rattle.csub_tree.specs.Layout.constant c) ≡ false
+  pub constant_set : (c : CConst) → is_unset (Rattle.csub_tree.specs.Layout.constant c) ≡ false
   constant_set (constant.Word z) = refl
   constant_set (constant.Char z) = refl
   constant_set (constant.Bool z) = refl

@@ -6,7 +6,7 @@ use Rattle.csub_tree.specs.State.{Value, Unset, Word, Byte, Flag, Fun, Null, Ptr
 use Rattle.csub_tree.specs.Layout.{shape_at}
 use Rattle.csub_tree.specs.Statement.{read}
 use Rattle.ll_code.specs.Machine.{shapes_of}
-use Rattle.ll_code.specs.State.{Frame, State, At}
+use Rattle.ll_code.specs.State.{Frame, State, Calling, At, Returning}
 use Rattle.ll_code.specs.Typed as typed
 use Rattle.ll_code.specs.declared.program.LlType.{LlType}
 use Rattle.ll_code.specs.declared.program.LlStruct.{LlStruct}
@@ -146,6 +146,25 @@ owns_at p types calls ops e frames others core w =
     (owns_both (λ r. owned (around_of (plan_of p) types) (live ops e) core.vars r + slots_own p core r) (λ r. waits_own p calls frames r) (kept (live ops e) 0 core.vars ++ slots core) (waiting_roots p frames)
     (owns_both (λ r. owned (around_of (plan_of p) types) (live ops e) core.vars r) (λ r. slots_own p core r) (kept (live ops e) 0 core.vars) (slots core) (owns_vars (around_of (plan_of p) types) (live ops e) (live ops e) core.vars (λ v e. e)) (owns_slots p core))
     (owns_waits p calls frames others w))
+
+owns_given : (around : Around) (n : ℕ) (values : List Value) → Owns (λ r. given_to around n values r) values
+owns_given around n [] = owns_none
+owns_given around n (x ∷ values) = owns_first (λ r. hits_by (var_referred around n) x r) (λ r. given_to around (suc n) values r) x values (owns_hit (var_referred around n) x) (owns_given around (suc n) values)
+
+pub owns_calling : (p : LlProgram) (types : List LlType) (calls : List Call) (f : ℕ) (values : List Value) (frames others : List Frame) (core : Core) → AllWait p calls frames others
+    → Owns (λ r. given_to (around_of (plan_of p) types) 0 values r + beside p calls frames core r) (roots p (Calling f values frames core))
+owns_calling p types calls f values frames others core w =
+    owns_same (λ r. (given_to (around_of (plan_of p) types) 0 values r + slots_own p core r) + waits_own p calls frames r) (λ r. given_to (around_of (plan_of p) types) 0 values r + beside p calls frames core r) (roots p (Calling f values frames core))
+    (λ r. omega arith)
+    (owns_both (λ r. given_to (around_of (plan_of p) types) 0 values r + slots_own p core r) (λ r. waits_own p calls frames r) (values ++ slots core) (waiting_roots p frames)
+    (owns_both (λ r. given_to (around_of (plan_of p) types) 0 values r) (λ r. slots_own p core r) values (slots core) (owns_given (around_of (plan_of p) types) 0 values) (owns_slots p core))
+    (owns_waits p calls frames others w))
+
+pub owns_returning : (p : LlProgram) (o : Option ℕ) (calls : List Call) (value : Value) (frames others : List Frame) (core : Core) → AllWait p calls frames others
+    → Owns (λ r. hits_by o value r + beside p calls frames core r) (roots p (Returning value frames core))
+owns_returning p o calls value frames others core w =
+    owns_first (λ r. hits_by o value r) (λ r. beside p calls frames core r) value (slots core ++ waiting_roots p frames) (owns_hit o value)
+    (owns_both (λ r. slots_own p core r) (λ r. waits_own p calls frames r) (slots core) (waiting_roots p frames) (owns_slots p core) (owns_waits p calls frames others w))
 
 -- ---- the references of a block stand at different places
 
@@ -297,7 +316,7 @@ module _ (p : LlProgram) (based : Based p.structs) where
         by None d = d
         by (Some m) d = (
           low_apart (reference_of (plan_of p) (record { owner = n; number = field_number (plan_of p) n place; to = m })) (begin p based n s e c + suc place) (map (reference_of (plan_of p)) (held_from (plan_of p) n (suc place) ts))
-          (let x : place_in (plan_of p) n (field_number (plan_of p) n place) ≡ begin p based n s e c + place = own_at p based n s e c place in omega (arith, x)) (own_low (suc place) ts),
+              (let x : place_in (plan_of p) n (field_number (plan_of p) n place) ≡ begin p based n s e c + place = own_at p based n s e c place in omega (arith, x)) (own_low (suc place) ts),
           d,
         )
 
@@ -356,10 +375,15 @@ module _ (p : LlProgram) (based : Based p.structs) (blocks : List (Option Block)
       by : (block : Block) → NearBlock block (bare_at g.blocks a) → occurs r (references (counts_of (plan_of p)) (bare_at g.blocks a)) ≤ references_of (block.fields ++ block.items)
       by block n =
           let x : occurs r (field_references ((counts_of (plan_of p)).held (bare_at g.blocks a).kind) (bare_at g.blocks a).fields) ≤ references_of (bare_at g.blocks a).fields =
-              fields_fewer ((counts_of (plan_of p)).held (bare_at g.blocks a).kind) (bare_at g.blocks a).fields r (held_distinct p based p.structs (bare_at g.blocks a).kind (counts.whole a there).counted) in
+          fields_fewer ((counts_of (plan_of p)).held (bare_at g.blocks a).kind) (bare_at g.blocks a).fields r (held_distinct p based p.structs (bare_at g.blocks a).kind (counts.whole a there).counted) in
           let y : occurs r (item_references ((counts_of (plan_of p)).items (bare_at g.blocks a).kind) (bare_at g.blocks a).items) ≤ references_of (bare_at g.blocks a).items = items ((counts_of (plan_of p)).items (bare_at g.blocks a).kind) in
           omega (
-            arith, x, y, near_references block.fields (bare_at g.blocks a).fields n.fields, near_references block.items (bare_at g.blocks a).items n.items, references_append block.fields block.items,
+            arith,
+            x,
+            y,
+            near_references block.fields (bare_at g.blocks a).fields n.fields,
+            near_references block.items (bare_at g.blocks a).items n.items,
+            references_append block.fields block.items,
             occurs_two r (field_references ((counts_of (plan_of p)).held (bare_at g.blocks a).kind) (bare_at g.blocks a).fields) (item_references ((counts_of (plan_of p)).items (bare_at g.blocks a).kind) (bare_at g.blocks a).items),
           )
         where

@@ -56,11 +56,11 @@ use Rattle.refcount_ready.proofs.Doing.{Done, AfterDone, Known, does_done}
 
 -- ---- what is known of an operation
 
-free_disagrees : (slots : Slots) (types : List LlType) (a : ℕ) → op_agrees slots types (op.Free a) ≡ true → ⊥
+pub free_disagrees : (slots : Slots) (types : List LlType) (a : ℕ) → op_agrees slots types (op.Free a) ≡ true → ⊥
 free_disagrees None types a h = cc
 free_disagrees (Some (k, v)) types a h = cc
 
-raise_disagrees : (slots : Slots) (types : List LlType) (a : ℕ) → op_agrees slots types (op.Raise a) ≡ true → ⊥
+pub raise_disagrees : (slots : Slots) (types : List LlType) (a : ℕ) → op_agrees slots types (op.Raise a) ≡ true → ⊥
 raise_disagrees None types a h = cc
 raise_disagrees (Some (k, v)) types a h = cc
 

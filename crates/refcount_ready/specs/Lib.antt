@@ -1,2 +1,3 @@
-pub mod Countable
 pub mod Along
+pub mod Countable
+pub mod Programs
