@@ -20,7 +20,7 @@ use Rattle.ll_laws.proofs.Heap.{length_unset}
 use Rattle.ll_laws.proofs.Values.{and_left, and_right, is_same, has_type_is}
 use Rattle.refcount_transform.specs.Plan.{plan_of}
 use Rattle.refcount_laws.proofs.Cells.{set_here, set_other}
-use Rattle.refcount_ready.specs.Countable.{is_number, fills, number_follows, numbers_follow}
+use Rattle.refcount_checks.specs.Countable.{is_number, fills, number_follows, numbers_follow}
 use Rattle.refcount_ready.proofs.Keeps.{NumberNext}
 
 abbrev pub Filled : LlOp → Core → Type 0

@@ -12,7 +12,7 @@ use Rattle.ll_held.proofs.Keeping.{or_one}
 use Rattle.ll_laws.proofs.Values.{and_left, and_right}
 use Rattle.ll_live.specs.Live.{among, reads, set_by, sets, live, exit_variables, handler_variable, exit_reads}
 use Rattle.refcount_transform.specs.Changes.{variable_set}
-use Rattle.refcount_ready.specs.Countable.{all_among}
+use Rattle.refcount_checks.specs.Countable.{all_among}
 use Rattle.refcount_ready.proofs.Lists.{all_are}
 
 abbrev catches_none : LlExit → Bool

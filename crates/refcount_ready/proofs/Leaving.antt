@@ -36,7 +36,7 @@ use Rattle.refcount_laws.specs.Owned.{Roomy}
 use Rattle.refcount_laws.specs.Whole.{Call, Waits, ReadyToLeave, ReadyToEnter, ReadyToGoOn}
 use Rattle.refcount_laws.proofs.Numbers.{Based}
 use Rattle.refcount_typed.specs.Leads.{LeadsToRoots}
-use Rattle.refcount_ready.specs.Countable.{most, takes_params, all_among, is_countable}
+use Rattle.refcount_checks.specs.Countable.{most, takes_params, all_among, is_countable}
 use Rattle.refcount_ready.proofs.Tests.{stands_under, graph_test, inputs_apart, inputs_few, unread, all_roots, result_root}
 use Rattle.refcount_ready.proofs.Pointers.{Sound, AreCounted, sound_points, block_refers, operand_sound, operand_leads, pointing}
 use Rattle.refcount_ready.proofs.Keeps.{CoreKeeps, SetIn, FrameKeeps, CallingKeeps, AtKeeps, ReturningKeeps}

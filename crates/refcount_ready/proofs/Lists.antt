@@ -16,7 +16,7 @@ use Rattle.ll_laws.proofs.Operations.{set_at}
 use Rattle.ll_laws.proofs.Values.{and_left, and_right, is_same}
 use Rattle.ll_live.specs.Live.{among}
 use Rattle.refcount_laws.proofs.Cells.{set_here, set_length}
-use Rattle.refcount_ready.specs.Countable.{all_among}
+use Rattle.refcount_checks.specs.Countable.{all_among}
 
 -- ---- values that are set
 

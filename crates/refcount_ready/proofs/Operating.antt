@@ -51,7 +51,7 @@ use Rattle.refcount_typed.proofs.Calls.{lead_at}
 use Rattle.refcount_typed.proofs.Fields.{reference_is, given_root}
 use Rattle.refcount_typed.proofs.Numbering.{number_first_is}
 use Rattle.refcount_typed.proofs.Roots.{inside}
-use Rattle.refcount_ready.specs.Countable.{most, is_number, call_countable, result_of, is_countable}
+use Rattle.refcount_checks.specs.Countable.{most, is_number, call_countable, result_of, is_countable}
 use Rattle.refcount_ready.specs.Along.{WritesBlocks, MakesShort}
 use Rattle.refcount_ready.proofs.Tests.{Stands, op_test, unread, all_roots, op_lead_test}
 use Rattle.refcount_ready.proofs.Pointers.{Sound, AreCounted, begins_counted, counted_refers, points, sound_points}

@@ -39,7 +39,7 @@ use Rattle.refcount_laws.proofs.Reaching.{has_room}
 use Rattle.refcount_laws.proofs.Cells.{set_here, set_other}
 use Rattle.refcount_laws.proofs.Standing.{StructAt, marked_there}
 use Rattle.refcount_laws.proofs.Places.{earlier, counted_base}
-use Rattle.refcount_ready.specs.Countable.{most}
+use Rattle.refcount_checks.specs.Countable.{most}
 
 -- ---- references that are hit
 

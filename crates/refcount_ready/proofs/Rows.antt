@@ -23,7 +23,7 @@ use Rattle.refcount_transform.specs.Counted.{counted}
 use Rattle.refcount_laws.specs.Means.{SameMeaning}
 use Rattle.refcount_typed.specs.Leads.{LeadsToRoots}
 use Rattle.refcount_typed.specs.Numbered.{HasNumbers}
-use Rattle.refcount_ready.specs.Countable.{is_countable}
+use Rattle.refcount_checks.specs.Countable.{is_countable}
 use Rattle.refcount_ready.specs.Programs.{CanBeCounted, RunsSmall}
 use Rattle.refcount_ready.proofs.Inputs.{known_reads}
 use Rattle.refcount_ready.proofs.Small.{fine_within, small_run}

@@ -15,7 +15,7 @@ use Rattle.ll_laws.proofs.Values.{and_left, and_right, is_less}
 use Rattle.refcount_transform.specs.Plan.{plan_of, field_referred, items_referred}
 use Rattle.refcount_laws.specs.Ready.{InBlock}
 use Rattle.refcount_laws.proofs.Cells.{set_other}
-use Rattle.refcount_ready.specs.Countable.{most}
+use Rattle.refcount_checks.specs.Countable.{most}
 use Rattle.refcount_ready.specs.Along.{EachState, MakesShort, MakesShortNext, IsSmall, WritesBlocks, LeavesStatics}
 use Rattle.refcount_ready.specs.Programs.{RunsSmall}
 

@@ -44,7 +44,7 @@ use Rattle.refcount_laws.proofs.Cells.{set_here, set_other}
 use Rattle.refcount_laws.proofs.Numbers.{Based, all_based}
 use Rattle.refcount_typed.specs.Leads.{LeadsToRoots}
 use Rattle.refcount_typed.proofs.Roots.{made_counted, inside}
-use Rattle.refcount_ready.specs.Countable.{result_of, call_countable, calls_countable, op_countable, takes_params, all_among, numbers_follow, is_countable}
+use Rattle.refcount_checks.specs.Countable.{result_of, call_countable, calls_countable, op_countable, takes_params, all_among, numbers_follow, is_countable}
 use Rattle.refcount_ready.specs.Along.{WritesBlocks, LeavesStatics}
 use Rattle.refcount_ready.proofs.Tests.{Stands, stands_placed, graph_test, op_test, all_roots, graph_good, stands_made, numbers_first, numbers_behind}
 use Rattle.refcount_ready.proofs.Pointers.{Sound, operand_sound}

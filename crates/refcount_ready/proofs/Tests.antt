@@ -26,7 +26,7 @@ use Rattle.refcount_laws.specs.Leaves.{are_apart, InputsAreApart}
 use Rattle.refcount_typed.specs.Leads.{LeadsToRoots, graph_leads, graphs_lead, ops_lead, blocks_lead, op_leads}
 use Rattle.refcount_typed.proofs.Calls.{lead_at}
 use Rattle.refcount_typed.proofs.Fields.{given_root}
-use Rattle.refcount_ready.specs.Countable.{most, sets_unread, op_countable, ops_countable, block_countable, blocks_countable, graph_countable, graphs_countable, number_follows, numbers_follow, is_countable}
+use Rattle.refcount_checks.specs.Countable.{most, sets_unread, op_countable, ops_countable, block_countable, blocks_countable, graph_countable, graphs_countable, number_follows, numbers_follow, is_countable}
 
 -- ---- where operations stand
 

@@ -39,7 +39,7 @@ use Rattle.refcount_laws.specs.Run.{IsReady, ReadyNext, ReadyAlong}
 use Rattle.refcount_laws.specs.Whole.{Call, Waits, AllWait, BothAt, BothCalling, BothReturning, StandsFor, ReadyAt, ReadyFor, ReadyToGoOn, beside, slots_own, waits_own}
 use Rattle.refcount_typed.specs.Leads.{LeadsToRoots}
 use Rattle.refcount_typed.specs.Numbered.{HasNumbers}
-use Rattle.refcount_ready.specs.Countable.{most, is_countable}
+use Rattle.refcount_checks.specs.Countable.{most, is_countable}
 use Rattle.refcount_ready.specs.Along.{EachState, IsSmall, LeavesStatics, MakesShortNext}
 use Rattle.refcount_ready.proofs.Tests.{stands_placed, all_roots}
 use Rattle.refcount_ready.proofs.Pointers.{pointing}
