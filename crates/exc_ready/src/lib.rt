@@ -1,0 +1,11 @@
+//! Programs whose exceptions can be made explicit, by a test: what the laws of exc_laws ask of each state
+//! of a run follows, but for what is raised having a class.
+#![tactic(auto)]
+
+mod laws;
+
+pub use laws::{
+    explicit_programs_are_never_stuck, explicit_programs_hold_no_more,
+    explicit_programs_mean_the_same, exceptions_leave_marked_graphs, runs_are_allowed,
+    small_runs_stay_small,
+};
