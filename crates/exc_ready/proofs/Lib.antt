@@ -1,2 +1,6 @@
 pub mod Escapes
+pub mod Filled
+pub mod Passes
 pub mod Placed
+pub mod Setting
+pub mod Whole
