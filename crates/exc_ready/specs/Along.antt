@@ -9,6 +9,7 @@ use Rattle.ll_code.specs.Meaning.{Unfinished, run}
 use Rattle.ll_code.specs.declared.program.LlProgram.{LlProgram}
 use Rattle.exc_transform.specs.Explicit.{is_marked}
 use Rattle.exc_laws.specs.Ready.{marks_of, exceptions_of, is_pointer, raised_next}
+use Rattle.ll_points.specs.Points.{Leads}
 use Rattle.exc_ready.specs.Raisable.{root_of}
 
 -- each state that the run comes to
@@ -34,3 +35,9 @@ RaisesClassed p other = Unit {0}
 abbrev pub LeavesMarked : LlProgram → State → Type 0
 LeavesMarked p (Throwing value frames core) = is_marked (marks_of p) core.function ≡ true
 LeavesMarked p other = Unit {0}
+
+-- what is raised, and what leaves a graph, leads to what begins with the struct of exceptions
+abbrev pub RaisedLeads : LlProgram → State → Type 0
+RaisedLeads p (At ops exit frames core) = (a : ℕ) → raised_next ops exit ≡ Some a → Leads p core.blocks core.statics (root_of p) (read core.vars a)
+RaisedLeads p (Throwing value frames core) = Leads p core.blocks core.statics (root_of p) value
+RaisedLeads p other = Unit {0}

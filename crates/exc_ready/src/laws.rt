@@ -11,7 +11,7 @@ ghost use Rattle.exc_transform.specs.Pieces.{explicit};
 ghost use Rattle.exc_laws.specs.Alike.{Allows};
 ghost use Rattle.exc_laws.specs.Holds.{Found, AreApartOn, IsSmallOn, HasFewVariables};
 ghost use Rattle.exc_ready.specs.Raisable.{IsRaisable};
-ghost use Rattle.exc_ready.specs.Along.{EachState, RaisesClassed, LeavesMarked};
+ghost use Rattle.exc_ready.specs.Along.{EachState, RaisesClassed, RaisedLeads, LeavesMarked};
 
 /// In the run of any program an exception leaves none but a graph that is marked.
 #[tactic(auto, using(crate::proofs::Escapes::exceptions_leave_marked))]
@@ -19,9 +19,15 @@ pub fn exceptions_leave_marked_graphs()
     ensures { (p : LlProgram) (args : List (List ℕ)) (steps : ℕ) → EachState (LeavesMarked p) p args steps }
 {}
 
+/// In the run of a well-typed program that passes the test what is raised, and what leaves a graph, leads
+/// to a block or a static that begins with the struct of exceptions, if it is no NULL.
+#[tactic(auto, using(crate::proofs::Leading::state_raised_leads))]
+pub fn exceptions_lead_to_their_struct()
+    ensures { (p : LlProgram) → IsWellTyped p → p.stage ≡ stage.Raw → IsRaisable p → (args : List (List ℕ)) (steps : ℕ) → EachState (RaisedLeads p) p args steps }
+{}
+
 /// A run of a well-typed program that passes the test is as the laws of explicit exceptions ask, where
 /// what is raised has a class.
-#[tactic(auto, using(crate::proofs::Whole::allowed))]
 pub fn runs_are_allowed()
     ensures { (p : LlProgram) → IsWellTyped p → p.stage ≡ stage.Raw → IsRaisable p → (args : List (List ℕ)) (steps : ℕ) → EachState (RaisesClassed p) p args steps → Allows p args steps }
 {}
