@@ -1,7 +1,10 @@
+pub mod Agreeing
 pub mod Escapes
 pub mod Filled
 pub mod Leading
+pub mod Made
 pub mod Passes
 pub mod Placed
+pub mod Reading
 pub mod Setting
 pub mod Whole

@@ -11,13 +11,18 @@ use Rattle.ll_code.specs.declared.program.LlBlock.{LlBlock}
 use Rattle.ll_code.specs.declared.program.LlGraph.{LlGraph}
 use Rattle.ll_code.specs.declared.program.LlProgram.{LlProgram}
 use Rattle.ll_live.specs.Live.{among, set_by}
-use Rattle.exc_transform.specs.Explicit.{is_marked}
+use Rattle.ll_points.specs.Agrees.{Slots}
+use Rattle.exc_transform.specs.Explicit.{is_marked, kind_of}
 use Rattle.exc_transform.specs.Live.{live, handler_reads}
 use Rattle.exc_laws.specs.Ready.{marks_of, any_of, exceptions_of, uses_slots}
 
 -- the struct that all exceptions begin with
 abbrev pub root_of : LlProgram → ℕ
 root_of p = (exceptions_of p).root
+
+-- the structs to which the exception slots of the explicit program point
+abbrev pub slots_for : LlProgram → Slots
+slots_for p = Some (kind_of (exceptions_of p), root_of p)
 
 -- ---- operations
 

@@ -10,7 +10,9 @@ ghost use Rattle.ll_code.specs.declared.program.LlProgram.{LlProgram};
 ghost use Rattle.exc_transform.specs.Pieces.{explicit};
 ghost use Rattle.exc_laws.specs.Alike.{Allows};
 ghost use Rattle.exc_laws.specs.Holds.{Found, AreApartOn, IsSmallOn, HasFewVariables};
-ghost use Rattle.exc_ready.specs.Raisable.{IsRaisable};
+ghost use Rattle.ll_held.specs.Quiet.{ReadsInputs};
+ghost use Rattle.ll_points.specs.Agrees.{Agrees};
+ghost use Rattle.exc_ready.specs.Raisable.{IsRaisable, slots_for};
 ghost use Rattle.exc_ready.specs.Along.{EachState, RaisesClassed, RaisedLeads, LeavesMarked};
 
 /// In the run of any program an exception leaves none but a graph that is marked.
@@ -56,4 +58,15 @@ pub fn explicit_programs_hold_no_more()
 /// but for as many more as a graph has variables, and six.
 pub fn small_runs_stay_small()
     ensures { (p : LlProgram) → IsWellTyped p → p.stage ≡ stage.Raw → IsRaisable p → (args : List (List ℕ)) (steps : ℕ) → EachState (RaisesClassed p) p args steps → AreApartOn p args steps → (most few : ℕ) → IsSmallOn most p args steps → HasFewVariables few p → IsSmallOn (most + few + 6) (explicit p) args steps }
+{}
+
+/// The explicit program raises and frees nothing, and its slots are used alike.
+#[tactic(auto, using(crate::proofs::Agreeing::explicit_agrees))]
+pub fn explicit_programs_use_slots_alike()
+    ensures { (p : LlProgram) → IsWellTyped p → p.stage ≡ stage.Raw → IsRaisable p → Agrees (slots_for p) (explicit p) }
+{}
+
+/// Each block of the explicit program reads its inputs alone.
+pub fn explicit_programs_read_their_inputs()
+    ensures { (p : LlProgram) → IsRaisable p → ReadsInputs (explicit p) }
 {}
