@@ -1,6 +1,6 @@
 -- Operations that stay in their block lead from a core whose pointers lead to one whose do.
-use Rattle.std.proofs.Common.{◌≡◌, ◌≢◌, ℕ, zero, suc, ◌+◌, Bool, true, false, ◌==◌, ◌&&◌, List, [], ◌∷◌, ◌++◌, length, replicate, Option, Some, None, Ok, Err, refl, sym, ap, ◌∙◌, subst, ℤ, pos, negsuc, ◌⊎◌, inl, inr}
-use Rattle.std.specs.Prelude.{slice_get, slice_set, slice_index_or, nat_lt, nat_le, cond, is_some, option_map}
+use Rattle.std.proofs.Common.{◌≡◌, ◌≢◌, ℕ, zero, suc, ◌+◌, Bool, true, false, List, [], ◌∷◌, ◌++◌, length, replicate, Option, Some, None, Ok, Err, refl, sym, ap, ◌∙◌, subst, ℤ, pos, negsuc, ◌⊎◌, inl, inr}
+use Rattle.std.specs.Prelude.{slice_get, slice_set, slice_index_or, nat_lt, nat_le, cond, option_map}
 use Rattle.csub_tree.specs.State.{Value, Unset, Word, Null, Ptr, Static, Block, Core, After, Onward, Puts as PutsByte, Told, Over, Stuck}
 use Rattle.csub_tree.specs.Layout.{shape_at, begins_with, place}
 use Rattle.csub_tree.specs.Operation.{Answer, unary_of, binary_of, word_of, is_unset}
@@ -22,7 +22,7 @@ use Rattle.ll_laws.proofs.Heap.{unset_at}
 use Rattle.ll_points.specs.Agrees.{Slots, op_agrees}
 use Rattle.ll_points.specs.Points.{Leads, LeadsBy, AllLead, BlockLeads, SlotsLead, MemoryLeads}
 use Rattle.ll_points.proofs.Shapes.{begins_so}
-use Rattle.ll_points.proofs.Leading.{Kept, Grows, grows_same, by_more, all_more, block_more, stand_more, slots_more, same_memory, vars_set, unset_leads, unary_leads, binary_leads, operand_leads}
+use Rattle.ll_points.proofs.Leading.{Kept, Grows, grows_same, all_more, block_more, stand_more, slots_more, same_memory, vars_set, unset_leads, unary_leads, binary_leads, operand_leads}
 
 -- ---- lists
 

@@ -1,5 +1,5 @@
 -- What leads goes on leading where blocks and statics keep their structs; and what constants and operands are leads.
-use Rattle.std.proofs.Common.{◌≡◌, ℕ, zero, suc, Bool, true, false, ◌==◌, ◌&&◌, List, [], ◌∷◌, ◌++◌, Option, Some, None, refl, sym, ap, ◌∙◌, subst, ◌⊎◌, inl, inr}
+use Rattle.std.proofs.Common.{◌≡◌, ℕ, Bool, true, false, ◌==◌, ◌&&◌, List, [], ◌∷◌, Option, Some, None, refl, sym, ap, ◌∙◌, subst, ◌⊎◌, inl, inr}
 use Rattle.std.specs.Prelude.{slice_get, slice_set, slice_index_or, nat_lt, if◌then◌else◌}
 use Rattle.csub_tree.specs.State.{Value, Unset, Ptr, Static, Block, Core}
 use Rattle.csub_tree.specs.Layout.{begins_with, constant}
@@ -15,16 +15,15 @@ use Rattle.csub_tree.specs.declared.tree.CBinary.{CBinary}
 use Rattle.csub_tree.specs.declared.tree.CStatic.{CStatic}
 use Rattle.ll_code.specs.declared.program.LlType.{LlType}
 use Rattle.ll_code.specs.declared.program.LlType.TheVariants as type
-use Rattle.ll_code.specs.declared.program.LlGraph.{LlGraph}
 use Rattle.ll_code.specs.declared.program.LlProgram.{LlProgram}
 use Rattle.ll_code.specs.State.{Frame}
 use Rattle.ll_code.specs.Machine.{shapes_of}
-use Rattle.ll_code.specs.Typed.{is_of, is_of_any, is_cast, takes, unary_gives, binary_gives, structs_ok}
+use Rattle.ll_code.specs.Typed.{is_of, is_cast, takes, unary_gives, binary_gives, structs_ok}
 use Rattle.csub_tree.specs.Checked.{kind_of}
 use Rattle.ll_laws.proofs.Values.{and_left, and_right, is_same, has_type_is}
 use Rattle.ll_laws.proofs.Operations.{set_at}
 use Rattle.ll_points.specs.Agrees.{Slots}
-use Rattle.ll_points.specs.Points.{Leads, LeadsBy, AllLead, BlockLeads, StaticsStand, SlotsLead, MemoryLeads, WaitsFor, FramesLead}
+use Rattle.ll_points.specs.Points.{Leads, LeadsBy, AllLead, BlockLeads, StaticsStand, SlotsLead, MemoryLeads, FramesLead}
 use Rattle.ll_points.proofs.Shapes.{begins_so}
 
 -- ---- lists

@@ -1,5 +1,5 @@
 -- An object with its vtable goes through the exception slots.
-use Rattle.std.proofs.Common.{◌≡◌, ℕ, true, false, List, [], ◌∷◌, Some, None, refl, codes, pos, ap, ◌∙◌, sym}
+use Rattle.std.proofs.Common.{◌≡◌, true, false, List, [], ◌∷◌, Some, None, refl, codes, pos, ap, ◌∙◌}
 use Rattle.csub_tree.specs.State.{Unset, Ptr, Static, Word, Block, Made}
 use Rattle.csub_tree.specs.Layout.{begins_with}
 use Rattle.csub_tree.specs.declared.tree.CConst.TheVariants as constant

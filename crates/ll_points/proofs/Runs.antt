@@ -14,7 +14,7 @@ use Rattle.ll_laws.proofs.Values.{and_left, and_right}
 use Rattle.ll_laws.proofs.Steps.{step_fits}
 use Rattle.ll_laws.proofs.Runs.{start_fits}
 use Rattle.ll_points.specs.Agrees.{Slots, Agrees}
-use Rattle.ll_points.specs.Points.{LeadsBy, SlotsLead, MemoryLeads, StateLeads, NextLeads, RanLeads}
+use Rattle.ll_points.specs.Points.{SlotsLead, MemoryLeads, StateLeads, NextLeads, RanLeads}
 use Rattle.ll_points.proofs.Leading.{unset_leads}
 use Rattle.ll_points.proofs.Statics.{statics_lead, statics_stand}
 use Rattle.ll_points.proofs.Steps.{step_leads}

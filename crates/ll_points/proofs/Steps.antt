@@ -1,8 +1,8 @@
 -- Each step of a well-typed program that raises and frees nothing leads from a state whose pointers lead to one whose do.
-use Rattle.std.proofs.Common.{◌≡◌, ℕ, zero, suc, ◌+◌, ◌-◌, Bool, true, false, ◌&&◌, ◌||◌, List, [], ◌∷◌, ◌++◌, length, map, replicate, Option, Some, None, Result, Ok, Err, refl, sym, ap, ◌∙◌, subst, arith, ℤ}
+use Rattle.std.proofs.Common.{◌≡◌, ℕ, zero, suc, ◌+◌, ◌-◌, Bool, true, false, ◌&&◌, ◌||◌, List, [], ◌∷◌, ◌++◌, length, map, replicate, Option, Some, None, Result, Ok, Err, refl, sym, ap, ◌∙◌, subst, arith}
 use Rattle.std.specs.Prelude.{slice_get, slice_set, cond}
 use Rattle.csub_tree.specs.State.{Value, Unset, Word, Block, Core, After, Onward, Puts as PutsByte, Told, Over, Stuck}
-use Rattle.csub_tree.specs.Operation.{is_unset, flag_of, word_of}
+use Rattle.csub_tree.specs.Operation.{is_unset, flag_of}
 use Rattle.csub_tree.specs.Statement.{read, operand, operands, any_unset, on_block, reached, taken_by, ended, fail, fail_name_of, raised, raised_as, bytes_of, fun_of, same_result, same_types, same_type}
 use Rattle.csub_tree.specs.declared.stuck.StuckReason.{StuckReason}
 use Rattle.csub_tree.specs.declared.stuck.StuckReason.TheVariants.{Unset as IsUnset, Signature}
@@ -29,7 +29,7 @@ use Rattle.ll_laws.specs.States.{AtFits, StateFits}
 use Rattle.ll_laws.proofs.Values.{and_left, and_right, is_same, has_type_is}
 use Rattle.ll_laws.proofs.Heap.{unset_at}
 use Rattle.ll_points.specs.Agrees.{Slots, Agrees, op_agrees, ops_agree, exit_agrees, block_agrees, blocks_agree, graphs_agree}
-use Rattle.ll_points.specs.Points.{LeadsBy, AllLead, MemoryLeads, FramesLead, CallingLeads, AtLeads, ReturningLeads, StateLeads, NextLeads}
+use Rattle.ll_points.specs.Points.{LeadsBy, AllLead, FramesLead, CallingLeads, AtLeads, ReturningLeads, StateLeads, NextLeads}
 use Rattle.ll_points.proofs.Leading.{grows_same, frames_more, same_memory, vars_set, unset_leads, operand_leads}
 use Rattle.ll_points.proofs.Cores.{CoreLeads, Follows, AfterLeads, operation_leads}
 use Rattle.ll_points.proofs.Given.{read_filled, same_given, takes_leads, inputs_lead, parameters_lead, asked_lead, taken_leads}
