@@ -68,10 +68,10 @@ module _ (p : LlProgram) (ok : IsWellTyped p) (raw : p.stage ≡ stage.Raw) wher
     accepts : Accepts p g (op_agrees (slots_for p) (Types p g))
     accepts = record {
       alone = λ v e h. and_both (has_type (type.Ptr (kind_of (exceptions_of p))) (slice_get (Types p g) v)) (has_type (type.Ptr (root_of p)) (slice_get (Types p g) v))
-        (ap (λ o. has_type (type.Ptr (or_else (root_of p) o)) (slice_get (Types p g) v)) e ∙ is_root v h) (is_root v h);
+          (ap (λ o. has_type (type.Ptr (or_else (root_of p) o)) (slice_get (Types p g) v)) e ∙ is_root v h) (is_root v h);
       names = λ t n v e h. refl;
       puts = λ t v h. and_both (has_type (type.Ptr (kind_of (exceptions_of p))) (slice_get (Types p g) (length g.types))) (has_type (type.Ptr (root_of p)) (slice_get (Types p g) v))
-        (ap (has_type (type.Ptr (kind_of (exceptions_of p)))) t.0 ∙ equals (kind_of (exceptions_of p)) (kind_of (exceptions_of p)) refl) (is_root v h);
+          (ap (has_type (type.Ptr (kind_of (exceptions_of p)))) t.0 ∙ equals (kind_of (exceptions_of p)) (kind_of (exceptions_of p)) refl) (is_root v h);
       asks = λ t. equals (kind_of (exceptions_of p)) (kind_of (exceptions_of p)) refl;
       tests = λ t. refl;
       takes = λ a h. equals (root_of p) (root_of p) refl;
@@ -96,9 +96,11 @@ module _ (p : LlProgram) (ok : IsWellTyped p) (raw : p.stage ≡ stage.Raw) wher
           raises = and_right _ _ (and_left _ _ (and_left _ _ h));
           end = and_right _ _ (and_left _ _ h);
           need = λ f. t (or_first (exit_leaves b.exit || some_raises (marks_of p) (any_of p) b.ops) _ f);
-        } in
-        (rest, (λ way. piece_all p g (op_agrees (slots_for p) (Types p g)) accepts b.ops b.exit rest),
-          all_first blocks (and_right (block_raisable p g.types b) _ h) (and_right (block_ok p g b) _ k) (λ f. t (or_second (exit_leaves b.exit || some_raises (marks_of p) (any_of p) b.ops) _ f)))
+        } in (
+          rest,
+          (λ way. piece_all p g (op_agrees (slots_for p) (Types p g)) accepts b.ops b.exit rest),
+          all_first blocks (and_right (block_raisable p g.types b) _ h) (and_right (block_ok p g b) _ k) (λ f. t (or_second (exit_leaves b.exit || some_raises (marks_of p) (any_of p) b.ops) _ f)),
+        )
 
     graph_agrees : graph_raisable p g ≡ true → graph_ok p g ≡ true → blocks_calm (explicit_graph p g).blocks ≡ true → blocks_agree (slots_for p) (explicit_graph p g).types (explicit_graph p g).blocks ≡ true
     graph_agrees h k calm =

@@ -211,8 +211,8 @@ module _ (p : LlProgram) where
         one None e = tt
         one (Some block) e = (
           λ v k. values_set values _ v u
-            (let lt : v < 0 + length g.params = parameter_below p g.types 0 g.params (params_good f g fit.of) v (takes_parameters p passes f g fit.of block e v (closed p passes f g fit.of 0 block e v (needed_live p block.exit v block.ops k))) in
-            let count : length values ≡ length g.params = fit.count in omega (arith, lt, count)),
+              (let lt : v < 0 + length g.params = parameter_below p g.types 0 g.params (params_good f g fit.of) v (takes_parameters p passes f g fit.of block e v (closed p passes f g fit.of 0 block e v (needed_live p block.exit v block.ops k))) in
+              let count : length values ≡ length g.params = fit.count in omega (arith, lt, count)),
           w,
         )
 

@@ -67,13 +67,13 @@ module _ (p : LlProgram) where
     ops_pass f n place ops e h graph of =
         placed_holds p (λ ops e. ops_raisable (root_of p) graph.types ops e ≡ true) (λ e o ops k. and_right _ _ k) f n place ops e
         (λ other block is at. let s : Some other ≡ Some graph = sym is ∙ of in let same : other ≡ graph = cc in
-          subst (λ (g : LlGraph). ops_raisable (root_of p) g.types block.ops block.exit ≡ true) same (and_right _ _ (and_left _ _ (block_passes f other is n block at)))) h
+        subst (λ (g : LlGraph). ops_raisable (root_of p) g.types block.ops block.exit ≡ true) same (and_right _ _ (and_left _ _ (block_passes f other is n block at)))) h
 
     pub exit_passes : (f n place : ℕ) (ops : List LlOp) (e : LlExit) → PlacedAt p f n place ops e → (graph : LlGraph) → slice_get p.graphs f ≡ Some graph → exit_raises_alike (root_of p) graph.types e ≡ true
     exit_passes f n place ops e h graph of =
         placed_holds p (λ ops e. exit_raises_alike (root_of p) graph.types e ≡ true) (λ e o ops k. k) f n place ops e
         (λ other block is at. let s : Some other ≡ Some graph = sym is ∙ of in let same : other ≡ graph = cc in
-          subst (λ (g : LlGraph). exit_raises_alike (root_of p) g.types block.exit ≡ true) same (and_right _ _ (block_passes f other is n block at))) h
+        subst (λ (g : LlGraph). exit_raises_alike (root_of p) g.types block.exit ≡ true) same (and_right _ _ (block_passes f other is n block at))) h
 
     -- the slots are left alone
     pub slots_alone : (root : ℕ) (types : List LlType) (ops : List LlOp) (e : LlExit) → ops_raisable root types ops e ≡ true → next_uses_slots ops ≡ false

@@ -54,10 +54,10 @@ main passed = record {
   result = type.Signed;
   types = type.Ptr 0 ∷ type.Signed ∷ [];
   blocks =
-    record { inputs = []; ops = op.Set 1 seven ∷ op.Call (Some 1) 1 [] ∷ []; exit = exit.OnRaise 0 (Some (record { to = 1; args = Var passed ∷ [] })) (record { to = 2; args = Var 1 ∷ [] }) }
-    ∷ record { inputs = passed ∷ []; ops = []; exit = exit.Return (Some seven) }
-    ∷ record { inputs = 1 ∷ []; ops = []; exit = exit.Return (Some (Var 1)) }
-    ∷ [];
+      record { inputs = []; ops = op.Set 1 seven ∷ op.Call (Some 1) 1 [] ∷ []; exit = exit.OnRaise 0 (Some (record { to = 1; args = Var passed ∷ [] })) (record { to = 2; args = Var 1 ∷ [] }) }
+      ∷ record { inputs = passed ∷ []; ops = []; exit = exit.Return (Some seven) }
+      ∷ record { inputs = 1 ∷ []; ops = []; exit = exit.Return (Some (Var 1)) }
+      ∷ [];
 }
 
 -- struct 0 is an exception with its class, struct 1 a class
