@@ -39,7 +39,7 @@ use Rattle.refcount_transform.specs.Changes.{Around, around_of, var_referred, op
 use Rattle.refcount_transform.specs.Counted.{counted}
 use Rattle.refcount_transform.specs.Made.{block_with}
 use Rattle.refcount_transform.specs.Plan.{Plan, plan_of, root_of, reference_given}
-use Rattle.std.proofs.Common.{◌≡◌, ◌≢◌, ℕ, suc, ◌+◌, Bool, true, false, ◌||◌, List, [], ◌∷◌, length, Option, Some, None, refl, sym, ap, ◌∙◌, subst, arith}
+use Rattle.std.proofs.Common.{◌<◌, ◌≡◌, ◌≢◌, ℕ, suc, ◌+◌, Bool, true, false, ◌||◌, List, [], ◌∷◌, length, Option, Some, None, refl, sym, ap, ◌∙◌, subst, arith}
 use Rattle.std.specs.Prelude.{cond}
 use Rattle.std.specs.Prelude.{slice_get, slice_set, slice_index_or, ◌==◌, not, cond}
 use Rattle.csub_tree.specs.Statement.{fail_name_of, fail}
@@ -173,7 +173,7 @@ module _ (p : LlProgram) (based : Based p.structs) (counting : Counting (counted
 
   -- where the program goes by a link
   linked : (link : LlLink) (ok : link_ok p graph link ≡ true) (from : State)
-      → ((t : Target link) → any_unset (operands core.vars link.args) ≡ false → Comes p args types (live t.block.ops t.block.exit) own from (ops_of around t.block.ops t.block.exit) (exit_of around t.place.next t.block.exit) frames link.to (record core { block = link.to; at = 0; vars = set_all core.vars t.block.inputs (operands core.vars link.args) }))
+      → ((t : Target link) → any_unset (operands core.vars link.args) ≡ false → (x : Comes p args types (live t.block.ops t.block.exit) own from (ops_of around t.block.ops t.block.exit) (exit_of around t.place.next t.block.exit) frames link.to (record core { block = link.to; at = 0; vars = set_all core.vars t.block.inputs (operands core.vars link.args) })) × (0 < x.leads.count))
       → LeavesBy from (jump p waiting core link)
   linked link ok from comes = by (any_unset (operands core.vars link.args)) refl
     where
@@ -182,7 +182,7 @@ module _ (p : LlProgram) (based : Based p.structs) (counting : Counting (counted
 
       by : (y : Bool) → any_unset (operands core.vars link.args) ≡ y → LeavesBy from (cond y (Sticks IsUnset) (begins waiting core link.to (operands core.vars link.args) (block_in (slice_get p.graphs core.function) link.to)))
       by true e = tt
-      by false e = subst (λ o. LeavesBy from (begins waiting core link.to (operands core.vars link.args) o)) (sym (ap (λ o. block_in o link.to) at_graph ∙ t.there)) (t.place.next, t.place.ways, comes t e)
+      by false e = subst (λ o. LeavesBy from (begins waiting core link.to (operands core.vars link.args) o)) (sym (ap (λ o. block_in o link.to) at_graph ∙ t.there)) (t.place.next, t.place.ways, (comes t e).0, (comes t e).1)
 
   module _ (g : Ghost) (h : List (Option Block)) (b at next : ℕ) (stands : Stands p core qcore g h) where
     closed_at : (n : ℕ) (block : LlBlock) → slice_get graph.blocks n ≡ Some block → (v : ℕ) → live block.ops block.exit v ≡ true → among v block.inputs ≡ true
@@ -194,7 +194,7 @@ module _ (p : LlProgram) (based : Based p.structs) (counting : Counting (counted
         linked link ok (at_ (ops_of around [] (exit.Goto link)) (exit_of around next (exit.Goto link)) b at h (memory g))
         (λ t set. (let a : Reached p based counting args types roots own frames core qcore fits link t.block t.place.next t.given (apart link.to t.block t.there) (closed_at link.to t.block t.there) set t.placed (points link t.block ok t.there set) (at_ (given around link.args []) (exit.Goto link) b at h (memory g)) =
         goto_arrives p based counting args types roots own frames core qcore fits link t.block t.place.next t.given (apart link.to t.block t.there) (closed_at link.to t.block t.there) set t.placed (points link t.block ok t.there set) g h b at stands pointing room counts in
-        a.comes))
+        (a.comes, a.moves)))
 
     -- ---- a test
 

@@ -52,10 +52,17 @@ use Rattle.refcount_laws.specs.Before as told
 use Rattle.refcount_laws.specs.Before.{Before, is_of_words, MayStand, SetsUnread, MayTakeField, MayTakeItem, NoBlocksIn}
 use Rattle.refcount_laws.proofs.Numbers.{all_based}
 use Rattle.refcount_laws.proofs.Places.{counted_counting}
-use Rattle.refcount_laws.proofs.Making.{made_followed}
+use Rattle.refcount_laws.proofs.Making.{made_followed, no_rest, array_rest}
 use Rattle.refcount_transform.specs.Plan.{items_referred}
 use Rattle.refcount_transform.specs.Changes.{cleared_by}
-use Rattle.ll_code.specs.Typed.{points}
+use Rattle.ll_code.specs.Typed.{points, has_type, begins}
+use Rattle.std.specs.Prelude.{is_none}
+use Rattle.std.proofs.Common.{subst}
+use Rattle.csub_tree.specs.State.{Word, Byte, Flag, Fun, Null, Static}
+use Rattle.ll_code.specs.Machine.{step}
+use Rattle.ll_live.specs.Live.{reads}
+use Rattle.refcount_transform.specs.Plan.{fields_given}
+use Rattle.refcount_laws.proofs.Cells.{set_other}
 use Rattle.refcount_laws.specs.Ready.{MayBeGiven, Ready}
 use Rattle.refcount_laws.proofs.Putting.{put_item_stands}
 use Rattle.refcount_laws.proofs.ItemWrites.{set_plain_item_followed, set_reference_item_followed}
@@ -124,12 +131,12 @@ module _ (p : LlProgram) (ok : IsWellTyped p) (leads : leads_to_roots p ≡ true
   in_second w (x ∷ xs) ys f = or_some (x == w) (among w (xs ++ ys)) (in_second w xs ys f)
 
   set_field_any : (n v i : ℕ) (x : COperand) → Followed (op.SetField n v i x)
-  set_field_any n v i x typed (in_block, no_number, may) d = by (taken_from (field_of (slice_get p.structs n) i) x (and_right (points (slice_get types v)) (given_takes p types (field_of (slice_get p.structs n) i) x) typed)) (field_referred (plan_of p) n i) refl may
+  set_field_any n v i x typed (in_block, keeps, may, cn) d = by (taken_from (field_of (slice_get p.structs n) i) x (and_right (points (slice_get types v)) (given_takes p types (field_of (slice_get p.structs n) i) x) typed)) (field_referred (plan_of p) n i) refl may
     where
       by : Taken (field_of (slice_get p.structs n) i) → (o : Option ℕ) → field_referred (plan_of p) n i ≡ o → MayBeGiven p core o x → told.IsFollowed p args types own (op.SetField n v i x) ops rest e ex frames b at core qcore g h
-      by taken None f may = set_plain_one p ok leads args types own ops rest e ex frames b at core qcore g h n v i x taken.t taken.is no_number f in_block d
+      by taken None f may = set_plain_one p ok leads args types own ops rest e ex frames b at core qcore g h n v i x taken.t taken.is keeps f cn d
       by taken (Some m) f may =
-          set_reference_one p ok leads args types own ops rest e ex frames b at core qcore g h n v i x taken.t taken.is no_number m f in_block may
+          set_reference_one p ok leads args types own ops rest e ex frames b at core qcore g h n v i x taken.t taken.is keeps m f (λ s is. in_block m s f is) may
           (operand_alive (live (op.SetField n v i x ∷ ops) e) x (λ w u. or_first (among w (v ∷ variables_of x)) (not (sets None w) && live ops e w) (or_some (v == w) (among w (variables_of x)) u)) d.fits d.pointing d.counts) d
 
   set_item_any : (n v : ℕ) (y x : COperand) → Followed (op.SetItem n v y x)
@@ -140,30 +147,72 @@ module _ (p : LlProgram) (ok : IsWellTyped p) (leads : leads_to_roots p ≡ true
       alive = operand_alive (live (op.SetItem n v y x ∷ ops) e) x (λ w u. or_first (among w (v ∷ variables_of y ++ variables_of x)) (not (sets None w) && live ops e w) (or_some (v == w) (among w (variables_of y ++ variables_of x)) (in_second w (variables_of y) (variables_of x) u))) d.fits d.pointing d.counts
 
       by : Taken (items_of (slice_get p.structs n)) → (o : Option ℕ) → items_referred (plan_of p) n ≡ o → MayBeGiven p core o x → told.IsFollowed p args types own (op.SetItem n v y x) ops rest e ex frames b at core qcore g h
-      by taken None f may = set_plain_item_followed p based counting args types d.roots own ops rest e ex frames b core qcore g h at d.fits d.stands 0 d.room (structs_typed p ok) n v y x taken.t taken.is f in_block d.pointing d.counts
+      by taken None f may = set_plain_item_followed p based counting args types d.roots own ops rest e ex frames b core qcore g h at d.fits d.stands 0 d.room (structs_typed p ok) n v y x taken.t taken.is f c d.pointing d.counts
       by taken (Some m) f may =
-          set_reference_item_followed p based counting args types d.roots own ops rest e ex frames b core qcore g h at d.fits d.stands 0 d.room (structs_typed p ok) n v y x taken.t taken.is m f (put_item_stands p based n c m f) in_block may
+          set_reference_item_followed p based counting args types d.roots own ops rest e ex frames b core qcore g h at d.fits d.stands 0 d.room (structs_typed p ok) n v y x taken.t taken.is m f (put_item_stands p based n c m f) (λ s is. in_block m s f is) may
           (counting.items n m c f).to.1 (counting.items n m c f).to.0 alive d.pointing d.counts
 
-  -- an array whose items are no references
-  new_array_any : (a m n : ℕ) (x : COperand) → Followed (op.NewArray a m n x)
-  new_array_any a m n x typed (make, unread) d = by (word_of (operand core.vars x)) refl
-    where
-      plain : changed (around_of (plan_of p) types) (op.NewArray a m n x) (dead (around_of (plan_of p) types) (touched (op.NewArray a m n x)) ops e rest)
-          ≡ op.NewArray a m n x ∷ header (plan_of p) a n (dead (around_of (plan_of p) types) (touched (op.NewArray a m n x)) ops e rest)
-      plain = ap (λ o. op.NewArray a m n x ∷ header (plan_of p) a n (cleared_by (plan_of p) a n x o (dead (around_of (plan_of p) types) (touched (op.NewArray a m n x)) ops e rest))) make.no_items
+  is_nothing : {A : Type 0} (o : Option A) → is_none o ≡ true → o ≡ None
+  is_nothing None f = refl
+  is_nothing (Some x) f = absurd (cc)
 
-      by : (w : Option ℤ) → word_of (operand core.vars x) ≡ w
-          → Follows p args types (live ops e) own (At (changed (around_of (plan_of p) types) (op.NewArray a m n x) (dead (around_of (plan_of p) types) (touched (op.NewArray a m n x)) ops e rest)) ex frames (here qcore core.function b at core.vars h (memory g))) rest ex frames b
-          (st.on (st.new_items core (shapes_of p.structs) a n) w)
-      by None f = tt
-      by (Some (negsuc k)) f = tt
-      by (Some (pos k)) f =
-          made_followed p based counting args types d.roots own ops rest e ex frames b core qcore g h at d.fits d.stands (op.NewArray a m n x) a n k make.struct make.there make.counted refl make.to make.refers make.begins (unread make.to make.refers) make.inside make.no_items plain
-          (ap (λ w. goes_on (At (header (plan_of p) a n (dead (around_of (plan_of p) types) (touched (op.NewArray a m n x)) ops e rest)) ex frames) (st.on (st.new_items (here qcore core.function b at core.vars h (memory g)) (shapes_counted (plan_of p)) a n) w)) f
-          ∙ ap (λ j. Tells (Made j n ((shape_at (shapes_counted (plan_of p)) n).size + k))
-          (At (header (plan_of p) a n (dead (around_of (plan_of p) types) (touched (op.NewArray a m n x)) ops e rest)) ex frames (here qcore core.function b (at + 1) (slice_set core.vars a (Ptr j)) (h ++ Some (record { kind = n; fields = replicate (shape_at (shapes_counted (plan_of p)) n).size Unset; items = replicate k Unset }) ∷ []) (memory g))))
-          (d.stands.shown.size ∙ sym d.stands.near.size)) d.pointing d.counts
+  -- an array, whether its items are references or not
+  module _ (a m n : ℕ) (x : COperand) where
+    abbrev behind : List LlOp
+    behind = dead (around_of (plan_of p) types) (touched (op.NewArray a m n x)) ops e rest
+
+    abbrev tail_by : Option ℕ → List LlOp
+    tail_by o = cleared_by (plan_of p) a n x o behind
+
+    abbrev ArrayFollows : Option ℤ → Type 0
+    ArrayFollows w = Follows p args types (live ops e) own (At (changed (around_of (plan_of p) types) (op.NewArray a m n x) behind) ex frames (here qcore core.function b at core.vars h (memory g))) rest ex frames b (st.on (st.new_items core (shapes_of p.structs) a n) w)
+
+    word_is : (u : Value) (i : ℕ) → word_of u ≡ Some (pos i) → u ≡ Word (pos i)
+    word_is (Word z) i f = let g : z ≡ pos i = cc in ap Word g
+    word_is Unset i f = absurd (cc)
+    word_is (Byte z) i f = absurd (cc)
+    word_is (Flag z) i f = absurd (cc)
+    word_is (Fun z) i f = absurd (cc)
+    word_is Null i f = absurd (cc)
+    word_is (Ptr z) i f = absurd (cc)
+    word_is (Static z) i f = absurd (cc)
+
+    kept_operand : (x : COperand) (v : Value) → among a (variables_of x) ≡ false → operand (slice_set core.vars a v) x ≡ operand core.vars x
+    kept_operand (Var w) v ne = set_other core.vars a w v Unset (λ e. absurd (let z : among a (w ∷ []) ≡ true = subst (λ w. among a (w ∷ []) ≡ true) e (ap (λ b. b || false) (same_is a)) in let y : true ≡ false = sym z ∙ ne in cc))
+    kept_operand (Const k) v ne = refl
+
+    new_array_any : Followed (op.NewArray a m n x)
+    new_array_any typed (make, unread, fill) d = by (word_of (operand core.vars x)) refl
+      where
+        not_read : among a (reads (op.NewArray a m n x)) ≡ false
+        not_read = unread make.to make.refers
+
+        moves : (k : ℕ) (tail : List LlOp) → word_of (operand core.vars x) ≡ Some (pos k)
+            → step (counted p) args (At (op.NewArray a m n x ∷ header (plan_of p) a n tail) ex frames (here qcore core.function b at core.vars h (memory g)))
+            ≡ Tells (Made (length core.blocks) n ((shape_at (shapes_counted (plan_of p)) n).size + k))
+            (At (header (plan_of p) a n tail) ex frames (here qcore core.function b (at + 1) (slice_set core.vars a (Ptr (length core.blocks))) (h ++ Some (record { kind = n; fields = replicate (shape_at (shapes_counted (plan_of p)) n).size Unset; items = replicate k Unset }) ∷ []) (memory g)))
+        moves k tail f =
+            ap (λ w. goes_on (At (header (plan_of p) a n tail) ex frames) (st.on (st.new_items (here qcore core.function b at core.vars h (memory g)) (shapes_counted (plan_of p)) a n) w)) f
+            ∙ ap (λ j. Tells (Made j n ((shape_at (shapes_counted (plan_of p)) n).size + k))
+            (At (header (plan_of p) a n tail) ex frames (here qcore core.function b (at + 1) (slice_set core.vars a (Ptr j)) (h ++ Some (record { kind = n; fields = replicate (shape_at (shapes_counted (plan_of p)) n).size Unset; items = replicate k Unset }) ∷ []) (memory g))))
+            (d.stands.shown.size ∙ sym d.stands.near.size)
+
+        one : (k : ℕ) → word_of (operand core.vars x) ≡ Some (pos k) → (o : Option ℕ) → items_referred (plan_of p) n ≡ o → ArrayFollows (Some (pos k))
+        one k f None none =
+            made_followed p based counting args types d.roots own ops rest e ex frames b core qcore g h at d.fits d.stands (op.NewArray a m n x) a n k make.struct make.there make.counted refl make.to make.refers make.begins not_read make.inside behind _ _
+            (no_rest p based counting args types d.roots own ops rest e ex frames b core qcore g h at d.fits d.stands (op.NewArray a m n x) a n k make.struct make.there make.counted refl make.to make.refers make.begins not_read make.inside none)
+            (ap (λ o. op.NewArray a m n x ∷ header (plan_of p) a n (tail_by o)) none) (moves k behind f) d.pointing d.counts
+        one k f (Some t) some =
+            let x_is : operand core.vars x ≡ Word (pos k) = word_is (operand core.vars x) k f in
+            made_followed p based counting args types d.roots own ops rest e ex frames b core qcore g h at d.fits d.stands (op.NewArray a m n x) a n k make.struct make.there make.counted refl make.to make.refers make.begins not_read make.inside (tail_by (Some t)) _ _
+            (array_rest p based counting args types d.roots own ops rest e ex frames b core qcore g h at d.fits d.stands (op.NewArray a m n x) a n k make.struct make.there make.counted refl make.to make.refers make.begins not_read make.inside x t some
+            (sym (ap (λ l. slice_get l 0) (ap fields_given make.there)) ∙ fill.number t some) (kept_operand x (Ptr (length core.blocks)) not_read ∙ x_is) (fill.short t k some x_is))
+            (ap (λ o. op.NewArray a m n x ∷ header (plan_of p) a n (tail_by o)) some) (moves k (tail_by (Some t)) f) d.pointing d.counts
+
+        by : (w : Option ℤ) → word_of (operand core.vars x) ≡ w → ArrayFollows w
+        by None f = tt
+        by (Some (negsuc k)) f = tt
+        by (Some (pos k)) f = one k f (items_referred (plan_of p) n) refl
 
   pub operation_followed : (o : LlOp) → Followed o
   operation_followed (op.Set a x) typed (unread, may) d = set_one p ok leads args types own ops rest e ex frames b at core qcore g h a x typed unread may d
@@ -175,7 +224,7 @@ module _ (p : LlProgram) (ok : IsWellTyped p) (leads : leads_to_roots p ≡ true
       get_item_one p ok leads args types own ops rest e ex frames b at core qcore g h a n v x t.t t.is t.typed unread apart may d
   operation_followed (op.SetField n v i x) typed ready d = set_field_any n v i x typed ready d
   operation_followed (op.SetItem n v y x) typed ready d = set_item_any n v y x typed ready d
-  operation_followed (op.New a m n) typed make d = new_one p ok leads args types own ops rest e ex frames b at core qcore g h a m n make.to make.struct make.there make.counted make.refers make.begins make.inside make.no_items d
+  operation_followed (op.New a m n) typed make d = new_one p ok leads args types own ops rest e ex frames b at core qcore g h a m n make.to make.struct make.there make.counted make.refers make.begins make.inside (ap (reference_given (plan_of p).counted) (is_nothing (items_of (slice_get p.structs n)) (and_right (has_type (type.Ptr m) (slice_get types a) && begins p.structs n m) _ typed))) d
   operation_followed (op.NewArray a m n x) typed ready d = new_array_any a m n x typed ready d
   operation_followed (op.ExcType a n) typed take d = exc_type_one p ok leads args types own ops rest e ex frames b at core qcore g h a n take.inside take.may take.held d
   operation_followed (op.ExcValue a n) typed take d = exc_value_one p ok leads args types own ops rest e ex frames b at core qcore g h a n take.inside take.may take.held d

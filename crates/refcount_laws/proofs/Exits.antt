@@ -54,18 +54,21 @@ or_none true = refl
 or_none false = refl
 
 -- where the next step is the same, so is what it leads to
-same_step : (q : LlProgram) (args : List (List ℕ)) (s t u : State) → step q args s ≡ step q args t → (l : Leads q args t u) → 0 < l.count → Leads q args s u
+same_step : (q : LlProgram) (args : List (List ℕ)) (s t u : State) → step q args s ≡ step q args t → (l : Leads q args t u) → 0 < l.count → (l : Leads q args s u) × (0 < l.count)
 same_step q args s t u e l lt = by l.count refl
   where
-    by : (n : ℕ) → l.count ≡ n → Leads q args s u
+    by : (n : ℕ) → l.count ≡ n → (l : Leads q args s u) × (0 < l.count)
     by zero f = absurd (omega (arith, lt, f))
-    by (suc n) f = record {
-      count = suc n;
-      gone = l.gone;
-      by = λ k text events.
-          (let z : k + suc n ≡ suc (k + n) = omega arith in ap (λ j. run q args j s text events) z) ∙ one_more q args (k + n) s text events ∙ ap (follow (run q args (k + n)) text events) e ∙ sym (one_more q args (k + n) t text events)
-          ∙ (let z : suc (k + n) ≡ k + l.count = omega (arith, f) in ap (λ j. run q args j t text events) z) ∙ l.by k text events;
-    }
+    by (suc n) f = (
+      record {
+        count = suc n;
+        gone = l.gone;
+        by = λ k text events.
+            (let z : k + suc n ≡ suc (k + n) = omega arith in ap (λ j. run q args j s text events) z) ∙ one_more q args (k + n) s text events ∙ ap (follow (run q args (k + n)) text events) e ∙ sym (one_more q args (k + n) t text events)
+            ∙ (let z : suc (k + n) ≡ k + l.count = omega (arith, f) in ap (λ j. run q args j t text events) z) ∙ l.by k text events;
+      },
+      omega arith,
+    )
 
 -- what a way does not give on is dropped as what is not live there
 left_is_dead : (around : Around) (way : LlLink) (vs : List ℕ) (rest : List LlOp) → left around way.args vs rest ≡ dead around vs [] (exit.Goto way) rest
@@ -99,9 +102,11 @@ module _ (p : LlProgram) (based : Based p.structs) (counting : Counting (counted
       record { qcore = m.comes.qcore; g = m.comes.g; h = m.comes.h; at = m.comes.at; stands = m.comes.stands; counts = m.comes.counts; leads = leads_on q args l m.comes.leads } in
       record { comes = comes; moves = omega (arith, on_count q args l m.comes.leads, m.moves) }
 
-  likewise : (uses : ℕ → Bool) (s t : State) (rest : List LlOp) (ex : LlExit) (block : ℕ) (later : Core) → step q args s ≡ step q args t → ArrivesFrom uses t rest ex block later → Comes p args types uses own s rest ex frames block later
+  likewise : (uses : ℕ → Bool) (s t : State) (rest : List LlOp) (ex : LlExit) (block : ℕ) (later : Core) → step q args s ≡ step q args t → ArrivesFrom uses t rest ex block later → ArrivesFrom uses s rest ex block later
   likewise uses s t rest ex block later e m =
-      record { qcore = m.comes.qcore; g = m.comes.g; h = m.comes.h; at = m.comes.at; stands = m.comes.stands; counts = m.comes.counts; leads = same_step q args s t (At rest ex frames (here m.comes.qcore later.function block m.comes.at later.vars m.comes.h (memory m.comes.g))) e m.comes.leads m.moves }
+      let w : (l : Leads q args s (At rest ex frames (here m.comes.qcore later.function block m.comes.at later.vars m.comes.h (memory m.comes.g)))) × (0 < l.count) =
+      same_step q args s t (At rest ex frames (here m.comes.qcore later.function block m.comes.at later.vars m.comes.h (memory m.comes.g))) e m.comes.leads m.moves in
+      record { comes = record { qcore = m.comes.qcore; g = m.comes.g; h = m.comes.h; at = m.comes.at; stands = m.comes.stands; counts = m.comes.counts; leads = w.0 }; moves = w.1 }
 
   stands_on : (g g' : Ghost) (h h' : List (Option Block)) → ((b : ℕ) → bare_at g'.blocks b ≡ bare_at g.blocks b) → ((s : ℕ) → as_first (fixed_at g'.statics s) ≡ as_first (fixed_at g.statics s)) → length g'.blocks ≡ length g.blocks → length g'.statics ≡ length g.statics
       → Shown c h' g'.blocks → Stands p core qcore g h → Stands p core qcore g' h'
@@ -199,10 +204,12 @@ module _ (p : LlProgram) (based : Based p.structs) (counting : Counting (counted
         → ((o : LlOp) (rest : List LlOp) → ops ≡ o ∷ rest → block_in (slice_get q.graphs core.function) number ≡ Some (block_with [] ops (exit.Goto link)))
         → step q args from ≡ jump q frames (here qcore core.function b at core.vars h (memory g)) (way_link link number ops)
         → ((b at : ℕ) → Reached (stand (way_ops around link other) (exit.Goto link) b at h (memory g)))
-        → Comes p args types (live block.ops block.exit) own from (ops_of around block.ops block.exit) (exit_of around next block.exit) frames link.to (record core { block = link.to; at = 0; vars = set_all core.vars block.inputs (operands core.vars link.args) })
+        → (x : Comes p args types (live block.ops block.exit) own from (ops_of around block.ops block.exit) (exit_of around next block.exit) frames link.to (record core { block = link.to; at = 0; vars = set_all core.vars block.inputs (operands core.vars link.args) })) × (0 < x.leads.count)
     way_comes other g h b at number from [] is placed stepped arrived =
+        let a : Reached from =
         likewise (live block.ops block.exit) from (stand [] (exit.Goto link) b at h (memory g)) (ops_of around block.ops block.exit) (exit_of around next block.exit) link.to
-        (record core { block = link.to; at = 0; vars = set_all core.vars block.inputs (operands core.vars link.args) }) stepped (subst (λ l. Reached (stand l (exit.Goto link) b at h (memory g))) is (arrived b at))
+        (record core { block = link.to; at = 0; vars = set_all core.vars block.inputs (operands core.vars link.args) }) stepped (subst (λ l. Reached (stand l (exit.Goto link) b at h (memory g))) is (arrived b at)) in
+        (a.comes, a.moves)
     way_comes other g h b at number from (o ∷ ops) is placed stepped arrived =
         let entered : State = stand (o ∷ ops) (exit.Goto link) number 0 h (memory g) in
         let a : Reached from =
@@ -210,7 +217,7 @@ module _ (p : LlProgram) (based : Based p.structs) (counting : Counting (counted
         (record core { block = link.to; at = 0; vars = set_all core.vars block.inputs (operands core.vars link.args) })
         (goes q args from entered (stepped ∙ ap (begins frames (here qcore core.function b at core.vars h (memory g)) number []) (placed o ops refl)))
         (subst (λ l. Reached (stand l (exit.Goto link) number 0 h (memory g))) is (arrived number 0)) in
-        a.comes
+        (a.comes, a.moves)
 
   -- ---- a return
 

@@ -60,6 +60,12 @@ use Rattle.refcount_laws.proofs.Given.{room_for}
 use Rattle.refcount_laws.proofs.Writing.{kinds_then, written_counted, written_shown}
 use Rattle.refcount_laws.proofs.Storing.{put_item_done, store_step}
 use Rattle.refcount_laws.proofs.Getting.{reached_begins}
+use Rattle.refcount_laws.specs.Ghost.{Fixed, Alone, F, fixed_at, shown_fixed}
+use Rattle.refcount_laws.specs.Matches.{NearStatic}
+use Rattle.refcount_laws.proofs.Members.{counted_alike}
+use Rattle.refcount_laws.proofs.Leading.{static_there}
+use Rattle.refcount_laws.proofs.FixedWrites.{fixed_counted, fixed_memory, fixed_near, fixed_pointing}
+use Rattle.ll_code.specs.State.{Goes}
 use Rattle.refcount_laws.proofs.Setting.{near_cell, near_written, pointing_after}
 use Rattle.refcount_transform.specs.Plan.{items_referred}
 
@@ -206,11 +212,55 @@ module _ (p : LlProgram) (based : Based p.structs) (counting : Counting (counted
             exc_value = stands.exc_value;
           }) points_after put_.counted)
 
+    -- items of a static, which are no references
+    plain_static : is_counted plan n ≡ true → (s i : ℕ) (block : Block) → read core.vars v ≡ Static s → reached core (shapes_of p.structs) n (Static s) ≡ Ok block → i < length block.items → operand core.vars y ≡ Word (pos i) → is_unset (operand core.vars x) ≡ false
+        → Pointing p types core.blocks core.statics (live (op.SetItem n v y x ∷ ops) e) core.vars → IsCounted q c g (λ r. owned around (live (op.SetItem n v y x ∷ ops) e) core.vars r + own r)
+        → Comes p args types (live ops e) own (q_here (op.SetItem n v y x ∷ behind)) rest ex frames b (record core { at = core.at + 1; statics = slice_set core.statics s (record block { items = slice_set block.items i (operand core.vars x) }) })
+    plain_static cn s i block is_s found within index set pointing counts = by (fixed_at g.statics s) refl (stands.near.each_static s block is)
+      where
+        value : Value
+        value = operand core.vars x
+
+        block2 : Block
+        block2 = record block { items = slice_set block.items i value }
+
+        core2 : Core
+        core2 = record core { at = core.at + 1; statics = slice_set core.statics s block2 }
+
+        is : slice_get core.statics s ≡ Some block
+        is = reached_there core (shapes_of p.structs) n (Static s) block found
+
+        of : begins_with (shapes_counted plan) block.kind n ≡ true
+        of = sym (begins_same p based block.kind n) ∙ reached_begins p core n (Static s) block found
+
+        by : (d : Fixed) → fixed_at g.statics s ≡ d → NearStatic plan block d → Comes p args types (live ops e) own (q_here (op.SetItem n v y x ∷ behind)) rest ex frames b core2
+        by (Alone other) at_s near = absurd (let z : true ≡ false = sym (counted_alike p based block.kind n of ∙ cn) ∙ near.1 in cc)
+        by (F m kind fields items) at_s near =
+            let items2 : List Value = slice_set items i value in
+            let near2 : NearBlock block2 (record { kind = kind; fields = fields; items = items2 }) = record { kind = near.0.kind; fields = near.0.fields; items = near_cell block.items items i value near.0.items } in
+            let g2 : Ghost = record g { statics = slice_set g.statics s (F m kind fields items2) } in
+            let end : State = At behind ex frames (here qcore core.function b (at + 1) core.vars h (memory g2)) in
+            let of_kind : begins_with (shapes_counted plan) kind n ≡ true = ap (λ k. begins_with (shapes_counted plan) k n) (sym near.0.kind) ∙ of in
+            comes_before p based counting args types roots own (op.SetItem n v y x) ops rest e ex frames b (live ops e) (q_here (op.SetItem n v y x ∷ behind)) end core2
+            (store_step q args qcore core.function b ex frames n v at i y x behind core.vars h (memory g) (Static s) value (shown_fixed (F m kind fields items)) end is_s refl index (omega (arith, within, near.0.items.size)) refl set (static_there g.statics s m kind fields items at_s) of_kind
+            (ap (λ l. Goes (At behind ex frames (here qcore core.function b (at + 1) core.vars h l))) (fixed_memory q c g s m kind fields items fields items2 at_s)))
+            (effect_end p based counting args types roots own (op.SetItem n v y x) ops rest e ex frames b core2 qcore g2 h (at + 1) refl fits
+            (record {
+              near = fixed_near p core.blocks core.statics g s m kind fields items fields items2 at_s block block2 is refl stands.near near2 near.1;
+              shown = stands.shown;
+              steps = stands.steps;
+              exc_type = stands.exc_type;
+              exc_value = stands.exc_value;
+            })
+            (fixed_pointing p core.blocks core.statics g s m kind fields items fields items2 at_s block block2 is refl types (live (op.SetItem n v y x ∷ ops) e) core.vars pointing)
+            (fixed_counted q c g s m kind fields items fields items2 at_s (λ r. owned around (live (op.SetItem n v y x ∷ ops) e) core.vars r + own r) counts))
+
     -- the whole operation: what is done where the items are no references, or where they are
     module _ (rest_of : List LlOp) (plain : changed around (op.SetItem n v y x) behind ≡ rest_of)
         (one : (a i : ℕ) (block : Block) → read core.vars v ≡ Ptr a → reached core (shapes_of p.structs) n (Ptr a) ≡ Ok block → i < length block.items → operand core.vars y ≡ Word (pos i) → is_unset (operand core.vars x) ≡ false
         → Comes p args types (live ops e) own (q_here rest_of) rest ex frames b (core_after a block i))
-        (in_block : (s : ℕ) → read core.vars v ≡ Static s → ⊥) where
+        (fixed : (s i : ℕ) (block : Block) → read core.vars v ≡ Static s → reached core (shapes_of p.structs) n (Static s) ≡ Ok block → i < length block.items → operand core.vars y ≡ Word (pos i) → is_unset (operand core.vars x) ≡ false
+        → Comes p args types (live ops e) own (q_here rest_of) rest ex frames b (record core { at = core.at + 1; statics = slice_set core.statics s (record block { items = slice_set block.items i (operand core.vars x) }) })) where
       abbrev FollowsItem : After → Type 0
       FollowsItem after = Follows p args types (live ops e) own (q_here rest_of) rest ex frames b after
 
@@ -232,7 +282,7 @@ module _ (p : LlProgram) (based : Based p.structs) (counting : Counting (counted
       at_pointer (Flag z) at_it i block found lt index set = tt
       at_pointer (Fun z) at_it i block found lt index set = tt
       at_pointer Null at_it i block found lt index set = tt
-      at_pointer (Static s) at_it i block found lt index set = absurd (in_block s at_it)
+      at_pointer (Static s) at_it i block found lt index set = fixed s i block at_it found lt index set
       at_pointer (Ptr a) at_it i block found lt index set = one a i block at_it found lt index set
 
       at_place : (i : ℕ) (block : Block) → reached core (shapes_of p.structs) n (read core.vars v) ≡ Ok block → operand core.vars y ≡ Word (pos i) → is_unset (operand core.vars x) ≡ false → (z : Bool) → nat_lt i (length block.items) ≡ z
@@ -256,11 +306,12 @@ module _ (p : LlProgram) (based : Based p.structs) (counting : Counting (counted
       item_set : Follows p args types (live ops e) own (q_here (changed around (op.SetItem n v y x) behind)) rest ex frames b (does p args core (op.SetItem n v y x))
       item_set = subst (λ l. Follows p args types (live ops e) own (q_here l) rest ex frames b (does p args core (op.SetItem n v y x))) (sym plain) (all_of (is_unset (operand core.vars x)) refl)
 
-    pub set_plain_item_followed : items_referred plan n ≡ None → ((s : ℕ) → read core.vars v ≡ Static s → ⊥) → Pointing p types core.blocks core.statics (live (op.SetItem n v y x ∷ ops) e) core.vars
+    pub set_plain_item_followed : items_referred plan n ≡ None → is_counted plan n ≡ true → Pointing p types core.blocks core.statics (live (op.SetItem n v y x ∷ ops) e) core.vars
         → IsCounted q c g (λ r. owned around (live (op.SetItem n v y x ∷ ops) e) core.vars r + own r)
         → Follows p args types (live ops e) own (q_here (changed around (op.SetItem n v y x) behind)) rest ex frames b (does p args core (op.SetItem n v y x))
-    set_plain_item_followed none in_block pointing counts =
-        item_set (op.SetItem n v y x ∷ behind) (ap (λ r. set_item_by plan n v y x r ∷ behind) none) (λ a i block is found lt index set. plain_item a i block is found lt index pointing counts none set) in_block
+    set_plain_item_followed none cn pointing counts =
+        item_set (op.SetItem n v y x ∷ behind) (ap (λ r. set_item_by plan n v y x r ∷ behind) none) (λ a i block is found lt index set. plain_item a i block is found lt index pointing counts none set)
+        (λ s i block is found lt index set. plain_static cn s i block is found lt index set pointing counts)
 
     pub set_reference_item_followed : (m : ℕ) → items_referred plan n ≡ Some m → StandsWith q (counts_at plan n).items (0 ∷ 1 ∷ 2 ∷ []) (put_item_types c n m) (put_item_block c n m ∷ []) → ((s : ℕ) → read core.vars v ≡ Static s → ⊥)
         → PointsTo p core.blocks core.statics m (operand core.vars x) → root_of plan m ≡ m → is_counted plan m ≡ true → ((z : ℕ) → operand core.vars x ≡ Ptr z → 0 < count g.blocks z)
@@ -268,4 +319,4 @@ module _ (p : LlProgram) (based : Based p.structs) (counting : Counting (counted
         → Follows p args types (live ops e) own (q_here (changed around (op.SetItem n v y x) behind)) rest ex frames b (does p args core (op.SetItem n v y x))
     set_reference_item_followed m refers stand in_block points root_m counted_m alive_x pointing counts =
         item_set (op.Call None (counts_at plan n).items (Var v ∷ y ∷ x ∷ []) ∷ behind) (ap (λ r. set_item_by plan n v y x r ∷ behind) refers)
-        (λ a i block is found lt index set. reference_item a i block is found lt index pointing counts m (counts_at plan n).items refers stand points root_m counted_m alive_x) in_block
+        (λ a i block is found lt index set. reference_item a i block is found lt index pointing counts m (counts_at plan n).items refers stand points root_m counted_m alive_x) (λ s i block is found lt index set. absurd (in_block s is))

@@ -4,7 +4,7 @@ use Rattle.std.specs.Prelude.{cond}
 use Rattle.csub_tree.specs.State.{Value, Unset, Word, Byte, Flag, Fun, Null, Ptr, Static, Block, Core}
 use Rattle.csub_tree.specs.Statement.{read}
 use Rattle.ll_code.specs.declared.program.LlProgram.{LlProgram}
-use Rattle.ll_held.specs.Held.{times, is_block, cells, Refers, Reaches}
+use Rattle.ll_held.specs.Held.{is_reference, times, is_block, cells, Refers, Reaches}
 use Rattle.refcount_transform.specs.Plan.{plan_of}
 use Rattle.refcount_laws.specs.Graphs.{Counts, Reference}
 use Rattle.refcount_laws.specs.Made.{counts_of}
@@ -92,7 +92,7 @@ times_right b (x ∷ xs) ys h = by (is_block b x) (times_right b xs ys h)
 
 near_pointer : (x y : Value) (b : ℕ) → Near x y → y ≡ Ptr b → x ≡ Ptr b
 near_pointer x y b (inl e) f = e ∙ f
-near_pointer x y b (inr (e, n)) f = absurd (let z : Null ≡ Ptr b = sym n ∙ f in cc)
+near_pointer x y b (inr (e, n)) f = absurd (let z : true ≡ false = sym (ap is_reference f) ∙ n in cc)
 
 inside : (g : List Slot) (a : ℕ) → 0 < count g a → a < length g
 inside [] a h = absurd (past a h)

@@ -13,6 +13,8 @@ pub mod Dropping
 pub mod Rising
 pub mod Doing
 pub mod Writing
+pub mod FixedWrites
+pub mod Longer
 pub mod Storing
 pub mod Numbers
 pub mod Standing

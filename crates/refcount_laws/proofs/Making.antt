@@ -75,6 +75,17 @@ use Rattle.refcount_laws.proofs.Ghosts.{one_other}
 use Rattle.refcount_laws.proofs.Numbers.{length_two}
 use Rattle.refcount_laws.proofs.Spread.{High, held_high}
 use Rattle.refcount_laws.proofs.Alike.{size_fuel}
+use Rattle.ll_held.specs.Held.{is_reference}
+use Rattle.ll_code.specs.declared.program.LlType.TheVariants as type
+use Rattle.csub_tree.specs.declared.tree.COperand.TheVariants.{Var}
+use Rattle.refcount_transform.specs.Plan.{items_referred, counts_at}
+use Rattle.refcount_laws.specs.Graphs.{AreItems}
+use Rattle.refcount_laws.specs.Ghost.{Apart}
+use Rattle.refcount_laws.proofs.Cells.{both_again}
+use Rattle.refcount_laws.proofs.Writing.{apart_same}
+use Rattle.refcount_laws.proofs.Spread.{begin, own_at, field_apart, inside_n}
+use Rattle.refcount_laws.proofs.Putting.{clear_stands}
+use Rattle.refcount_laws.proofs.Clearing.{filled, clear_run}
 
 -- these fields are NULL
 abbrev pub nulled : List Reference → List Value → List Value
@@ -122,7 +133,7 @@ nulled_near (r ∷ held) n fields near k = nulled_near held n (slice_set fields 
 
     at_it : (read (slice_set fields r.at Null) r.at ≡ read fields r.at) ⊎ (read (slice_set fields r.at Null) r.at ≡ Null) → Near (read (replicate n Unset) r.at) (read (slice_set fields r.at Null) r.at)
     at_it (inl e) = subst (λ y. Near (read (replicate n Unset) r.at) y) (sym e) (near r.at)
-    at_it (inr e) = inr (unset_at n r.at, e)
+    at_it (inr e) = inr (unset_at n r.at, ap is_reference e)
 
     one : (j : ℕ) → (r.at ≡ j) ⊎ (r.at ≢ j) → Near (read (replicate n Unset) j) (read (slice_set fields r.at Null) j)
     one j (inl e) = subst (λ j. Near (read (replicate n Unset) j) (read (slice_set fields r.at Null) j)) e (at_it (same_or fields r.at))
@@ -334,6 +345,35 @@ points_grown p blocks statics block m Null h = tt
 points_grown p blocks statics block m (Static s) h = h
 points_grown p blocks statics block m (Ptr a) (other, is, of) = (other, old_at blocks (Some block) None a (λ q. absurd (let lt : a < length blocks = there_inside blocks a other is in omega (arith, lt, q))) ∙ is, of)
 
+-- ---- items that are NULL
+
+set_middle : (pre rest : List Value) (x y : Value) → slice_set (pre ++ x ∷ rest) (length pre) y ≡ pre ++ y ∷ rest
+set_middle [] rest x y = refl
+set_middle (z ∷ pre) rest x y = ap (λ l. z ∷ l) (set_middle pre rest x y)
+
+filled_all : (n : ℕ) (pre : List Value) (i : ℕ) → i ≡ length pre → filled n i (pre ++ replicate n Unset) ≡ pre ++ replicate n Null
+filled_all zero pre i e = refl
+filled_all (suc n) pre i e =
+    ap (filled n (suc i)) (ap (λ k. slice_set (pre ++ Unset ∷ replicate n Unset) k Null) e ∙ set_middle pre (replicate n Unset) Unset Null ∙ sym (both_again pre (Null ∷ []) (replicate n Unset)))
+    ∙ filled_all n (pre ++ Null ∷ []) (suc i) (omega (arith, e, length_two pre (Null ∷ []))) ∙ both_again pre (Null ∷ []) (replicate n Null)
+
+length_null : (n : ℕ) → length (replicate n Null) ≡ n
+length_null zero = refl
+length_null (suc n) = ap suc (length_null n)
+
+null_near : (n k : ℕ) → Near (read (replicate n Unset) k) (read (replicate n Null) k)
+null_near zero k = inl refl
+null_near (suc n) zero = inr (refl, refl)
+null_near (suc n) (suc k) = null_near n k
+
+none_null : (n : ℕ) (r : Value) → occurs r (replicate n Null) ≡ 0
+none_null zero r = refl
+none_null (suc n) r = omega (arith, no_null r, none_null n r)
+
+nulls_all : (q : LlProgram) (g : Ghost) (to n : ℕ) → AllLead q g to (replicate n Null)
+nulls_all q g to zero = tt
+nulls_all q g to (suc n) = (tt, nulls_all q g to n)
+
 -- ---- a block is made
 
 module _ (p : LlProgram) (based : Based p.structs) (counting : Counting (counted p) (counts_of (plan_of p))) (args : List (List ℕ)) (types : List LlType) (roots : AllRoots p types) (own : Value → ℕ) (ops rest : List LlOp) (e : LlExit) (ex : LlExit)
@@ -348,9 +388,12 @@ module _ (p : LlProgram) (based : Based p.structs) (counting : Counting (counted
   around = around_of the_plan types
 
   module _ (o : LlOp) (a n count : ℕ) (s : LlStruct) (is_s : slice_get p.structs n ≡ Some s) (cn : is_counted the_plan n ≡ true) (sets_it : set_by o ≡ Some a) (m : ℕ) (refers : var_referred around a ≡ Some m) (begins_m : begins_with (shapes_of p.structs) n m ≡ true)
-      (unread : among a (reads o) ≡ false) (inside : a < length core.vars) (no_items : reference_given the_plan.counted (items_of (slice_get p.structs n)) ≡ None) where
+      (unread : among a (reads o) ≡ false) (inside : a < length core.vars) where
     abbrev behind : List LlOp
     behind = dead around (touched o) ops e rest
+
+    abbrev the_c : Counts
+    the_c = counts_of the_plan
 
     abbrev plain_size : ℕ
     plain_size = (shape_at (shapes_of p.structs) n).size
@@ -358,11 +401,15 @@ module _ (p : LlProgram) (based : Based p.structs) (counting : Counting (counted
     abbrev wide_size : ℕ
     wide_size = (shape_at (shapes_counted the_plan) n).size
 
-    abbrev made_block : Block
-    made_block = record { kind = n; fields = replicate plain_size Unset; items = replicate count Unset }
+    abbrev unset_items : List Value
+    unset_items = replicate count Unset
 
-    abbrev new_slot : Slot
-    new_slot = S 1 n (nulled ((counts_of the_plan).held n) (replicate plain_size Unset)) (replicate count Unset)
+    abbrev made_block : Block
+    made_block = record { kind = n; fields = replicate plain_size Unset; items = unset_items }
+
+    -- the fields behind the header
+    abbrev plain_fields : List Value
+    plain_fields = nulled (the_c.held n) (replicate plain_size Unset)
 
     abbrev core1 : Core
     core1 = record core { blocks = core.blocks ++ Some made_block ∷ [] }
@@ -374,10 +421,14 @@ module _ (p : LlProgram) (based : Based p.structs) (counting : Counting (counted
     vars2 = slice_set core.vars a (Ptr number)
 
     abbrev first_block : Option Block
-    first_block = Some (record { kind = n; fields = replicate wide_size Unset; items = replicate count Unset })
+    first_block = Some (record { kind = n; fields = replicate wide_size Unset; items = unset_items })
 
-    abbrev made_state : State
-    made_state = At (header the_plan a n behind) ex frames (here qcore core.function b (at + 1) vars2 (h ++ first_block ∷ []) (memory g))
+    -- memory in which the new block has these fields and items
+    abbrev memory_with : List Value → List Value → List (Option Block)
+    memory_with fields items = slice_set (h ++ first_block ∷ []) number (shown the_c (S 1 n fields items))
+
+    abbrev at_ops : ℕ → List LlOp → List (Option Block) → State
+    at_ops j l blocks = At l ex frames (here qcore core.function b j vars2 blocks (memory g))
 
     wide : wide_size ≡ suc (suc plain_size)
     wide = size_fuel p based (suc n) n s (omega arith) is_s cn
@@ -391,79 +442,181 @@ module _ (p : LlProgram) (based : Based p.structs) (counting : Counting (counted
     of_n : begins_with (shapes_counted the_plan) n n ≡ true
     of_n = begins_itself (structs_of the_plan) (counted_based p based) n (struct_by (has_count the_plan n) s) (struct_there p based n s is_s)
 
-    d : Written p based counting args qcore core.function b ex frames vars2 (memory g) a n number (set_here core.vars a (Ptr number) Unset inside) cn of_n (replicate count Unset)
-        (At (header the_plan a n behind) ex frames (here qcore core.function b (at + 1) vars2 (slice_set (h ++ first_block ∷ []) number (Some (record { kind = n; fields = Unset ∷ Unset ∷ replicate plain_size Unset; items = replicate count Unset }))) (memory g)))
-        behind (h ++ first_block ∷ []) (Word (pos 1) ∷ Fun ((counts_of the_plan).release n) ∷ nulled ((counts_of the_plan).held n) (replicate plain_size Unset))
-    d = header_run p based counting args qcore core.function b ex frames vars2 (memory g) a n number (set_here core.vars a (Ptr number) Unset inside) cn of_n (replicate count Unset) (at + 1) behind (h ++ first_block ∷ []) Unset Unset (replicate plain_size Unset) longer
+    is_new : read vars2 a ≡ Ptr number
+    is_new = set_here core.vars a (Ptr number) Unset inside
 
-    -- the memory is what the writes begin with, and what they come to
-    begins_as : slice_set (h ++ first_block ∷ []) number (Some (record { kind = n; fields = Unset ∷ Unset ∷ replicate plain_size Unset; items = replicate count Unset })) ≡ h ++ first_block ∷ []
-    begins_as =
-        ap (λ k. slice_set (h ++ first_block ∷ []) k (Some (record { kind = n; fields = Unset ∷ Unset ∷ replicate plain_size Unset; items = replicate count Unset }))) (sym size_h)
-        ∙ set_last h first_block (Some (record { kind = n; fields = Unset ∷ Unset ∷ replicate plain_size Unset; items = replicate count Unset }))
-        ∙ ap (λ k. h ++ Some (record { kind = n; fields = replicate k Unset; items = replicate count Unset }) ∷ []) (sym wide)
-
-    ends_as : slice_set (h ++ first_block ∷ []) number (shown (counts_of the_plan) new_slot) ≡ h ++ shown (counts_of the_plan) new_slot ∷ []
-    ends_as = ap (λ k. slice_set (h ++ first_block ∷ []) k (shown (counts_of the_plan) new_slot)) (sym size_h) ∙ set_last h first_block (shown (counts_of the_plan) new_slot)
-
-    written_down : Leads the_q args made_state (At behind ex frames (here qcore core.function b d.at vars2 (h ++ shown (counts_of the_plan) new_slot ∷ []) (memory g)))
-    written_down =
-        subst (λ l. Leads the_q args (At (header the_plan a n behind) ex frames (here qcore core.function b (at + 1) vars2 l (memory g))) (At behind ex frames (here qcore core.function b d.at vars2 (h ++ shown (counts_of the_plan) new_slot ∷ []) (memory g)))) begins_as
-        (subst (λ l. Leads the_q args (At (header the_plan a n behind) ex frames (here qcore core.function b (at + 1) vars2 (slice_set (h ++ first_block ∷ []) number (Some (record { kind = n; fields = Unset ∷ Unset ∷ replicate plain_size Unset; items = replicate count Unset }))) (memory g)))
-        (At behind ex frames (here qcore core.function b d.at vars2 l (memory g)))) ends_as d.leads)
-
-    highs : High plain_size ((counts_of the_plan).held n)
+    highs : High plain_size (the_c.held n)
     highs = held_high p based p.structs n cn
 
     long_enough : plain_size ≤ length (replicate plain_size Unset)
     long_enough = omega (arith, length_unset plain_size)
 
-    near_new : NearBlock made_block (bare new_slot)
-    near_new = record {
-      kind = refl;
-      fields = record {
-        size = sym (nulled_size ((counts_of the_plan).held n) (replicate plain_size Unset));
-        at = λ k. nulled_near ((counts_of the_plan).held n) plain_size (replicate plain_size Unset) (λ j. inl refl) k;
+    -- what stands behind the header, and what it makes of the new block
+    pub record Rest (tail : List LlOp) (fields items : List Value) : Type 0 where
+      pub run : (k : ℕ) → (j : ℕ) × Leads the_q args (at_ops k tail (memory_with plain_fields unset_items)) (at_ops j behind (memory_with fields items))
+      pub near : NearBlock made_block (record { kind = n; fields = fields; items = items })
+      pub nothing : (r : Value) → held_by the_c (S 1 n fields items) r ≡ 0
+      pub whole : IsWhole the_q the_c (grown g (S 1 n fields items)) (record { kind = n; fields = fields; items = items })
+
+    -- ---- items that are no references
+
+    pub no_rest : reference_given the_plan.counted (items_of (slice_get p.structs n)) ≡ None → Rest behind plain_fields unset_items
+    no_rest no_items = record {
+      run = λ k. (k, stays the_q args (at_ops k behind (memory_with plain_fields unset_items)));
+      near = record {
+        kind = refl;
+        fields = record {
+          size = sym (nulled_size (the_c.held n) (replicate plain_size Unset));
+          at = λ k. nulled_near (the_c.held n) plain_size (replicate plain_size Unset) (λ j. inl refl) k;
+        };
+        items = record { size = refl; at = λ k. inl refl };
       };
-      items = record { size = refl; at = λ k. inl refl };
+      nothing = λ r.
+          occurs_both r (field_references (the_c.held n) plain_fields) (item_references (the_c.items n) unset_items)
+          ∙ (let x : occurs r (field_references (the_c.held n) plain_fields) ≡ 0 = all_null (the_c.held n) (replicate plain_size Unset) plain_size highs long_enough r in
+          let y : occurs r (item_references (the_c.items n) unset_items) ≡ 0 = ap (λ o. occurs r (item_references o unset_items)) no_items in omega (arith, x, y));
+      whole = record {
+        counted = cn;
+        fields = nulls_lead the_q (grown g (S 1 n plain_fields unset_items)) (the_c.held n) (replicate plain_size Unset) plain_size highs long_enough;
+        items = subst (λ o. ItemsLead the_q the_c (grown g (S 1 n plain_fields unset_items)) o (record { kind = n; fields = plain_fields; items = unset_items })) (sym no_items) tt;
+      };
     }
 
-    nothing : (r : Value) → held_by (counts_of the_plan) new_slot r ≡ 0
-    nothing r =
-        occurs_both r (field_references ((counts_of the_plan).held n) (nulled ((counts_of the_plan).held n) (replicate plain_size Unset))) (item_references ((counts_of the_plan).items n) (replicate count Unset))
-        ∙ (let x : occurs r (field_references ((counts_of the_plan).held n) (nulled ((counts_of the_plan).held n) (replicate plain_size Unset))) ≡ 0 = all_null ((counts_of the_plan).held n) (replicate plain_size Unset) plain_size highs long_enough r in
-        let y : occurs r (item_references ((counts_of the_plan).items n) (replicate count Unset)) ≡ 0 = ap (λ o. occurs r (item_references o (replicate count Unset))) no_items in omega (arith, x, y))
+    -- ---- items that are: their number is set, and they are NULL
 
-    whole_new : IsWhole the_q (counts_of the_plan) (grown g new_slot) (bare new_slot)
-    whole_new = record {
-      counted = cn;
-      fields = nulls_lead the_q (grown g new_slot) ((counts_of the_plan).held n) (replicate plain_size Unset) plain_size highs long_enough;
-      items = subst (λ o. ItemsLead the_q (counts_of the_plan) (grown g new_slot) o (bare new_slot)) (sym no_items) tt;
-    }
+    module _ (x : COperand) (t : ℕ) (are_items : items_referred the_plan n ≡ Some t) (first : slice_get s.fields 0 ≡ Some type.Signed) (x_is : operand vars2 x ≡ Word (pos count)) (short : count < 2 ^ 63) where
+      abbrev number_at : ℕ
+      number_at = the_c.number_at n
 
-    pub made_followed : changed around o behind ≡ o ∷ header the_plan a n behind
-        → step the_q args (At (o ∷ header the_plan a n behind) ex frames (here qcore core.function b at core.vars h (memory g))) ≡ Tells (Made number n (wide_size + count)) made_state
-        → Pointing p types core.blocks core.statics (live (o ∷ ops) e) core.vars → IsCounted the_q (counts_of the_plan) g (λ r. owned around (live (o ∷ ops) e) core.vars r + own r)
-        → Follows p args types (live ops e) own (At (changed around o behind) ex frames (here qcore core.function b at core.vars h (memory g))) rest ex frames b (Told (Made number n (plain_size + count)) (record core1 { at = core.at + 1; vars = vars2 }))
-    made_followed plain moves pointing counts =
-        subst (λ l. Follows p args types (live ops e) own (At l ex frames (here qcore core.function b at core.vars h (memory g))) rest ex frames b (Told (Made number n (plain_size + count)) (record core1 { at = core.at + 1; vars = vars2 }))) (sym plain) (
-          At (o ∷ header the_plan a n behind) ex frames (here qcore core.function b at core.vars h (memory g)),
-          made_state,
-          stays the_q args (At (o ∷ header the_plan a n behind) ex frames (here qcore core.function b at core.vars h (memory g))),
-          moves ∙ ap (λ k. Tells (Made number n k) made_state) (let z : wide_size + count ≡ plain_size + count + 2 = omega (arith, wide) in z),
-          comes_before p based counting args types roots own o ops rest e ex frames b (live ops e) made_state (At behind ex frames (here qcore core.function b d.at vars2 (h ++ shown (counts_of the_plan) new_slot ∷ []) (memory g)))
-              (record core1 { at = core.at + 1; vars = vars2 }) written_down
-              (value_end p based counting args types roots own o ops rest e ex frames b a sets_it core1 qcore (grown g new_slot) (h ++ shown (counts_of the_plan) new_slot ∷ []) d.at (Ptr number) inside fits (λ n r. unread)
-              (record {
-                near = near_grown p core.blocks core.statics g new_slot made_block stands.near near_new;
-                shown = grown_shown the_q (counts_of the_plan) g new_slot (λ r. owned around (live (o ∷ ops) e) core.vars r + own r) counts h stands.shown;
-                steps = stands.steps;
-                exc_type = stands.exc_type;
-                exc_value = stands.exc_value;
-              })
-              (record { at = λ v k u r. points_grown p core.blocks core.statics made_block k (read core.vars v) (pointing.at v k u r); refers = pointing.refers })
-              (λ k r. (made_block, new_at core.blocks (Some made_block) None, (let f : Some m ≡ Some k = sym refers ∙ r in let j : m ≡ k = cc in subst (λ k. begins_with (shapes_of p.structs) n k ≡ true) j begins_m))) (λ j r. (m, refers))
-              (own_same the_q args (counts_of the_plan) (grown g new_slot) (λ r. hit r (Ptr (length g.blocks)) + (owned around (live (o ∷ ops) e) core.vars r + own r)) (λ r. hits_by (var_referred around a) (Ptr number) r + (owned around (live (o ∷ ops) e) core.vars r + own r))
-              (λ r. ap (λ k. hit r (Ptr k) + (owned around (live (o ∷ ops) e) core.vars r + own r)) (sym stands.near.size) ∙ ap (λ k. hits_by k (Ptr number) r + (owned around (live (o ∷ ops) e) core.vars r + own r)) (sym refers))
-              (grown_counted the_q (counts_of the_plan) g new_slot (λ r. owned around (live (o ∷ ops) e) core.vars r + own r) counts refl nothing whole_new))),
-        )
+      abbrev array_fields : List Value
+      array_fields = slice_set plain_fields number_at (Word (pos count))
+
+      abbrev null_items : List Value
+      null_items = replicate count Null
+
+      abbrev clear : List LlOp
+      clear = made.call ((counts_at the_plan n).items + 1) (Var a ∷ x ∷ []) ∷ behind
+
+      abbrev slot_a : Slot
+      slot_a = S 1 n array_fields null_items
+
+      -- the number among the fields
+      abbrev spot : Reference
+      spot = record { owner = n; number = 0; at = number_at; to = 0 }
+
+      spot_at : spot.at ≡ begin p based n s is_s cn + 0
+      spot_at = own_at p based n s is_s cn 0
+
+      low_spot : number_at < plain_size
+      low_spot = inside_n p based n s is_s cn spot 0 type.Signed spot_at first
+
+      apart : Apart spot (the_c.held n)
+      apart = field_apart p based n s is_s cn spot 0 type.Signed spot_at first n cn of_n refl
+
+      inside_spot : number_at < length plain_fields
+      inside_spot = omega (arith, low_spot, nulled_size (the_c.held n) (replicate plain_size Unset), length_unset plain_size)
+
+      are : AreItems the_q the_c n t
+      are = counting.items n t cn are_items
+
+      set_number : (k : ℕ) → Leads the_q args (at_ops k (op.SetField n a (the_c.number n) x ∷ clear) (memory_with plain_fields unset_items)) (at_ops (k + 1) clear (memory_with array_fields unset_items))
+      set_number k =
+          store_one p based counting args qcore core.function b ex frames vars2 (memory g) a n number is_new cn of_n unset_items n (the_c.number n) (suc (suc number_at)) x (Word (pos count)) k clear (h ++ first_block ∷ []) (Word (pos 1) ∷ Fun (the_c.release n) ∷ plain_fields) longer x_is refl of_n
+          are.place
+
+      set_null : (k : ℕ) → Leads the_q args (at_ops k clear (memory_with array_fields unset_items)) (at_ops (k + 1) behind (memory_with array_fields (filled count 0 unset_items)))
+      set_null k =
+          clear_run the_q args qcore core.function b ex frames ((counts_at the_plan n).items + 1) n (root_of the_plan n) number n count k (Word (pos 1) ∷ Fun (the_c.release n) ∷ array_fields) unset_items (Var a) x behind vars2 (h ++ first_block ∷ []) (memory g)
+          (clear_stands p based n cn t are_items) of_n short (length_unset count) longer is_new x_is
+
+      filled_is : filled count 0 unset_items ≡ null_items
+      filled_is = filled_all count [] 0 refl
+
+      fields_near : (k : ℕ) → Near (read (replicate plain_size Unset) k) (read array_fields k)
+      fields_near k = ⊎_elim
+          (λ e. subst (λ k. Near (read (replicate plain_size Unset) k) (read array_fields k)) e (inr (unset_at plain_size number_at, ap is_reference (set_here plain_fields number_at (Word (pos count)) Unset inside_spot))))
+          (λ ne. subst (λ y. Near (read (replicate plain_size Unset) k) y) (sym (set_other plain_fields number_at k (Word (pos count)) Unset ne)) (nulled_near (the_c.held n) plain_size (replicate plain_size Unset) (λ j. inl refl) k)) (is_or_not number_at k)
+
+      fields_lead : (gg : Ghost) (held : List Reference) → Apart spot held → FieldsLead the_q gg held plain_fields → FieldsLead the_q gg held array_fields
+      fields_lead gg [] a f = tt
+      fields_lead gg (r ∷ held) a f = (subst (LeadsTo the_q gg r.to) (sym (set_other plain_fields number_at r.at (Word (pos count)) Unset (λ e. a.0 (sym e)))) f.0, fields_lead gg held a.1 f.1)
+
+      pub array_rest : Rest (op.SetField n a (the_c.number n) x ∷ clear) array_fields null_items
+      array_rest = record {
+        run = λ k. (k + 1 + 1, subst (λ l. Leads the_q args (at_ops k (op.SetField n a (the_c.number n) x ∷ clear) (memory_with plain_fields unset_items)) (at_ops (k + 1 + 1) behind (memory_with array_fields l))) filled_is (leads_on the_q args (set_number k) (set_null (k + 1))));
+        near = record {
+          kind = refl;
+          fields = record { size = sym (set_length plain_fields number_at (Word (pos count)) ∙ nulled_size (the_c.held n) (replicate plain_size Unset)); at = fields_near };
+          items = record { size = length_unset count ∙ sym (length_null count); at = null_near count };
+        };
+        nothing = λ r.
+            occurs_both r (field_references (the_c.held n) array_fields) (item_references (the_c.items n) null_items)
+            ∙ (let x : occurs r (field_references (the_c.held n) array_fields) ≡ 0 = ap (occurs r) (apart_same spot (the_c.held n) plain_fields (Word (pos count)) apart) ∙ all_null (the_c.held n) (replicate plain_size Unset) plain_size highs long_enough r in
+            let y : occurs r (item_references (the_c.items n) null_items) ≡ 0 = ap (λ o. occurs r (item_references o null_items)) are_items ∙ none_null count r in omega (arith, x, y));
+        whole = record {
+          counted = cn;
+          fields = fields_lead (grown g slot_a) (the_c.held n) apart (nulls_lead the_q (grown g slot_a) (the_c.held n) (replicate plain_size Unset) plain_size highs long_enough);
+          items = subst (λ o. ItemsLead the_q the_c (grown g slot_a) o (record { kind = n; fields = array_fields; items = null_items })) (sym are_items)
+              (nulls_all the_q (grown g slot_a) t count, set_here plain_fields number_at (Word (pos count)) Unset inside_spot ∙ ap (λ k. Word (pos k)) (sym (length_null count)), omega (arith, length_null count, short));
+        };
+      }
+
+    -- ---- the whole operation
+
+    module _ (tail : List LlOp) (fields items : List Value) (r : Rest tail fields items) where
+      abbrev new_slot : Slot
+      new_slot = S 1 n fields items
+
+      abbrev pub made_state : State
+      made_state = At (header the_plan a n tail) ex frames (here qcore core.function b (at + 1) vars2 (h ++ first_block ∷ []) (memory g))
+
+      d : Written p based counting args qcore core.function b ex frames vars2 (memory g) a n number is_new cn of_n unset_items
+          (At (header the_plan a n tail) ex frames (here qcore core.function b (at + 1) vars2 (slice_set (h ++ first_block ∷ []) number (Some (record { kind = n; fields = Unset ∷ Unset ∷ replicate plain_size Unset; items = unset_items }))) (memory g)))
+          tail (h ++ first_block ∷ []) (Word (pos 1) ∷ Fun (the_c.release n) ∷ plain_fields)
+      d = header_run p based counting args qcore core.function b ex frames vars2 (memory g) a n number is_new cn of_n unset_items (at + 1) tail (h ++ first_block ∷ []) Unset Unset (replicate plain_size Unset) longer
+
+      -- the memory is what the writes begin with, and what they come to
+      begins_as : slice_set (h ++ first_block ∷ []) number (Some (record { kind = n; fields = Unset ∷ Unset ∷ replicate plain_size Unset; items = unset_items })) ≡ h ++ first_block ∷ []
+      begins_as =
+          ap (λ k. slice_set (h ++ first_block ∷ []) k (Some (record { kind = n; fields = Unset ∷ Unset ∷ replicate plain_size Unset; items = unset_items }))) (sym size_h)
+          ∙ set_last h first_block (Some (record { kind = n; fields = Unset ∷ Unset ∷ replicate plain_size Unset; items = unset_items }))
+          ∙ ap (λ k. h ++ Some (record { kind = n; fields = replicate k Unset; items = unset_items }) ∷ []) (sym wide)
+
+      ends_as : memory_with fields items ≡ h ++ shown the_c new_slot ∷ []
+      ends_as = ap (λ k. slice_set (h ++ first_block ∷ []) k (shown the_c new_slot)) (sym size_h) ∙ set_last h first_block (shown the_c new_slot)
+
+      abbrev end_at : ℕ
+      end_at = (r.run d.at).0
+
+      written_down : Leads the_q args made_state (at_ops end_at behind (h ++ shown the_c new_slot ∷ []))
+      written_down =
+          subst (λ l. Leads the_q args (At (header the_plan a n tail) ex frames (here qcore core.function b (at + 1) vars2 l (memory g))) (at_ops end_at behind (h ++ shown the_c new_slot ∷ []))) begins_as
+          (subst (λ l. Leads the_q args (At (header the_plan a n tail) ex frames (here qcore core.function b (at + 1) vars2 (slice_set (h ++ first_block ∷ []) number (Some (record { kind = n; fields = Unset ∷ Unset ∷ replicate plain_size Unset; items = unset_items }))) (memory g)))
+          (at_ops end_at behind l)) ends_as (leads_on the_q args d.leads (r.run d.at).1))
+
+      pub made_followed : changed around o behind ≡ o ∷ header the_plan a n tail
+          → step the_q args (At (o ∷ header the_plan a n tail) ex frames (here qcore core.function b at core.vars h (memory g))) ≡ Tells (Made number n (wide_size + count)) made_state
+          → Pointing p types core.blocks core.statics (live (o ∷ ops) e) core.vars → IsCounted the_q the_c g (λ r. owned around (live (o ∷ ops) e) core.vars r + own r)
+          → Follows p args types (live ops e) own (At (changed around o behind) ex frames (here qcore core.function b at core.vars h (memory g))) rest ex frames b (Told (Made number n (plain_size + count)) (record core1 { at = core.at + 1; vars = vars2 }))
+      made_followed plain moves pointing counts =
+          subst (λ l. Follows p args types (live ops e) own (At l ex frames (here qcore core.function b at core.vars h (memory g))) rest ex frames b (Told (Made number n (plain_size + count)) (record core1 { at = core.at + 1; vars = vars2 }))) (sym plain) (
+            At (o ∷ header the_plan a n tail) ex frames (here qcore core.function b at core.vars h (memory g)),
+            made_state,
+            stays the_q args (At (o ∷ header the_plan a n tail) ex frames (here qcore core.function b at core.vars h (memory g))),
+            moves ∙ ap (λ k. Tells (Made number n k) made_state) (let z : wide_size + count ≡ plain_size + count + 2 = omega (arith, wide) in z),
+            comes_before p based counting args types roots own o ops rest e ex frames b (live ops e) made_state (at_ops end_at behind (h ++ shown the_c new_slot ∷ []))
+                (record core1 { at = core.at + 1; vars = vars2 }) written_down
+                (value_end p based counting args types roots own o ops rest e ex frames b a sets_it core1 qcore (grown g new_slot) (h ++ shown the_c new_slot ∷ []) end_at (Ptr number) inside fits (λ n r. unread)
+                (record {
+                  near = near_grown p core.blocks core.statics g new_slot made_block stands.near r.near;
+                  shown = grown_shown the_q the_c g new_slot (λ r. owned around (live (o ∷ ops) e) core.vars r + own r) counts h stands.shown;
+                  steps = stands.steps;
+                  exc_type = stands.exc_type;
+                  exc_value = stands.exc_value;
+                })
+                (record { at = λ v k u r. points_grown p core.blocks core.statics made_block k (read core.vars v) (pointing.at v k u r); refers = pointing.refers })
+                (λ k r. (made_block, new_at core.blocks (Some made_block) None, (let f : Some m ≡ Some k = sym refers ∙ r in let j : m ≡ k = cc in subst (λ k. begins_with (shapes_of p.structs) n k ≡ true) j begins_m))) (λ j r. (m, refers))
+                (own_same the_q args the_c (grown g new_slot) (λ r. hit r (Ptr (length g.blocks)) + (owned around (live (o ∷ ops) e) core.vars r + own r)) (λ r. hits_by (var_referred around a) (Ptr number) r + (owned around (live (o ∷ ops) e) core.vars r + own r))
+                (λ r. ap (λ k. hit r (Ptr k) + (owned around (live (o ∷ ops) e) core.vars r + own r)) (sym stands.near.size) ∙ ap (λ k. hits_by k (Ptr number) r + (owned around (live (o ∷ ops) e) core.vars r + own r)) (sym refers))
+                (grown_counted the_q the_c g new_slot (λ r. owned around (live (o ∷ ops) e) core.vars r + own r) counts refl r.nothing r.whole))),
+          )

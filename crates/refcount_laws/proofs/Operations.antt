@@ -43,7 +43,8 @@ use Rattle.refcount_laws.proofs.Places.{counted_counting}
 use Rattle.refcount_laws.proofs.Operating.{unary_followed, binary_followed, argc_followed, arg_len_followed, arg_followed, step_followed, put_followed}
 use Rattle.refcount_laws.proofs.Getting.{get_field_followed, get_item_followed}
 use Rattle.refcount_laws.proofs.Storage.{set_plain_followed, set_reference_followed}
-use Rattle.refcount_laws.proofs.Making.{made_followed}
+use Rattle.refcount_laws.specs.Ready.{KeepsNumber}
+use Rattle.refcount_laws.proofs.Making.{made_followed, no_rest}
 
 pub structs_typed : (p : LlProgram) → IsWellTyped p → structs_ok p.structs 0 p.structs ≡ true
 structs_typed p ok = and_left _ _ (and_left _ _ (and_left _ _ ok))
@@ -91,19 +92,20 @@ module _ (p : LlProgram) (ok : IsWellTyped p) (leads : leads_to_roots p ≡ true
       get_item_followed p based counting args types d.roots own ops rest e ex frames b core qcore g h at d.fits d.stands 0 d.room (structs_typed p ok) apart a n v x t f typed unread
       (λ block i found set. (let m : MayStand p types core a (read block.items i) = may block i found set in record { points = m.points; refers = m.refers })) d.pointing d.counts
 
-  pub set_plain_one : (n v i : ℕ) (x : COperand) (t : LlType) → field_of (slice_get p.structs n) i ≡ Some t → ((kind m : ℕ) → (counts_of (plan_of p)).items kind ≡ Some m → (counts_of (plan_of p)).number_at kind ≢ place (shape_at (shapes_of p.structs) n) i)
-      → field_referred (plan_of p) n i ≡ None → ((s : ℕ) → read core.vars v ≡ Static s → ⊥) → Here (op.SetField n v i x)
-  set_plain_one n v i x t f beside none in_block d = set_plain_followed p based counting args types d.roots own ops rest e ex frames b core qcore g h at d.fits d.stands 0 d.room n v i x t f beside none in_block d.pointing d.counts
+  pub set_plain_one : (n v i : ℕ) (x : COperand) (t : LlType) → field_of (slice_get p.structs n) i ≡ Some t → KeepsNumber p core n v i x
+      → field_referred (plan_of p) n i ≡ None → is_counted (plan_of p) n ≡ true → Here (op.SetField n v i x)
+  set_plain_one n v i x t f keeps none cn d = set_plain_followed p based counting args types d.roots own ops rest e ex frames b core qcore g h at d.fits d.stands 0 d.room n v i x t f keeps none cn d.pointing d.counts
 
-  pub set_reference_one : (n v i : ℕ) (x : COperand) (t : LlType) → field_of (slice_get p.structs n) i ≡ Some t → ((kind m : ℕ) → (counts_of (plan_of p)).items kind ≡ Some m → (counts_of (plan_of p)).number_at kind ≢ place (shape_at (shapes_of p.structs) n) i)
+  pub set_reference_one : (n v i : ℕ) (x : COperand) (t : LlType) → field_of (slice_get p.structs n) i ≡ Some t → KeepsNumber p core n v i x
       → (m : ℕ) → field_referred (plan_of p) n i ≡ Some m → ((s : ℕ) → read core.vars v ≡ Static s → ⊥) → PointsTo p core.blocks core.statics m (operand core.vars x) → ((z : ℕ) → operand core.vars x ≡ Ptr z → 0 < count g.blocks z) → Here (op.SetField n v i x)
-  set_reference_one n v i x t f beside m refers in_block points alive d =
-      set_reference_followed p based counting args types d.roots own ops rest e ex frames b core qcore g h at d.fits d.stands 0 d.room n v i x t f beside leads m refers in_block points alive d.pointing d.counts
+  set_reference_one n v i x t f keeps m refers in_block points alive d =
+      set_reference_followed p based counting args types d.roots own ops rest e ex frames b core qcore g h at d.fits d.stands 0 d.room n v i x t f keeps leads m refers in_block points alive d.pointing d.counts
 
   pub new_one : (a m n to : ℕ) (s : LlStruct) → slice_get p.structs n ≡ Some s → is_counted (plan_of p) n ≡ true → var_referred (around_of (plan_of p) types) a ≡ Some to → begins_with (shapes_of p.structs) n to ≡ true → a < length core.vars
       → reference_given (plan_of p).counted (items_of (slice_get p.structs n)) ≡ None → Here (op.New a m n)
   new_one a m n to s is_s cn refers begins_m inside no_items d =
-      made_followed p based counting args types d.roots own ops rest e ex frames b core qcore g h at d.fits d.stands (op.New a m n) a n 0 s is_s cn refl to refers begins_m refl inside no_items refl
+      made_followed p based counting args types d.roots own ops rest e ex frames b core qcore g h at d.fits d.stands (op.New a m n) a n 0 s is_s cn refl to refers begins_m refl inside (dead (around_of (plan_of p) types) (touched (op.New a m n)) ops e rest) _ _
+      (no_rest p based counting args types d.roots own ops rest e ex frames b core qcore g h at d.fits d.stands (op.New a m n) a n 0 s is_s cn refl to refers begins_m refl inside no_items) refl
       (ap (λ k. Tells (Made k n ((shape_at (shapes_counted (plan_of p)) n).size + 0))
       (At (header (plan_of p) a n (dead (around_of (plan_of p) types) (touched (op.New a m n)) ops e rest)) ex frames (here qcore core.function b (at + 1) (slice_set core.vars a (Ptr k)) (h ++ Some (record { kind = n; fields = replicate (shape_at (shapes_counted (plan_of p)) n).size Unset; items = [] }) ∷ []) (memory g))))
       (d.stands.shown.size ∙ sym d.stands.near.size)) d.pointing d.counts

@@ -9,6 +9,7 @@ use Rattle.ll_code.specs.Typed.{IsWellTyped}
 use Rattle.ll_laws.proofs.Values.{and_left}
 use Rattle.refcount_transform.specs.declared.plan.Held.{Held}
 use Rattle.refcount_transform.specs.Plan.{Plan, plan_of, references_in, one_if, references_before, reference_to, is_counted, counts_at, root_of, referred, fields_of, field_number, held_if, held_from, own_held, items_referred}
+use Rattle.refcount_laws.proofs.Clearing.{clear_types, clear_blocks}
 use Rattle.refcount_transform.specs.Made.{put_graph, put_item_graph, clear_graph, items_made, references_made}
 use Rattle.refcount_transform.specs.Counted.{counted}
 use Rattle.refcount_laws.specs.Graphs.{StandsWith, put_types, put_block, put_item_types, put_item_block}
@@ -103,3 +104,17 @@ module _ (p : LlProgram) (based : Based p.structs) (n : ℕ) (is_one : is_counte
 
   pub put_item_stands : StandsWith (counted p) (counts_at plan_ n).items (0 ∷ 1 ∷ 2 ∷ []) (put_item_types (counts_of plan_) n m) (put_item_block (counts_of plan_) n m ∷ [])
   put_item_stands = record { graph = put_item_graph plan_ n m; there = item_there; taken = refl; result = refl; typed = refl; laid = refl }
+
+  clear_there : slice_get (counted p).graphs ((counts_at plan_ n).items + 1) ≡ Some (clear_graph plan_ n)
+  clear_there =
+      let refs_ : List LlGraph = references_made n (root_of plan_ n == n) in
+      let items_ : List LlGraph = items_made plan_ n (items_referred plan_ n) in
+      let long : length items_ ≡ 2 = ap length items_are in
+      let size : length puts_ ≡ references_in plan_.counted (at_struct p based n is_one).s.fields = puts_count plan_ n (at_struct p based n is_one).s (at_struct p based n is_one).is (is_own_root p.structs based n (at_struct p based n is_one).s (at_struct p based n is_one).is) in
+      ap (λ c. slice_get (counted p).graphs (c.items + 1)) (place p based n is_one).is
+      ∙ ap (slice_get (counted p).graphs) (let z : first_number p based n is_one + 1 + references_in plan_.counted (at_struct p based n is_one).s.fields + 1 ≡ first_number p based n is_one + suc (length puts_ + 1) = omega (arith, size) in z)
+      ∙ made_there p based n is_one (suc (length puts_ + 1)) (omega (arith, length_two (puts_ ++ items_) refs_, length_two puts_ items_, long)) ∙ get_left (puts_ ++ items_) refs_ (length puts_ + 1) (omega (arith, length_two puts_ items_, long))
+      ∙ get_right puts_ items_ 1 ∙ ap (λ l. slice_get l 1) items_are
+
+  pub clear_stands : StandsWith (counted p) ((counts_at plan_ n).items + 1) (0 ∷ 1 ∷ []) (clear_types (root_of plan_ n)) (clear_blocks n)
+  clear_stands = record { graph = clear_graph plan_ n; there = clear_there; taken = refl; result = refl; typed = refl; laid = refl }

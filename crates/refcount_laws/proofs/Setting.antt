@@ -45,7 +45,7 @@ use Rattle.refcount_laws.specs.Ghost.{no_slot, count_of, written, Apart, FieldsL
 use Rattle.refcount_laws.proofs.Ghosts.{inside}
 use Rattle.refcount_laws.proofs.Leading.{fields_by_kind, items_by_kind}
 use Rattle.refcount_laws.proofs.Steps.{put_step}
-use Rattle.refcount_laws.proofs.Writing.{apart_same, kinds_then, written_counted, written_shown}
+use Rattle.refcount_laws.proofs.Writing.{read_inside, apart_same, kinds_then, written_counted, written_shown}
 
 -- ---- cells that are set in both programs
 
@@ -160,7 +160,7 @@ module _ (p : LlProgram) (based : Based p.structs) (counting : Counting (counted
     -- ---- a field that is no reference
 
     module _ (i : ℕ) (x : COperand) (v : Value) (is_v : operand core.vars x ≡ v) (v_set : is_unset v ≡ false) (bvar : ℕ) (is_a : read core.vars bvar ≡ Ptr a) (r : Reference) (at_r : r.at ≡ place (shape_at (shapes_of p.structs) n) i)
-        (apart : Apart r (c.held w.kind)) (beside : (m : ℕ) → c.items w.kind ≡ Some m → c.number_at w.kind ≢ r.at) (behind : List LlOp) where
+        (apart : Apart r (c.held w.kind)) (keeps : (m : ℕ) → c.items w.kind ≡ Some m → c.number_at w.kind ≡ r.at → v ≡ Word (pos (length w.items))) (behind : List LlOp) where
       abbrev fields2 : List Value
       fields2 = slice_set w.fields r.at v
 
@@ -192,7 +192,7 @@ module _ (p : LlProgram) (based : Based p.structs) (counting : Counting (counted
 
           number_kept : (o : Option ℕ) → c.items w.kind ≡ o → ItemsLead q c g o bare_w → ItemsLead q c g o (record { kind = w.kind; fields = fields2; items = w.items })
           number_kept None e l = tt
-          number_kept (Some m) e l = (l.0, set_other w.fields r.at (c.number_at w.kind) v Unset (λ q. beside m e (sym q)) ∙ l.1, l.2)
+          number_kept (Some m) e l = (l.0, ⊎_elim (λ q. ap (read fields2) q ∙ set_here w.fields r.at v Unset (read_inside w.fields r.at (ap is_unset (ap (read w.fields) (sym q) ∙ l.1))) ∙ keeps m e q) (λ ne. set_other w.fields r.at (c.number_at w.kind) v Unset (λ q. ne (sym q)) ∙ l.1) (is_or_not (c.number_at w.kind) r.at), l.2)
 
       same_refs : (r2 : Value) → occurs r2 (references c (record { kind = w.kind; fields = fields2; items = w.items })) + hit r2 Null ≡ occurs r2 (references c bare_w) + hit r2 Null
       same_refs r2 =

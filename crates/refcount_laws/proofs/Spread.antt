@@ -199,7 +199,7 @@ module _ (p : LlProgram) (based : Based p.structs) where
 
   -- a field of this struct, at place j of its own
   module _ (n : ℕ) (s : LlStruct) (e : slice_get p.structs n ≡ Some s) (c : is_counted plan_ n ≡ true) (r : Reference) (j : ℕ) (t : LlType) (is_at : r.at ≡ begin p based n s e c + j) (is_field : slice_get s.fields j ≡ Some t) where
-    inside_n : r.at < size_at n
+    pub inside_n : r.at < size_at n
     inside_n = let lt : j < length s.fields = within s.fields j t is_field in omega (arith, lt, is_at, size_is p based n s e c)
       where
         within : (ts : List LlType) (j : ℕ) (t : LlType) → slice_get ts j ≡ Some t → j < length ts

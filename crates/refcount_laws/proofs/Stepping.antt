@@ -61,13 +61,25 @@ use Rattle.refcount_laws.proofs.Emptied.{exc_set_one, exc_clear_one}
 use Rattle.refcount_laws.proofs.Calling.{call_followed, call_fn_followed}
 use Rattle.refcount_laws.proofs.Calls.{enter_comes, return_to}
 use Rattle.refcount_laws.proofs.Departing.{exit_leaves}
+use Rattle.refcount_laws.proofs.Longer.{moved, ops_more}
 
 module _ (p : LlProgram) (args : List (List ℕ)) where
   abbrev plan : Plan
   plan = plan_of p
 
+  -- what it comes to differs from where it was
+  with_moves : (from to : State) (x : ComesFor p args from to) → (from ≡ x.state → ⊥) → (x : ComesFor p args from to) × (0 < x.leads.count)
+  with_moves from to x differ = (x, moved (counted p) args from x.state x.leads differ)
+
+  -- where one operation less is left to do
+  one_less : (graph : LlGraph) (o : LlOp) (ops : List LlOp) (e e1 e2 : LlExit) (others : List Frame) (core core2 : Core) → At (ops_of (around_of plan graph.types) (o ∷ ops) e) e1 others core ≡ At (ops_of (around_of plan graph.types) ops e) e2 others core2 → ⊥
+  one_less graph o ops e e1 e2 others core core2 same =
+      let l : ops_of (around_of plan graph.types) (o ∷ ops) e ≡ ops_of (around_of plan graph.types) ops e = cc in
+      let n : length (ops_of (around_of plan graph.types) (o ∷ ops) e) ≡ length (ops_of (around_of plan graph.types) ops e) = ap length l in
+      absurd (omega (arith, n, ops_more (around_of plan graph.types) o ops e))
+
   -- a core that comes to a place of its program stands for it
-  comes_for : (calls : List Call) (others frames : List Frame) (graph : LlGraph) (own : Value → ℕ) (from : State) (ops : List LlOp) (e : LlExit) (next block : ℕ) (core : Core) → slice_get p.graphs core.function ≡ Some graph → block ≡ core.block
+  abbrev comes_for : (calls : List Call) (others frames : List Frame) (graph : LlGraph) (own : Value → ℕ) (from : State) (ops : List LlOp) (e : LlExit) (next block : ℕ) (core : Core) → slice_get p.graphs core.function ≡ Some graph → block ≡ core.block
       → Rattle.refcount_laws.specs.Leaves.From (Rattle.refcount_transform.specs.Blocks.blocks_of (around_of plan graph.types) graph.blocks) next (Rattle.refcount_transform.specs.Blocks.behind_exit (around_of plan graph.types) e)
       → AllWait p calls frames others → ((r : Value) → own r ≡ beside p calls frames core r)
       → Comes p args graph.types (live ops e) own from (ops_of (around_of plan graph.types) ops e) (exit_of (around_of plan graph.types) next e) others block core → ComesFor p args from (At ops e frames core)
@@ -98,19 +110,19 @@ module _ (p : LlProgram) (args : List (List ℕ)) where
     abbrev own_ : Value → ℕ
     own_ = beside p calls frames old
 
-    kept : (core : Core) → Onwards old core → (from : State) → Comes p args graph.types (live ops e) own_ from (ops_of (around_of plan graph.types) ops e) (exit_of (around_of plan graph.types) next e) others old.block core → ComesFor p args from (At ops e frames core)
+    abbrev kept : (core : Core) → Onwards old core → (from : State) → Comes p args graph.types (live ops e) own_ from (ops_of (around_of plan graph.types) ops e) (exit_of (around_of plan graph.types) next e) others old.block core → ComesFor p args from (At ops e frames core)
     kept core on from x =
         comes_for calls others frames graph own_ from ops e next old.block core (ap (slice_get p.graphs) on.function ∙ there) (sym on.block) ways waits
         (λ r. ap (λ n. n + waits_own p calls frames r) (ap (λ v. hits_by plan.slots.kind v r + hits_by plan.slots.value old.exc_value r) (sym on.kind) ∙ ap (λ v. hits_by plan.slots.kind core.exc_type r + hits_by plan.slots.value v r) (sym on.value))) x
 
     -- what follows by an operation
-    followed : (after : After) → AfterMoves old after → Follows p args graph.types (live ops e) own_ from (ops_of (around_of plan graph.types) ops e) (exit_of (around_of plan graph.types) next e) others old.block after → NextStands p args from (goes_on (At ops e frames) after)
-    followed (Onward core) on x = kept core on from x
-    followed (PutsByte byte core) on (t, later, leads, moves, x) = (t, later, leads, moves, kept core on later x)
-    followed (Told (Made number kind cells) core) on (t, later, leads, moves, x) = (t, later, leads, moves, kept core on later x)
-    followed (Told (Freed number) core) on x = absurd x
-    followed (Over outcome core) on x = x
-    followed (Stuck reason) on x = tt
+    followed : ((core : Core) → from ≡ At (ops_of (around_of plan graph.types) ops e) (exit_of (around_of plan graph.types) next e) others core → ⊥) → (after : After) → AfterMoves old after → Follows p args graph.types (live ops e) own_ from (ops_of (around_of plan graph.types) ops e) (exit_of (around_of plan graph.types) next e) others old.block after → NextStands p args from (goes_on (At ops e frames) after)
+    followed differ (Onward core) on x = with_moves from (At ops e frames core) (kept core on from x) (differ (here x.qcore core.function core.block x.at core.vars x.h (memory x.g)))
+    followed differ (PutsByte byte core) on (t, later, leads, moves, x) = (t, later, leads, moves, kept core on later x)
+    followed differ (Told (Made number kind cells) core) on (t, later, leads, moves, x) = (t, later, leads, moves, kept core on later x)
+    followed differ (Told (Freed number) core) on x = absurd x
+    followed differ (Over outcome core) on x = x
+    followed differ (Stuck reason) on x = tt
 
 -- ---- exits stay in their graph
 
@@ -173,14 +185,16 @@ module _ (p : LlProgram) (frames : List Frame) (core : Core) where
 
 module _ (p : LlProgram) (args : List (List ℕ)) (calls : List Call) (others frames : List Frame) (graph : LlGraph) (waits : AllWait p calls frames others) (old : Core) (there : slice_get p.graphs old.function ≡ Some graph) (from : State) where
   -- what follows an exit
-  left_at : (next : Next) → ExitKeeps frames old next → Leaves p args graph (beside p calls frames old) from others next → NextStands p args from next
-  left_at (Goes (At ops e waiting core)) (same, on) (number, ways, x) =
-      subst (λ w. ComesFor p args from (At ops e w core)) (sym same)
-      (comes_for p args calls others frames graph (beside p calls frames old) from ops e number core.block core (ap (slice_get p.graphs) on.function ∙ there) refl ways waits
-      (λ r. ap (λ n. n + waits_own p calls frames r) (ap (λ v. hits_by (plan_of p).slots.kind v r + hits_by (plan_of p).slots.value old.exc_value r) (sym on.kind) ∙ ap (λ v. hits_by (plan_of p).slots.kind core.exc_type r + hits_by (plan_of p).slots.value v r) (sym on.value))) x)
-  left_at (Goes (Returning value waiting core)) (same, is) x =
-      subst (λ w. ComesFor p args from (Returning value w core)) (sym same)
-      (record {
+  left_at : ((value : Value) (frames : List Frame) (core : Core) → from ≡ Returning value frames core → ⊥) → (next : Next) → ExitKeeps frames old next → Leaves p args graph (beside p calls frames old) from others next → NextStands p args from next
+  left_at differ (Goes (At ops e waiting core)) (same, on) (number, ways, x, moves) =
+      subst (λ w. (x : ComesFor p args from (At ops e w core)) × (0 < x.leads.count)) (sym same) (
+        (comes_for p args calls others frames graph (beside p calls frames old) from ops e number core.block core (ap (slice_get p.graphs) on.function ∙ there) refl ways waits
+            (λ r. ap (λ n. n + waits_own p calls frames r) (ap (λ v. hits_by (plan_of p).slots.kind v r + hits_by (plan_of p).slots.value old.exc_value r) (sym on.kind) ∙ ap (λ v. hits_by (plan_of p).slots.kind core.exc_type r + hits_by (plan_of p).slots.value v r) (sym on.value))) x),
+        moves,
+      )
+  left_at differ (Goes (Returning value waiting core)) (same, is) x =
+      subst (λ w. (x : ComesFor p args from (Returning value w core)) × (0 < x.leads.count)) (sym same)
+      (with_moves p args from (Returning value frames core) (record {
         calls = calls;
         others = others;
         state = Returning value others (here x.qcore core.function x.b x.at core.vars x.h (memory x.g));
@@ -197,13 +211,13 @@ module _ (p : LlProgram) (args : List (List ℕ)) (calls : List Call) (others fr
               (λ r. ap (λ core. hits_by (reference_given (plan_of p).counted (Some graph.result)) value r + beside p calls frames core r) (sym is)) x.counts;
           is = refl;
         };
-      })
-  left_at (Goes (Calling f values waiting core)) keeps x = absurd keeps
-  left_at (Goes (Throwing value waiting core)) keeps x = absurd keeps
-  left_at (Puts byte state) keeps x = absurd keeps
-  left_at (Tells event state) keeps x = absurd keeps
-  left_at (Ends outcome core) keeps x = x
-  left_at (Sticks reason) keeps x = tt
+      }) (differ value others (here x.qcore core.function x.b x.at core.vars x.h (memory x.g))))
+  left_at differ (Goes (Calling f values waiting core)) keeps x = absurd keeps
+  left_at differ (Goes (Throwing value waiting core)) keeps x = absurd keeps
+  left_at differ (Puts byte state) keeps x = absurd keeps
+  left_at differ (Tells event state) keeps x = absurd keeps
+  left_at differ (Ends outcome core) keeps x = x
+  left_at differ (Sticks reason) keeps x = tt
 
 -- memory and variables of the core of the counted program are said apart
 stands_as : (p : LlProgram) (core qcore : Core) (g : Ghost) (h : List (Option Block)) → Stands p core qcore g h → Stands p core (record qcore { blocks = h; statics = memory g }) g h
@@ -233,7 +247,7 @@ module _ (p : LlProgram) (ok : IsWellTyped p) (leads : leads_to_roots p ≡ true
       in_block plain may is =
           subst (λ s. NextStands p args s (operates p args o ops e frames core)) (sym both.is)
           (subst (NextStands p args from_) (sym is)
-          (followed p args calls others frames both.graph both.waits ops e both.next both.ways core both.there from_ (does p args core o) (does_moves core p args o plain)
+          (followed p args calls others frames both.graph both.waits ops e both.next both.ways core both.there from_ (λ core2. one_less p args both.graph o ops e _ _ others _ core2) (does p args core o) (does_moves core p args o plain)
           (operation_followed p ok leads args both.graph.types own_here ops (ops_of (around_of (plan_of p) both.graph.types) ops e) e (exit_of (around_of (plan_of p) both.graph.types) both.next e) others core.block both.at core both.qcore g h ready.apart o ready.ok may before_)))
 
       -- a call, with its frame
@@ -241,8 +255,8 @@ module _ (p : LlProgram) (ok : IsWellTyped p) (leads : leads_to_roots p ≡ true
           → EntersBy p args both.graph.types own_here o ops (ops_of (around_of (plan_of p) both.graph.types) ops e) e (exit_of (around_of (plan_of p) both.graph.types) both.next e) core.block both.at frames others core both.qcore g h into next → NextStands p args from_ next
       in_call into sets_it (Goes state) (f, values, graph, there, is, x) =
           let call : Call = record { op = o; graph = both.graph } in
-          subst (ComesFor p args from_) (sym is)
-          (record {
+          subst (λ to. (x : ComesFor p args from_ to) × (0 < x.leads.count)) (sym is)
+          (with_moves p args from_ (Calling f values (waiting core into ops e ∷ frames) core) (record {
             calls = call ∷ calls;
             others = waiting (here x.qcore core.function core.block x.at core.vars x.h (memory x.g)) into (dead (around_of (plan_of p) both.graph.types) (touched o) ops e (ops_of (around_of (plan_of p) both.graph.types) ops e)) (exit_of (around_of (plan_of p) both.graph.types) both.next e) ∷ others;
             state = Calling f values (waiting (here x.qcore core.function core.block x.at core.vars x.h (memory x.g)) into (dead (around_of (plan_of p) both.graph.types) (touched o) ops e (ops_of (around_of (plan_of p) both.graph.types) ops e)) (exit_of (around_of (plan_of p) both.graph.types) both.next e) ∷ others)
@@ -260,7 +274,7 @@ module _ (p : LlProgram) (ok : IsWellTyped p) (leads : leads_to_roots p ≡ true
                   (λ r. given_to (around_of (plan_of p) graph.types) 0 values r + beside p (call ∷ calls) (waiting core into ops e ∷ frames) core r) (λ r. omega arith) x.counts;
               is = refl;
             };
-          })
+          }) (λ same. cc))
       in_call into sets_it (Sticks reason) x = tt
       in_call into sets_it (Puts byte state) x = absurd x
       in_call into sets_it (Tells event state) x = absurd x
@@ -276,10 +290,10 @@ module _ (p : LlProgram) (ok : IsWellTyped p) (leads : leads_to_roots p ≡ true
       (subst (λ o. NextStands p args (Calling f values others (record both.qcore { blocks = h; statics = memory g })) (Rattle.ll_code.specs.Machine.enters f values frames core both.graph o)) (sym ready.first)
       (let w : Rattle.refcount_laws.proofs.Blocks.Placed (around_of (plan_of p) both.graph.types) (Rattle.refcount_transform.specs.Blocks.blocks_of (around_of (plan_of p) both.graph.types) both.graph.blocks) 0 ready.block =
       Rattle.refcount_laws.proofs.Blocks.block_placed (around_of (plan_of p) both.graph.types) both.graph.blocks 0 ready.block ready.first in
-      comes_for p args calls others frames both.graph (beside p calls frames core) (Calling f values others (record both.qcore { blocks = h; statics = memory g })) ready.block.ops ready.block.exit w.next 0
+      with_moves p args (Calling f values others (record both.qcore { blocks = h; statics = memory g })) _ (comes_for p args calls others frames both.graph (beside p calls frames core) (Calling f values others (record both.qcore { blocks = h; statics = memory g })) ready.block.ops ready.block.exit w.next 0
       (record core { function = f; block = 0; at = 0; vars = values ++ Rattle.std.specs.Prelude.replicate (length both.graph.types - length both.graph.params) Unset }) both.there refl w.ways both.waits (λ r. refl)
       (enter_comes p based counting args both.graph.types ready.roots (beside p calls frames core) others f w.next both.graph refl ready.block (Rattle.refcount_laws.proofs.Blocks.graph_placed p f both.graph both.there) w.is values ready.covers
-      (closed f both.graph both.there 0 ready.block ready.first) core both.qcore g h ready.fits (stands_as p core both.qcore g h both.stands) ready.pointing both.counts))))
+      (closed f both.graph both.there 0 ready.block ready.first) core both.qcore g h ready.fits (stands_as p core both.qcore g h both.stands) ready.pointing both.counts)) (λ same. cc))))
 
   -- ---- back to a call that waits
 
@@ -292,12 +306,12 @@ module _ (p : LlProgram) (ok : IsWellTyped p) (leads : leads_to_roots p ≡ true
       let hits : Value → ℕ = λ r. hits_by (reference_given (plan_of p).counted (Some both.graph.result)) value r in
       let kept : Value → ℕ = λ r. owned (around_of (plan_of p) call.graph.types) (live (call.op ∷ frame.ops) frame.exit) frame.vars r in
       subst (λ s. NextStands p args s (step p args (Returning value (frame ∷ frames) core))) (sym both.is)
-      (subst (λ other. ComesFor p args (Returning value (other ∷ others) (record both.qcore { blocks = h; statics = memory g })) (At frame.ops frame.exit frames last)) (sym w.is)
-      (comes_for p args calls others frames call.graph rest (Returning value (Rattle.refcount_laws.proofs.Calls.waits_at p based counting args call.graph.types ready.roots rest others call.op frame.ops frame.exit w.next both.graph.result frame w.into ready.fits w.at ∷ others) (record both.qcore { blocks = h; statics = memory g }))
+      (subst (λ other. (x : ComesFor p args (Returning value (other ∷ others) (record both.qcore { blocks = h; statics = memory g })) (At frame.ops frame.exit frames last)) × (0 < x.leads.count)) (sym w.is)
+      (with_moves p args _ _ (comes_for p args calls others frames call.graph rest (Returning value (Rattle.refcount_laws.proofs.Calls.waits_at p based counting args call.graph.types ready.roots rest others call.op frame.ops frame.exit w.next both.graph.result frame w.into ready.fits w.at ∷ others) (record both.qcore { blocks = h; statics = memory g }))
       frame.ops frame.exit w.next frame.block last w.there refl w.ways both.waits.1 (λ r. refl)
       (return_to p based counting args call.graph.types ready.roots rest others call.op frame.ops frame.exit w.next both.graph.result frame w.into ready.fits core both.qcore g h w.at value (stands_as p core both.qcore g h both.stands) ready.pointing ready.typed ready.dropped ready.unread ready.points ready.refers
       (own_same (counted p) args (counts_of (plan_of p)) g (λ r. hits r + beside p (call ∷ calls) (frame ∷ frames) core r) (λ r. hits r + (kept r + rest r))
-      (λ r. (let z : (a b c d : ℕ) → a + (b + (c + d)) ≡ a + (c + (b + d)) = λ a b c d. omega arith in z (hits r) (slots_own p core r) (kept r) (waits_own p calls frames r))) both.counts))))
+      (λ r. (let z : (a b c d : ℕ) → a + (b + (c + d)) ≡ a + (c + (b + d)) = λ a b c d. omega arith in z (hits r) (slots_own p core r) (kept r) (waits_own p calls frames r))) both.counts))) (λ same. cc)))
 
   -- out of the first graph
   ending : (calls : List Call) (others : List Frame) (value : Value) (core : Core) (s : State) (g : Ghost) (h : List (Option Block)) → BothReturning p calls others value [] core s g h → NextStands p args s (step p args (Returning value [] core))
@@ -325,7 +339,7 @@ module _ (p : LlProgram) (ok : IsWellTyped p) (leads : leads_to_roots p ≡ true
   leaving calls others frames e core s g h both ready =
       subst (λ s. NextStands p args s (leaves p e frames core)) (sym both.is)
       (left_at p args calls others frames both.graph both.waits core both.there (At (ops_of (around_of (plan_of p) both.graph.types) [] e) (exit_of (around_of (plan_of p) both.graph.types) both.next e) others (here both.qcore core.function core.block both.at core.vars h (memory g)))
-      (leaves p e frames core) (leaves_keeps p frames core e ready.explicit)
+      (λ value frames core same. cc) (leaves p e frames core) (leaves_keeps p frames core e ready.explicit)
       (exit_leaves p based counting args both.graph ready.roots closed ready.inputs (beside p calls frames core) frames others core both.qcore ready.fits both.there ready.links g h core.block both.at both.next both.stands
       (and_left _ _ (and_left _ _ (and_left _ _ ok))) ready.apart ready.lead ready.room ready.one e ready.explicit ready.ok ready.pointing ready.returns both.counts both.ways))
 
@@ -387,17 +401,17 @@ module _ (p : LlProgram) (ok : IsWellTyped p) (leads : leads_to_roots p ≡ true
             (goes_on (At ops e frames) (cond y (Stuck IsUnset) (Onward (record core { at = core.at + 1; exc_type = read core.vars a; exc_value = read core.vars b }))))
         one true x = tt
         one false x =
-            comes_for p args calls others frames both.graph (λ r. Rattle.refcount_laws.specs.Slots.slot_hits (plan_of p) (read core.vars a) (read core.vars b) r + waits_own p calls frames r)
+            with_moves p args _ _ (comes_for p args calls others frames both.graph (λ r. Rattle.refcount_laws.specs.Slots.slot_hits (plan_of p) (read core.vars a) (read core.vars b) r + waits_own p calls frames r)
             (At (ops_of (around_of (plan_of p) both.graph.types) (op.ExcSet a b ∷ ops) e) (exit_of (around_of (plan_of p) both.graph.types) both.next e) others (here both.qcore core.function core.block both.at core.vars h (memory g)))
-            ops e both.next core.block (record core { at = core.at + 1; exc_type = read core.vars a; exc_value = read core.vars b }) both.there refl both.ways both.waits (λ r. refl) x
+            ops e both.next core.block (record core { at = core.at + 1; exc_type = read core.vars a; exc_value = read core.vars b }) both.there refl both.ways both.waits (λ r. refl) x) (one_less p args both.graph (op.ExcSet a b) ops e _ _ others _ _)
     operating op.ExcClear both ready =
         subst (λ s. NextStands p args s (operates p args op.ExcClear ops e frames core)) (sym both.is)
-        (comes_for p args calls others frames both.graph (waits_own p calls frames)
+        (with_moves p args _ _ (comes_for p args calls others frames both.graph (waits_own p calls frames)
         (At (ops_of (around_of (plan_of p) both.graph.types) (op.ExcClear ∷ ops) e) (exit_of (around_of (plan_of p) both.graph.types) both.next e) others (here both.qcore core.function core.block both.at core.vars h (memory g)))
         ops e both.next core.block (record core { at = core.at + 1; exc_type = Null; exc_value = Null }) both.there refl both.ways both.waits
         (λ r. (let z : 0 + waits_own p calls frames r ≡ waits_own p calls frames r = omega arith in sym z) ∙ ap (λ n. n + waits_own p calls frames r) (sym (no_slots (plan_of p).slots.kind (plan_of p).slots.value r)))
         (exc_clear_one p ok leads args both.graph.types (waits_own p calls frames) ops (ops_of (around_of (plan_of p) both.graph.types) ops e) e (exit_of (around_of (plan_of p) both.graph.types) both.next e) others core.block both.at core both.qcore g h
-        ready.ready.0 ready.ready.1 (record { roots = ready.roots; fits = ready.fits; stands = both.stands; pointing = ready.pointing; counts = both.counts; room = ready.room })))
+        ready.ready.0 ready.ready.1 (record { roots = ready.roots; fits = ready.fits; stands = both.stands; pointing = ready.pointing; counts = both.counts; room = ready.room }))) (one_less p args both.graph op.ExcClear ops e _ _ others _ _))
       where
         null_hits : (k : Option ℕ) (r : Value) → hits_by k Null r ≡ 0
         null_hits None r = refl

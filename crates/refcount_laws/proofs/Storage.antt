@@ -56,6 +56,17 @@ use Rattle.refcount_laws.proofs.Copying.{owned_has}
 use Rattle.csub_tree.specs.Statement.{stored}
 use Rattle.refcount_transform.specs.Plan.{counts_at, field_referred, put_of, field_number}
 use Rattle.refcount_transform.specs.Changes.{set_field_by}
+use Rattle.refcount_laws.specs.Ready.{KeepsNumber}
+use Rattle.ll_code.specs.State.{Goes}
+use Rattle.ll_code.specs.Machine.{goes_on}
+use Rattle.refcount_laws.specs.Ghost.{Fixed, Alone, F, fixed_at, shown_fixed}
+use Rattle.refcount_laws.specs.Matches.{NearStatic}
+use Rattle.refcount_laws.proofs.Members.{counted_alike}
+use Rattle.refcount_laws.proofs.Alike.{place_same}
+use Rattle.refcount_laws.proofs.Leading.{static_there}
+use Rattle.refcount_laws.proofs.Steps.{put_step}
+use Rattle.refcount_laws.proofs.FixedWrites.{fixed_counted, fixed_memory, fixed_near, fixed_pointing}
+use Rattle.std.specs.Prelude.{pos}
 use Rattle.refcount_laws.specs.Graphs.{Reference, StandsWith, IsField, put_block, put_types}
 use Rattle.refcount_laws.specs.Ghost.{written, Apart, OnceIn}
 use Rattle.refcount_laws.proofs.Given.{room_for}
@@ -115,7 +126,7 @@ module _ (p : LlProgram) (based : Based p.structs) (counting : Counting (counted
   abbrev around : Around
   around = around_of plan types
 
-  module _ (n v i : ℕ) (x : COperand) (t : LlType) (is_field : field_of (slice_get p.structs n) i ≡ Some t) (beside : (kind m : ℕ) → c.items kind ≡ Some m → c.number_at kind ≢ place (shape_at (shapes_of p.structs) n) i) where
+  module _ (n v i : ℕ) (x : COperand) (t : LlType) (is_field : field_of (slice_get p.structs n) i ≡ Some t) (keeps : KeepsNumber p core n v i x) where
     abbrev o : LlOp
     o = op.SetField n v i x
 
@@ -170,8 +181,10 @@ module _ (p : LlProgram) (based : Based p.structs) (counting : Counting (counted
         let is_none : reference_to plan.counted t ≡ None =
         ap (reference_given plan.counted) (sym (ap (λ l. slice_get (fields_given l) (place_of plan n i)) cs.is ∙ ap (slice_get cs.s.fields) spot.of ∙ spot.there)) ∙ none in
         let apart : Apart r (c.held st_kind.kind) = field_apart p based n cs.s cs.is cn r spot.j t spot.at spot.there st_kind.kind whole.counted of_w is_none in
-        let side : (m : ℕ) → c.items st_kind.kind ≡ Some m → c.number_at st_kind.kind ≢ spot_at = λ m f. beside st_kind.kind m f in
         let value : Value = operand core.vars x in
+        let near_w : NearBlock block (record { kind = st_kind.kind; fields = st_kind.fields; items = st_kind.items }) = subst (λ d. NearBlock block d) (ap bare st_kind.is) (subst (λ b. NearBlock b (bare_at g.blocks a)) same near.2) in
+        let side : (m : ℕ) → c.items st_kind.kind ≡ Some m → c.number_at st_kind.kind ≡ spot_at → value ≡ Word (pos (length st_kind.items)) = λ m f q.
+        keeps a m block is_a is of (ap c.items kind_same ∙ f) (ap c.number_at kind_same ∙ q) ∙ ap (λ k. Word (pos k)) near_w.items.size in
         comes_before p based counting args types roots own (op.SetField n v i x) ops rest e ex frames b (live ops e) (q_here (op.SetField n v (shifted plan n i) x ∷ behind))
         (At behind ex frames (here qcore core.function b (at + 1) core.vars (slice_set h a (shown c (S (suc st_kind.n) st_kind.kind (slice_set st_kind.fields spot_at value) st_kind.items))) (memory (written g a (S (suc st_kind.n) st_kind.kind (slice_set st_kind.fields spot_at value) st_kind.items)))))
         (core_after a block)
@@ -188,10 +201,56 @@ module _ (p : LlProgram) (based : Based p.structs) (counting : Counting (counted
         (plain_points p based counting args types roots own ops rest e ex frames b core qcore g h at fits stands k room had n a block is of alive_a counts i x value refl set v is_a r refl apart side behind (live (op.SetField n v i x ∷ ops) e) pointing)
         (plain_counts p based counting args types roots own ops rest e ex frames b core qcore g h at fits stands k room had n a block is of alive_a counts i x value refl set v is_a r refl apart side behind))
 
-    pub set_plain_followed : field_referred plan n i ≡ None → ((s : ℕ) → read core.vars v ≡ Static s → ⊥)
+    -- a field that is no reference, of a static
+    plain_static : is_counted plan n ≡ true → (s : ℕ) (block : Block) → read core.vars v ≡ Static s → reached core (shapes_of p.structs) n (Static s) ≡ Ok block → is_unset (operand core.vars x) ≡ false
+        → Pointing p types core.blocks core.statics (live (op.SetField n v i x ∷ ops) e) core.vars → IsCounted q c g (λ r. owned around (live (op.SetField n v i x ∷ ops) e) core.vars r + own r)
+        → Comes p args types (live ops e) own (q_here (op.SetField n v (shifted plan n i) x ∷ behind)) rest ex frames b
+        (record core { at = core.at + 1; statics = slice_set core.statics s (record block { fields = slice_set block.fields spot_at (operand core.vars x) }) })
+    plain_static cn s block is_s found set pointing counts = by (fixed_at g.statics s) refl (stands.near.each_static s block is)
+      where
+        value : Value
+        value = operand core.vars x
+
+        block2 : Block
+        block2 = record block { fields = slice_set block.fields spot_at value }
+
+        core2 : Core
+        core2 = record core { at = core.at + 1; statics = slice_set core.statics s block2 }
+
+        is : slice_get core.statics s ≡ Some block
+        is = reached_there core (shapes_of p.structs) n (Static s) block found
+
+        of : begins_with (shapes_counted plan) block.kind n ≡ true
+        of = sym (begins_same p based block.kind n) ∙ reached_begins p core n (Static s) block found
+
+        by : (d : Fixed) → fixed_at g.statics s ≡ d → NearStatic plan block d → Comes p args types (live ops e) own (q_here (op.SetField n v (shifted plan n i) x ∷ behind)) rest ex frames b core2
+        by (Alone other) at_s near = absurd (let z : true ≡ false = sym (counted_alike p based block.kind n of ∙ cn) ∙ near.1 in cc)
+        by (F m kind fields items) at_s near =
+            let cs : StructAt p.structs n = marked_there p.structs p.graphs 0 p.structs n cn in
+            let fields2 : List Value = slice_set fields spot_at value in
+            let near2 : NearBlock block2 (record { kind = kind; fields = fields2; items = items }) = record { kind = near.0.kind; fields = near_cell block.fields fields spot_at value near.0.fields; items = near.0.items } in
+            let g2 : Ghost = record g { statics = slice_set g.statics s (F m kind fields2 items) } in
+            let end : State = At behind ex frames (here qcore core.function b (at + 1) core.vars h (memory g2)) in
+            let of_kind : begins_with (shapes_counted plan) kind n ≡ true = ap (λ k. begins_with (shapes_counted plan) k n) (sym near.0.kind) ∙ of in
+            comes_before p based counting args types roots own (op.SetField n v i x) ops rest e ex frames b (live ops e) (q_here (op.SetField n v (shifted plan n i) x ∷ behind)) end core2
+            (put_step q args qcore core.function b ex frames n v (shifted plan n i) at x behind core.vars h (memory g) (Static s) value (shown_fixed (F m kind fields items)) end is_s refl refl set (static_there g.statics s m kind fields items at_s) of_kind
+            (ap (λ j. goes_on (At behind ex frames) (stored (here qcore core.function b at core.vars h (memory g)) (Static s) (record { kind = kind; fields = slice_set (Word (pos m) ∷ Null ∷ fields) j value; items = items }))) (place_same p based n i cs.s cs.is cn)
+            ∙ ap (λ l. Goes (At behind ex frames (here qcore core.function b (at + 1) core.vars h l))) (fixed_memory q c g s m kind fields items fields2 items at_s)))
+            (effect_end p based counting args types roots own (op.SetField n v i x) ops rest e ex frames b core2 qcore g2 h (at + 1) refl fits
+            (record {
+              near = fixed_near p core.blocks core.statics g s m kind fields items fields2 items at_s block block2 is refl stands.near near2 near.1;
+              shown = stands.shown;
+              steps = stands.steps;
+              exc_type = stands.exc_type;
+              exc_value = stands.exc_value;
+            })
+            (fixed_pointing p core.blocks core.statics g s m kind fields items fields2 items at_s block block2 is refl types (live (op.SetField n v i x ∷ ops) e) core.vars pointing)
+            (fixed_counted q c g s m kind fields items fields2 items at_s (λ r. owned around (live (op.SetField n v i x ∷ ops) e) core.vars r + own r) counts))
+
+    pub set_plain_followed : field_referred plan n i ≡ None → is_counted plan n ≡ true
         → Pointing p types core.blocks core.statics (live (op.SetField n v i x ∷ ops) e) core.vars → IsCounted q c g (λ r. owned around (live (op.SetField n v i x ∷ ops) e) core.vars r + own r)
         → Follows p args types (live ops e) own (q_here (changed around (op.SetField n v i x) behind)) rest ex frames b (does p args core (op.SetField n v i x))
-    set_plain_followed none in_block pointing counts =
+    set_plain_followed none cn pointing counts =
         subst (λ l. Follows p args types (live ops e) own (q_here l) rest ex frames b (does p args core (op.SetField n v i x))) (sym (ap (λ r. set_field_by plan n v i x r ∷ behind) none))
         (set (is_unset (operand core.vars x)) refl)
       where
@@ -203,7 +262,7 @@ module _ (p : LlProgram) (based : Based p.structs) (counting : Counting (counted
         at_pointer (Flag z) is y block found = tt
         at_pointer (Fun z) is y block found = tt
         at_pointer Null is y block found = tt
-        at_pointer (Static s) is y block found = absurd (in_block s is)
+        at_pointer (Static s) is y block found = plain_static cn s block is found y pointing counts
         at_pointer (Ptr a) is y block found = plain_block none a block is found y pointing counts
 
         by : (r : Result Block StuckReason) → reached core (shapes_of p.structs) n (read core.vars v) ≡ r → is_unset (operand core.vars x) ≡ false
@@ -254,7 +313,7 @@ module _ (p : LlProgram) (based : Based p.structs) (counting : Counting (counted
         let value : Value = operand core.vars x in
         let lead : LeadsTo q g m value = value_leads p based counting args types roots core.blocks core.statics g stands.near m value (reference_marked plan.counted t m refer) root_m points in
         let put : Done q args c (written g a (S (suc d.n) d.kind (slice_set d.fields r.at value) d.items)) had (q_here (op.Call None (put_of plan n i) (Var v ∷ x ∷ []) ∷ behind)) (λ h' s'. At behind ex frames (here qcore core.function b (at + 1) core.vars h' s')) =
-        put_done q args c counting r (put_of plan n i) stand g h had a d.n d.kind d.fields d.items d.is field once (λ m2 f q. beside d.kind m2 f (q ∙ at_r)) value stands.shown counts (omega (arith, owned_a)) lead
+        put_done q args c counting r (put_of plan n i) stand g h had a d.n d.kind d.fields d.items d.is field once (λ m2 f q. subst (PointsTo p core.blocks core.statics m) (keeps a m2 block is_a is of (ap c.items both.kind ∙ f) (ap c.number_at both.kind ∙ q ∙ at_r)) points) value stands.shown counts (omega (arith, owned_a)) lead
         (room_for q c g had k value counts room alive_x) qcore core.function b ex frames (Var v) x at behind core.vars is_a refl in
         let block2 : Block = record block { fields = slice_set block.fields spot_at value } in
         let near2 : NearBlock block2 (record { kind = d.kind; fields = slice_set d.fields r.at value; items = d.items }) =

@@ -1,5 +1,5 @@
 -- What follows an exit of a counted program.
-use Rattle.std.specs.Prelude.{◌≡◌, ℕ, suc, ◌+◌, not, ◌&&◌, Bool, true, false, List, [], ◌∷◌, slice_get, Option, Some}
+use Rattle.std.specs.Prelude.{◌≡◌, ◌<◌, ℕ, suc, ◌+◌, not, ◌&&◌, Bool, true, false, List, [], ◌∷◌, slice_get, Option, Some}
 use Rattle.csub_tree.specs.State.{Value, Block, Core}
 use Rattle.csub_tree.specs.Statement.{operand, operands, any_unset}
 use Rattle.csub_tree.specs.Operation.{is_unset}
@@ -76,7 +76,7 @@ pub record GivesBack (p : LlProgram) (args : List (List ℕ)) (value : Value) (o
 abbrev pub Leaves : LlProgram → List (List ℕ) → LlGraph → (Value → ℕ) → State → List Frame → Next → Type 0
 Leaves p args graph own from frames (Goes (At ops ex waiting core)) =
     (next : ℕ) × From (blocks_of (around_of (plan_of p) graph.types) graph.blocks) next (behind_exit (around_of (plan_of p) graph.types) ex)
-    × Comes p args graph.types (live ops ex) own from (ops_of (around_of (plan_of p) graph.types) ops ex) (exit_of (around_of (plan_of p) graph.types) next ex) frames core.block core
+    × (x : Comes p args graph.types (live ops ex) own from (ops_of (around_of (plan_of p) graph.types) ops ex) (exit_of (around_of (plan_of p) graph.types) next ex) frames core.block core) × (0 < x.leads.count)
 Leaves p args graph own from frames (Goes (Returning value waiting core)) = GivesBack p args value (λ r. hits_by (reference_given (plan_of p).counted (Some graph.result)) value r + own r) from frames core
 Leaves p args graph own from frames (Ends outcome core) = (t : State) × (end : Core) × Leads (counted p) args from t × (step (counted p) args t ≡ Ends outcome end) × (end.steps ≡ core.steps)
 Leaves p args graph own from frames (Sticks reason) = Unit {0}

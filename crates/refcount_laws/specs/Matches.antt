@@ -3,6 +3,7 @@ use Rattle.std.specs.Prelude.{◌≡◌, ◌⊎◌, ◌<◌, ℕ, ◌+◌, Bool,
 use Rattle.csub_tree.specs.State.{Value, Unset, Null, Ptr, Static, Block, Core, Made, Freed, After, Onward, Puts as PutsByte, Told, Over, Stuck}
 use Rattle.csub_tree.specs.Layout.{begins_with}
 use Rattle.csub_tree.specs.Statement.{read}
+use Rattle.ll_held.specs.Held.{is_reference}
 use Rattle.ll_code.specs.State.{Frame, State, At, Puts, Tells, Ends}
 use Rattle.ll_code.specs.Machine.{step, shapes_of}
 use Rattle.ll_code.specs.declared.program.LlOp.{LlOp}
@@ -20,9 +21,9 @@ use Rattle.refcount_laws.specs.Owned.{owned}
 
 -- ---- memory
 
--- a cell: what is unset in the program may be NULL
+-- a cell: what is unset in the program may be NULL, or a number
 abbrev pub Near : Value → Value → Type 0
-Near x y = (x ≡ y) ⊎ ((x ≡ Unset) × (y ≡ Null))
+Near x y = (x ≡ y) ⊎ ((x ≡ Unset) × (is_reference y ≡ false))
 
 pub record AllNear (xs ys : List Value) : Type 0 where
   pub size : length xs ≡ length ys

@@ -115,9 +115,9 @@ pub record ComesFor (p : LlProgram) (args : List (List ℕ)) (from to : State) :
   pub leads : Leads (counted p) args from state
   pub stands : StandsFor p calls others to state g h
 
--- a step that the program takes, in the counted one: the same output, and the same block made, with its count and release; the same ending, with as many steps left
+-- a step that the program takes, in the counted one, which takes a step of its own at least: the same output, and the same block made, with its count and release; the same ending, with as many steps left
 abbrev pub NextStands : LlProgram → List (List ℕ) → State → Next → Type 0
-NextStands p args s (Goes to) = ComesFor p args s to
+NextStands p args s (Goes to) = (x : ComesFor p args s to) × (0 < x.leads.count)
 NextStands p args s (Puts byte to) = (t : State) × (later : State) × Leads (counted p) args s t × (step (counted p) args t ≡ Puts byte later) × ComesFor p args later to
 NextStands p args s (Tells (Made number kind cells) to) = (t : State) × (later : State) × Leads (counted p) args s t × (step (counted p) args t ≡ Tells (Made number kind (cells + 2)) later) × ComesFor p args later to
 NextStands p args s (Tells (Freed number) to) = ⊥

@@ -7,7 +7,7 @@ ghost use Rattle.ll_code.specs.Machine.{shapes_of, start, step};
 ghost use Rattle.ll_code.specs.declared.program.LlStruct.{LlStruct};
 ghost use Rattle.csub_tree.specs.declared.tree.COperand.{COperand};
 ghost use Rattle.ll_code.specs.State.{Frame, State, At};
-ghost use Rattle.ll_code.specs.Meaning.{Meant, run, within, comes};
+ghost use Rattle.ll_code.specs.Meaning.{Meant, LMeans, RunsOn, run, within, comes};
 ghost use Rattle.csub_tree.specs.Meaning.{made_in};
 ghost use Rattle.ll_held.specs.Quiet.{ReadsInputs};
 ghost use Rattle.ll_held.specs.Held.{Held as IsHeld, Reaches};
@@ -102,17 +102,20 @@ pub fn steps_are_followed()
 /// with the same output and steps left, or to a state that stands for the one that the program comes
 /// to; the same blocks are made.
 pub fn runs_are_followed()
-    ensures { (p : LlProgram) → IsWellTyped p → leads_to_roots p ≡ true → ReadsInputs p → (args : List (List ℕ)) (k : ℕ) (calls : List Call) (others : List Frame) (s t : State) (g : Ghost) (h : List (Option Block)) (text : List ℕ) (events told : List Event) → StandsFor p calls others s t g h → ReadyAlong p args k s → made_in events ≡ map wider (made_in told) → RunStands p args t text events (run p args k s text told) }
+    ensures { (p : LlProgram) → IsWellTyped p → leads_to_roots p ≡ true → ReadsInputs p → (args : List (List ℕ)) (k : ℕ) (calls : List Call) (others : List Frame) (s t : State) (g : Ghost) (h : List (Option Block)) (text : List ℕ) (events told : List Event) → StandsFor p calls others s t g h → ReadyAlong p args k s → made_in events ≡ map wider (made_in told) → RunStands p args k t text events (run p args k s text told) }
 {}
 
 /// A counted program means what its program does, for arguments and a number of steps with which each
 /// state of the run is ready and the run ends: it ends the same way, with the same output and steps
 /// paid, and makes the same blocks, each two cells larger; with no bound on the steps of the machine
-/// does it end otherwise, so it is not stuck there. Where it starts, counts are right: each
-/// static that is counted has a count of one, and there are no blocks.
+/// does it end otherwise, so it is not stuck there. Where each state of the run is ready, the counted
+/// program ends only where the program does, and runs on where that runs on. Where it starts, counts are
+/// right: each static that is counted has a count of one, and there are no blocks.
 pub fn counted_programs_mean_the_same()
     ensures starts { (p : LlProgram) → IsWellTyped p → (steps : ℕ) → Starts p steps }
     ensures means { (p : LlProgram) → IsWellTyped p → leads_to_roots p ≡ true → ReadsInputs p → (args : List (List ℕ)) (steps k : ℕ) (m : Meant) → ReadyAlong p args k (start p steps) → within p args steps k ≡ Some m → comes m.ending → SameMeaning p args steps m }
+    ensures back { (p : LlProgram) → IsWellTyped p → leads_to_roots p ≡ true → ReadsInputs p → (args : List (List ℕ)) (steps : ℕ) → ((k : ℕ) → ReadyAlong p args k (start p steps)) → ((m : Meant) → LMeans p args steps m → comes m.ending) → (last : Meant) → LMeans (counted p) args steps last → (m : Meant) × LMeans p args steps m × SameMeaning p args steps m }
+    ensures on { (p : LlProgram) → IsWellTyped p → leads_to_roots p ≡ true → ReadsInputs p → (args : List (List ℕ)) (steps : ℕ) → ((k : ℕ) → ReadyAlong p args k (start p steps)) → ((k : ℕ) → RunsOn k p args steps) → (k : ℕ) → RunsOn k (counted p) args steps }
 {}
 
 /// Each block that is there in a state of the counted program which stands for one of the program is

@@ -13,7 +13,7 @@ use Rattle.std.specs.Prelude.{slice_get}
 use Rattle.ll_live.specs.Live.{among, variables_in, reads, set_by, live}
 use Rattle.refcount_transform.specs.declared.plan.Held.{Held}
 use Rattle.refcount_transform.specs.declared.slots.Slots.{Slots}
-use Rattle.refcount_transform.specs.Plan.{Plan, counts_at, root_of, referred, reference_given, is_counted, shifted, field_referred, items_referred, put_of, held_of, own_some}
+use Rattle.refcount_transform.specs.Plan.{Plan, counts_at, root_of, referred, reference_given, is_counted, shifted, field_number, field_referred, items_referred, put_of, held_of, own_some}
 use Rattle.refcount_transform.specs.Made.{call, null, word}
 
 -- ---- what is the same for all blocks of a graph
@@ -74,9 +74,9 @@ header plan v n rest = header_by plan v n (is_counted plan n) rest
 
 abbrev pub cleared_by : Plan → ℕ → ℕ → COperand → Option ℕ → List LlOp → List LlOp
 cleared_by plan v n count None rest = rest
-cleared_by plan v n count (Some m) rest = call ((counts_at plan n).items + 1) (Var v ∷ count ∷ []) ∷ rest
+cleared_by plan v n count (Some m) rest = op.SetField n v (field_number plan n 0) count ∷ call ((counts_at plan n).items + 1) (Var v ∷ count ∷ []) ∷ rest
 
--- and so do so many items
+-- where its items are references it has their number, which its release reads, and they refer to nothing
 abbrev pub cleared : Plan → ℕ → ℕ → COperand → List LlOp → List LlOp
 cleared plan v n count rest = cleared_by plan v n count (items_referred plan n) rest
 

@@ -6,8 +6,8 @@ ghost use Rattle.refcount_transform.specs.Seen.{the_plan, the_graph};
 
 use crate::copies::{copy_operands, copy_types};
 use crate::plan::{
-    Held, Plan, add, counts_at, field_referred, held_of, is_counted, items_referred, put_of,
-    reference_given, referred, root_of, shifted,
+    Held, Plan, add, counts_at, field_number, field_referred, held_of, is_counted, items_referred,
+    put_of, reference_given, referred, root_of, shifted,
 };
 use crate::slots::{Slots, own_some};
 use csub_tree::{CConst, COperand};
@@ -133,6 +133,8 @@ fn push_header(
     push_nulls(v, held.as_slice(), into)
 }
 
+// Where the items are references, their number stands in its field, as their release reads it, and they are
+// NULL.
 fn push_cleared(
     alloc: Global,
     plan: Plan<'_>,
@@ -146,6 +148,8 @@ fn push_cleared(
     match items_referred(plan, n) {
         None => Ok(()),
         Some(_) => {
+            let number = field_number(plan, n, 0)?;
+            into.push(LlOp::SetField(n, v, number, count))?;
             let clear = add(counts_at(plan, n).items, 1)?;
             push_call(alloc, clear, &[COperand::Var(v), count], into)
         }

@@ -23,6 +23,7 @@ use Rattle.refcount_transform.specs.Blocks.{left, way_ops, way_link, way_block, 
 use Rattle.refcount_transform.specs.Counted.{counted}
 use Rattle.refcount_laws.specs.Made.{is_root_given, all_lead, leads_to_roots}
 use Rattle.refcount_laws.proofs.Numbers.{length_two, get_left, get_right}
+use Rattle.refcount_typed.specs.Numbered.{HasNumbers}
 use Rattle.refcount_typed.specs.Leads.{op_leads, ops_lead, blocks_lead, graphs_lead}
 use Rattle.refcount_typed.proofs.Tests.{and_both}
 use Rattle.refcount_typed.proofs.Structs.{items_same}
@@ -62,7 +63,7 @@ block_at around bs n b e =
       is = get_left (firsts around (length bs) bs) (others around bs) n (let l : length (firsts around (length bs) bs) ≡ length bs = firsts_long around (length bs) bs in omega (arith, l, inside bs n b e)) ∙ w.is;
     }
 
-module _ (p : LlProgram) (ok : IsWellTyped p) (explicit : p.stage ≡ stage.Explicit) (leads : leads_to_roots p ≡ true) (graphs_do : graphs_lead (plan_of p) p.graphs ≡ true) where
+module _ (p : LlProgram) (ok : IsWellTyped p) (explicit : p.stage ≡ stage.Explicit) (leads : leads_to_roots p ≡ true) (graphs_do : graphs_lead (plan_of p) p.graphs ≡ true) (numbers : HasNumbers p) where
   abbrev plan : Plan
   plan = plan_of p
 
@@ -185,7 +186,7 @@ module _ (p : LlProgram) (ok : IsWellTyped p) (explicit : p.stage ≡ stage.Expl
         → Fine (ops_of around ops e)
     ops_fine [] e h l mine i = leaving_fine e i
     ops_fine (o ∷ ops) e h l mine i =
-        changed_fine p ok explicit leads graphs_do g.types lead o (and_left _ _ h) (and_left _ _ l) (λ r m. mine r (or_first (has_root p.structs r (made_by o)) (ops_make p.structs r ops) m)) (dead around (touched o) ops e (ops_of around ops e))
+        changed_fine p ok explicit leads graphs_do numbers g.types lead o (and_left _ _ h) (and_left _ _ l) (λ r m. mine r (or_first (has_root p.structs r (made_by o)) (ops_make p.structs r ops) m)) (dead around (touched o) ops e (ops_of around ops e))
         (dead_fine p ok leads g.types lead (touched o) ops e (ops_of around ops e)
         (ops_fine ops e (and_right (operation_ok p g.types o) _ h) (and_right (op_leads plan g.types o) _ l) (λ r m. mine r (or_second (has_root p.structs r (made_by o)) (ops_make p.structs r ops) m)) i))
 

@@ -20,6 +20,8 @@ use Rattle.refcount_transform.specs.Plan.{Plan, plan_of, made_by, has_root, grap
 use Rattle.refcount_transform.specs.Changes.{Around, around_of, up, header, cleared, set_field, set_item, exc_clear, emptied, changed}
 use Rattle.refcount_transform.specs.Counted.{counted}
 use Rattle.refcount_laws.specs.Made.{all_lead, leads_to_roots}
+use Rattle.refcount_typed.specs.Numbered.{HasNumbers}
+use Rattle.refcount_typed.proofs.Numbering.{number_typed}
 use Rattle.refcount_typed.specs.Leads.{op_leads, graph_leads, graphs_lead}
 use Rattle.refcount_typed.proofs.Tests.{and_both, equals}
 use Rattle.refcount_typed.proofs.Structs.{structs_many, items_same}
@@ -38,7 +40,7 @@ points_of (Some type.Void) n h = absurd (cc)
 points_of (Some type.Fn) n h = absurd (cc)
 points_of (Some (type.Ptr m)) n h = refl
 
-module _ (p : LlProgram) (ok : IsWellTyped p) (explicit : p.stage ≡ stage.Explicit) (leads : leads_to_roots p ≡ true) (graphs_do : graphs_lead (plan_of p) p.graphs ≡ true) where
+module _ (p : LlProgram) (ok : IsWellTyped p) (explicit : p.stage ≡ stage.Explicit) (leads : leads_to_roots p ≡ true) (graphs_do : graphs_lead (plan_of p) p.graphs ≡ true) (numbers : HasNumbers p) where
   abbrev plan : Plan
   plan = plan_of p
 
@@ -173,7 +175,7 @@ module _ (p : LlProgram) (ok : IsWellTyped p) (explicit : p.stage ≡ stage.Expl
         let lt : n < length p.structs = in_begins n m (and_right (has_type (type.Ptr m) (slice_get types a)) _ (and_left _ _ (and_left _ _ h))) in
         more (op.NewArray a m n x) (header plan a n (cleared plan a n x rest)) (new_array_kept a m n x h)
         (header_fine p ok explicit leads types lead a n (cleared plan a n x rest) (points_of (slice_get types a) m (and_left _ _ (and_left _ _ (and_left _ _ h))))
-        (cleared_fine p ok explicit leads types lead a n x rest (counted_one n lt mine) l (taken_kept p types type.Signed x size) k))
+        (cleared_fine p ok explicit leads types lead a n x rest (counted_one n lt mine) l (points_of (slice_get types a) m (and_left _ _ (and_left _ _ (and_left _ _ h)))) (number_typed p numbers n) (taken_kept p types type.Signed x size) k))
     changed_fine (op.Free a) h l mine rest k = absurd (let f : true ≡ false = no_stage (rules.is_counted p.stage) (points (slice_get types a)) (ap rules.is_counted explicit) h in cc)
     changed_fine (op.Step x) h l mine rest k = more (op.Step x) rest (taken_kept p types type.Signed x h) k
     changed_fine (op.Call into f xs) h l mine rest k =

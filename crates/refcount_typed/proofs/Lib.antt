@@ -2,6 +2,7 @@ pub mod Blocks
 pub mod Calls
 pub mod Changed
 pub mod Fields
+pub mod Numbering
 pub mod Heads
 pub mod Items
 pub mod Kept

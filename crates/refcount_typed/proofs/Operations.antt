@@ -15,7 +15,7 @@ use Rattle.ll_code.specs.declared.program.LlProgram.{LlProgram}
 use Rattle.ll_code.specs.Typed.{IsWellTyped, base_of, items_of, field_of, own_field, has_type, takes, given_takes, points, operation_ok, operations_ok}
 use Rattle.ll_laws.proofs.Values.{and_left}
 use Rattle.refcount_transform.specs.declared.plan.Held.{Held}
-use Rattle.refcount_transform.specs.Plan.{Plan, plan_of, reference_given, fields_given, fields_of, place_behind, place_of, field_referred, items_referred, put_of, held_of, is_counted, counts_at, root_of, shifted, own_some}
+use Rattle.refcount_transform.specs.Plan.{Plan, plan_of, reference_given, fields_given, fields_of, field_number, place_behind, place_of, field_referred, items_referred, put_of, held_of, is_counted, counts_at, root_of, shifted, own_some}
 use Rattle.refcount_transform.specs.Made.{call, null, word, put_item_graph, clear_graph, slots_graph}
 use Rattle.refcount_transform.specs.Changes.{Around, around_of, nulls, header, header_by, cleared, cleared_by, set_field, set_field_by, set_item, set_item_by, exc_clear, exc_clear_by, emptied, emptied_by}
 use Rattle.refcount_transform.specs.Counted.{counted}
@@ -97,16 +97,18 @@ module _ (p : LlProgram) (ok : IsWellTyped p) (explicit : p.stage ≡ stage.Expl
             ∙ is_below (counts_at plan n).release (length (counted p).graphs) (inside (counted p).graphs (counts_at plan n).release s.graph s.there)))
             (nulls_fine v pt (held_of plan n) rest (held_right p leads n) k))
 
-    pub cleared_fine : (v n : ℕ) (x : COperand) (rest : List LlOp) → is_counted plan n ≡ true → stands_in_root plan types n v (items_referred plan n) ≡ true → takes (counted p) types type.Signed x ≡ true → Fine rest
-        → Fine (cleared plan v n x rest)
-    cleared_fine v n x rest c r h k = by (items_referred plan n) refl r
+    pub cleared_fine : (v n : ℕ) (x : COperand) (rest : List LlOp) → is_counted plan n ≡ true → stands_in_root plan types n v (items_referred plan n) ≡ true → points (slice_get types v) ≡ true
+        → ((m : ℕ) → items_referred plan n ≡ Some m → field_of (slice_get (counted p).structs n) (field_number plan n 0) ≡ Some type.Signed) → takes (counted p) types type.Signed x ≡ true → Fine rest → Fine (cleared plan v n x rest)
+    cleared_fine v n x rest c r pt number h k = by (items_referred plan n) refl r
       where
         by : (o : Option ℕ) → items_referred plan n ≡ o → stands_in_root plan types n v o ≡ true → Fine (cleared_by plan v n x o rest)
         by None e r = k
         by (Some m) e r =
-            more (call ((counts_at plan n).items + 1) (Var v ∷ x ∷ [])) rest
+            more (op.SetField n v (field_number plan n 0) x) (call ((counts_at plan n).items + 1) (Var v ∷ x ∷ []) ∷ rest)
+            (and_both (points (slice_get types v)) (given_takes (counted p) types (field_of (slice_get (counted p).structs n) (field_number plan n 0)) x) pt (ap (λ o. given_takes (counted p) types o x) (number m e) ∙ h))
+            (more (call ((counts_at plan n).items + 1) (Var v ∷ x ∷ [])) rest
             (call_given p ok leads types ((counts_at plan n).items + 1) (clear_graph plan n) (clear_graph plan n).types (0 ∷ 1 ∷ []) (Var v ∷ x ∷ []) (clear_there p based n m c e) refl refl
-            (and_both (has_type (type.Ptr (root_of plan n)) (slice_get types v)) _ r (and_both (takes (counted p) types type.Signed x) true h refl))) k
+            (and_both (has_type (type.Ptr (root_of plan n)) (slice_get types v)) _ r (and_both (takes (counted p) types type.Signed x) true h refl))) k)
 
     -- ---- writes
 

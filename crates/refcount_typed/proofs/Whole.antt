@@ -30,6 +30,7 @@ use Rattle.refcount_typed.proofs.Fields.{given_is, given_root, placed, AllRight,
 use Rattle.refcount_typed.proofs.Calls.{lead_at}
 use Rattle.refcount_typed.proofs.Roots.{counted_inside, root_counted, count_field, release_field}
 use Rattle.refcount_typed.proofs.Operations.{based, graph_there}
+use Rattle.refcount_typed.proofs.Numbering.{number_typed}
 use Rattle.refcount_typed.proofs.Blocks.{blocks_fine}
 use Rattle.refcount_typed.proofs.Made.{Inside, up_good, down_good, clear_good, put_good, put_item_good, slots_good}
 use Rattle.refcount_typed.proofs.Released.{AllInside, plain_good, items_good}
@@ -116,7 +117,7 @@ module _ (p : LlProgram) (ok : IsWellTyped p) (explicit : p.stage ≡ stage.Expl
       ∙ ap (λ b. ((is_name g.name && are_kinds p.structs g.types) && b) && params_ok (counted p) g.types 0 g.params) (kind_same p g.result)
       ∙ ap (λ b. ((is_name g.name && are_kinds p.structs g.types) && is_kind p.structs g.result) && b) (params_same g.types 0 g.params) ∙ four)
       (some_block g (and_right (((is_name g.name && are_kinds p.structs g.types) && is_kind p.structs g.result) && params_ok p g.types 0 g.params) _ five)))
-      (blocks_fine p ok explicit leads graphs_do g (and_left _ _ (and_left _ _ l)) (and_right (all_lead plan g.types) _ (and_left _ _ l))
+      (blocks_fine p ok explicit leads graphs_do numbers g (and_left _ _ (and_left _ _ l)) (and_right (all_lead plan g.types) _ (and_left _ _ l))
       (and_right ((((is_name g.name && are_kinds p.structs g.types) && is_kind p.structs g.result) && params_ok p g.types 0 g.params) && nat_lt 0 (length g.blocks)) _ h)
       (and_right (all_lead plan g.types && is_root_given plan (referred plan g.result)) _ l) within)
 
@@ -174,23 +175,6 @@ module _ (p : LlProgram) (ok : IsWellTyped p) (explicit : p.stage ≡ stage.Expl
     items_typed : (m : ℕ) → items_referred plan n ≡ Some m → items_of (slice_get (counted p).structs n) ≡ Some (type.Ptr m)
     items_typed m e = items_same p n ∙ given_is plan.counted (items_of (slice_get p.structs n)) m e
 
-    number_typed : (m : ℕ) → items_referred plan n ≡ Some m → field_of (slice_get (counted p).structs n) (field_number plan n 0) ≡ Some type.Signed
-    number_typed m e = placed p n 0 ∙ signed (slice_get (fields_of plan n) 0) (ap (number_first (fields_of plan n)) (sym e) ∙ numbered p.structs n numbers)
-      where
-        numbered : (ss : List LlStruct) (j : ℕ) → structs_numbered plan ss ≡ true → number_first (fields_given (slice_get ss j)) (reference_given plan.counted (items_of (slice_get ss j))) ≡ true
-        numbered [] j h = refl
-        numbered (s ∷ ss) zero h = and_left _ _ h
-        numbered (s ∷ ss) (suc j) h = numbered ss j (and_right _ _ h)
-
-        signed : (o : Option LlType) → has_type type.Signed o ≡ true → o ≡ Some type.Signed
-        signed None h = absurd (cc)
-        signed (Some type.Signed) h = refl
-        signed (Some type.Char) h = absurd (cc)
-        signed (Some type.Bool) h = absurd (cc)
-        signed (Some type.Void) h = absurd (cc)
-        signed (Some type.Fn) h = absurd (cc)
-        signed (Some (type.Ptr n)) h = absurd (cc)
-
     release_kept : graph_ok (counted p) (release_graph plan n) ≡ true
     release_kept = by (items_referred plan n) refl
       where
@@ -200,7 +184,7 @@ module _ (p : LlProgram) (ok : IsWellTyped p) (explicit : p.stage ≡ stage.Expl
         by : (o : Option ℕ) → items_referred plan n ≡ o → graph_ok (counted p) (release_by plan n (held_of plan n) o) ≡ true
         by None e = plain_good p ok leads n (held_of plan n) right (all_inside (held_of plan n) right) (root_inside n c)
         by (Some m) e =
-            items_good p ok leads n m (held_of plan n) right (items_root m e) (items_typed m e) (number_typed m e) (all_inside (held_of plan n) right) (root_inside n c) (inside_of m (items_root m e).0)
+            items_good p ok leads n m (held_of plan n) right (items_root m e) (items_typed m e) (number_typed p numbers n m e) (all_inside (held_of plan n) right) (root_inside n c) (inside_of m (items_root m e).0)
 
     items_kept : graphs_ok (counted p) (items_made plan n (items_referred plan n)) ≡ true
     items_kept = by (items_referred plan n) refl

@@ -1,0 +1,17 @@
+pub mod Composed
+pub mod Doing
+pub mod Filling
+pub mod Inputs
+pub mod Keeps
+pub mod Leaving
+pub mod Lists
+pub mod Operands
+pub mod Operating
+pub mod Pointers
+pub mod Room
+pub mod Slots
+pub mod Stepping
+pub mod Tests
+pub mod Whole
+pub mod Rows
+pub mod Small

@@ -1,0 +1,3 @@
+pub mod Along
+pub mod Countable
+pub mod Programs
