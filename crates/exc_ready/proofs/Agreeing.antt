@@ -24,7 +24,7 @@ use Rattle.exc_laws.specs.Stands.{around_in, explicit_graph}
 use Rattle.exc_laws.proofs.Tests.{and_both, or_first, or_second, equals, get_left}
 use Rattle.exc_ready.specs.Raisable.{root_of, slots_for, is_exception, ops_raisable, exit_raises_alike, block_raisable, blocks_raisable, graph_raisable, graphs_raisable, takes_params, reads_inputs, IsRaisable}
 use Rattle.exc_ready.proofs.Passes.{is_not}
-use Rattle.exc_ready.proofs.Made.{ops_all, blocks_all, AllFirst, made_all, More, Types, Excepts, HasTests, has_tests, Accepts, Own, Rest, rest_next, way_all, piece_all}
+use Rattle.exc_ready.proofs.Made.{ops_all, blocks_all, AllFirst, made_all, More, Types, Excepts, HasTests, has_tests, Accepts, Own, OwnAll, graph_holds}
 
 ops_are : (slots : Slots) (types : List LlType) (ops : List LlOp) → ops_all (op_agrees slots types) ops ≡ true → ops_agree slots types ops ≡ true
 ops_are slots types [] h = refl
@@ -58,57 +58,46 @@ module _ (p : LlProgram) (ok : IsWellTyped p) (raw : p.stage ≡ stage.Raw) wher
 
   -- ---- some exception is raised or caught
 
-  module _ (g : LlGraph) where
-    typed_more : (v : ℕ) → Excepts p g v → slice_get (Types p g) v ≡ Some (type.Ptr (root_of p))
-    typed_more v h = get_left g.types (More p g) v (type.Ptr (root_of p)) (has_type_is (type.Ptr (root_of p)) (slice_get g.types v) h)
+  abbrev Any : List LlOp → LlExit → Type 0
+  Any ops e = Unit {0}
 
-    is_root : (v : ℕ) → Excepts p g v → has_type (type.Ptr (root_of p)) (slice_get (Types p g) v) ≡ true
+  any_next : (o : LlOp) (ops : List LlOp) (e : LlExit) → Any (o ∷ ops) e → Any ops e
+  any_next o ops e h = tt
+
+  module _ (g : LlGraph) where
+    typed_more : (v : ℕ) → Excepts p Any any_next g v → slice_get (Types p Any any_next g) v ≡ Some (type.Ptr (root_of p))
+    typed_more v h = get_left g.types (More p Any any_next g) v (type.Ptr (root_of p)) (has_type_is (type.Ptr (root_of p)) (slice_get g.types v) h)
+
+    is_root : (v : ℕ) → Excepts p Any any_next g v → has_type (type.Ptr (root_of p)) (slice_get (Types p Any any_next g) v) ≡ true
     is_root v h = ap (has_type (type.Ptr (root_of p))) (typed_more v h) ∙ equals (root_of p) (root_of p) refl
 
-    accepts : Accepts p g (op_agrees (slots_for p) (Types p g))
+    accepts : Accepts p Any any_next g (op_agrees (slots_for p) (Types p Any any_next g))
     accepts = record {
-      alone = λ v e h. and_both (has_type (type.Ptr (kind_of (exceptions_of p))) (slice_get (Types p g) v)) (has_type (type.Ptr (root_of p)) (slice_get (Types p g) v))
-          (ap (λ o. has_type (type.Ptr (or_else (root_of p) o)) (slice_get (Types p g) v)) e ∙ is_root v h) (is_root v h);
+      alone = λ v e h. and_both (has_type (type.Ptr (kind_of (exceptions_of p))) (slice_get (Types p Any any_next g) v)) (has_type (type.Ptr (root_of p)) (slice_get (Types p Any any_next g) v))
+          (ap (λ o. has_type (type.Ptr (or_else (root_of p) o)) (slice_get (Types p Any any_next g) v)) e ∙ is_root v h) (is_root v h);
       names = λ t n v e h. refl;
-      puts = λ t v h. and_both (has_type (type.Ptr (kind_of (exceptions_of p))) (slice_get (Types p g) (length g.types))) (has_type (type.Ptr (root_of p)) (slice_get (Types p g) v))
+      puts = λ t v h. and_both (has_type (type.Ptr (kind_of (exceptions_of p))) (slice_get (Types p Any any_next g) (length g.types))) (has_type (type.Ptr (root_of p)) (slice_get (Types p Any any_next g) v))
           (ap (has_type (type.Ptr (kind_of (exceptions_of p)))) t.0 ∙ equals (kind_of (exceptions_of p)) (kind_of (exceptions_of p)) refl) (is_root v h);
       asks = λ t. equals (kind_of (exceptions_of p)) (kind_of (exceptions_of p)) refl;
       tests = λ t. refl;
       takes = λ a h. equals (root_of p) (root_of p) refl;
       clears = refl;
-      gives = λ a v h k. refl;
+      gives = λ a v by without other h k. refl;
     }
 
-    own_ops : (ops : List LlOp) (e : LlExit) → ops_raisable (root_of p) g.types ops e ≡ true → operations_ok p g.types ops ≡ true → Own p g (op_agrees (slots_for p) (Types p g)) accepts ops
+    own_ops : (ops : List LlOp) (e : LlExit) → ops_raisable (root_of p) g.types ops e ≡ true → operations_ok p g.types ops ≡ true → Own p Any any_next g (op_agrees (slots_for p) (Types p Any any_next g)) accepts ops
     own_ops [] e h k = tt
-    own_ops (o ∷ ops) e h k = (own_agrees g.types (Types p g) o (is_not (uses_slots o) (and_right _ _ (and_left _ _ (and_left _ _ h)))) (and_left _ _ k), own_ops ops e (and_right _ _ h) (and_right (operation_ok p g.types o) _ k))
+    own_ops (o ∷ ops) e h k = (own_agrees g.types (Types p Any any_next g) o (is_not (uses_slots o) (and_right _ _ (and_left _ _ (and_left _ _ h)))) (and_left _ _ k), own_ops ops e (and_right _ _ h) (and_right (operation_ok p g.types o) _ k))
 
-    abbrev First : List LlBlock → Type 0
-    First blocks =
-        AllFirst (around_in p g) (ops_hold (slots_for p) (Types p g)) (Rest p g (op_agrees (slots_for p) (Types p g)) accepts) (rest_next p g (op_agrees (slots_for p) (Types p g)) accepts)
-        (λ rest e r. way_all p g (op_agrees (slots_for p) (Types p g)) accepts rest e r.end) (λ rest e way r. piece_all p g (op_agrees (slots_for p) (Types p g)) accepts rest e r) blocks
-
-    all_first : (blocks : List LlBlock) → blocks_raisable p g.types blocks ≡ true → blocks_ok p g blocks ≡ true → (raises_within (marks_of p) (any_of p) blocks ≡ true → HasTests p g) → First blocks
-    all_first [] h k t = tt
-    all_first (b ∷ blocks) h k t =
-        let rest : Rest p g (op_agrees (slots_for p) (Types p g)) accepts b.ops b.exit = record {
-          own = own_ops b.ops b.exit (and_right _ _ (and_left _ _ (and_left _ _ h))) (and_left _ _ (and_left _ _ k));
-          raises = and_right _ _ (and_left _ _ (and_left _ _ h));
-          end = and_right _ _ (and_left _ _ h);
-          need = λ f. t (or_first (exit_leaves b.exit || some_raises (marks_of p) (any_of p) b.ops) _ f);
-        } in (
-          rest,
-          (λ way. piece_all p g (op_agrees (slots_for p) (Types p g)) accepts b.ops b.exit rest),
-          all_first blocks (and_right (block_raisable p g.types b) _ h) (and_right (block_ok p g b) _ k) (λ f. t (or_second (exit_leaves b.exit || some_raises (marks_of p) (any_of p) b.ops) _ f)),
-        )
+    own_all : (blocks : List LlBlock) → blocks_raisable p g.types blocks ≡ true → blocks_ok p g blocks ≡ true → OwnAll p Any any_next g (op_agrees (slots_for p) (Types p Any any_next g)) accepts blocks
+    own_all [] h k = tt
+    own_all (b ∷ blocks) h k =
+        (own_ops b.ops b.exit (and_right _ _ (and_left _ _ (and_left _ _ h))) (and_left _ _ (and_left _ _ k)), tt, own_all blocks (and_right (block_raisable p g.types b) _ h) (and_right (block_ok p g b) _ k))
 
     graph_agrees : graph_raisable p g ≡ true → graph_ok p g ≡ true → blocks_calm (explicit_graph p g).blocks ≡ true → blocks_agree (slots_for p) (explicit_graph p g).types (explicit_graph p g).blocks ≡ true
     graph_agrees h k calm =
-        blocks_are (slots_for p) (Types p g) (blocks_of (around_in p g) g.blocks)
-        (made_all (around_in p g) (ops_hold (slots_for p) (Types p g)) (Rest p g (op_agrees (slots_for p) (Types p g)) accepts) (rest_next p g (op_agrees (slots_for p) (Types p g)) accepts)
-        (λ rest e r. way_all p g (op_agrees (slots_for p) (Types p g)) accepts rest e r.end) (λ rest e way r. piece_all p g (op_agrees (slots_for p) (Types p g)) accepts rest e r) g.blocks
-        (all_first g.blocks (and_right _ _ h) (and_right _ _ k) (has_tests p g)))
-        calm
+        blocks_are (slots_for p) (Types p Any any_next g) (blocks_of (around_in p g) g.blocks)
+        (graph_holds p Any any_next g (op_agrees (slots_for p) (Types p Any any_next g)) accepts (and_right _ _ h) (own_all g.blocks (and_right _ _ h) (and_right _ _ k))) calm
 
   graphs_made : (graphs : List LlGraph) → graphs_raisable p graphs ≡ true → graphs_ok p graphs ≡ true → graphs_calm (map (graph_of (exceptions_of p) (marks_of p)) graphs) ≡ true
       → graphs_agree (slots_for p) (map (graph_of (exceptions_of p) (marks_of p)) graphs) ≡ true

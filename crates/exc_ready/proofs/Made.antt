@@ -6,6 +6,7 @@ use Rattle.csub_tree.specs.declared.tree.CConst.TheVariants as constant
 use Rattle.csub_tree.specs.declared.tree.COperand.TheVariants.{Var, Const}
 use Rattle.ll_code.specs.declared.program.LlType.{LlType}
 use Rattle.ll_code.specs.declared.program.LlType.TheVariants as type
+use Rattle.ll_code.specs.declared.program.LlLink.{LlLink}
 use Rattle.ll_code.specs.declared.program.LlOp.{LlOp}
 use Rattle.ll_code.specs.declared.program.LlOp.TheVariants as op
 use Rattle.ll_code.specs.declared.program.LlExit.{LlExit}
@@ -25,7 +26,7 @@ use Rattle.exc_laws.specs.Ready.{marks_of, any_of, exceptions_of}
 use Rattle.exc_laws.specs.Stands.{around_in}
 use Rattle.exc_laws.proofs.Tests.{and_both, or_first, or_second, get_right}
 use Rattle.exc_laws.proofs.Pieces.{tested_raises}
-use Rattle.exc_ready.specs.Raisable.{root_of, is_exception, raises_alike, exit_raises_alike, ops_raisable}
+use Rattle.exc_ready.specs.Raisable.{root_of, is_exception, raises_alike, exit_raises_alike, ops_raisable, block_raisable, blocks_raisable}
 
 -- ---- lists of operations and of blocks
 
@@ -48,19 +49,19 @@ blocks_both holds (x ∷ xs) ys h k = and_both (holds x) (blocks_all holds (xs +
 -- ---- blocks that are made: what holds of the rests of blocks
 
 module _ (around : Around) (holds : LlBlock → Bool) (Rest : List LlOp → LlExit → Type 0) (next : (o : LlOp) (ops : List LlOp) (e : LlExit) → Rest (o ∷ ops) e → Rest ops e)
-    (way_holds : (rest : List LlOp) (e : LlExit) → Rest rest e → holds (way_block around rest e) ≡ true) (rest_holds : (rest : List LlOp) (e : LlExit) (way : ℕ) → Rest rest e → holds (rest_block around rest e way) ≡ true) where
+    (way_holds : (rest : List LlOp) (e : LlExit) → Rest rest e → holds (way_block around rest e) ≡ true) (rest_holds : (o : LlOp) (rest : List LlOp) (e : LlExit) (way : ℕ) → ending_in around o ≡ Tested → Rest (o ∷ rest) e → holds (rest_block around rest e way) ≡ true) where
   behind_all : (ops : List LlOp) (e : LlExit) (way : ℕ) → Rest ops e → blocks_all holds (behind around way ops e) ≡ true
   behind_all [] e way r = refl
-  behind_all (o ∷ rest) e way r = by (λ way. behind_all rest e way (next o rest e r)) (ending_in around o)
+  behind_all (o ∷ rest) e way r = by (λ way. behind_all rest e way (next o rest e r)) (ending_in around o) refl
     where
-      rests : ((way : ℕ) → blocks_all holds (behind around way rest e) ≡ true) → (b : Bool) → blocks_all holds (rest_blocks around rest e way b (behind around (way + 2) rest e)) ≡ true
-      rests go true = refl
-      rests go false = and_both (holds (rest_block around rest e (way + 2))) (blocks_all holds (behind around (way + 2) rest e)) (rest_holds rest e (way + 2) (next o rest e r)) (go (way + 2))
+      rests : ending_in around o ≡ Tested → ((way : ℕ) → blocks_all holds (behind around way rest e) ≡ true) → (b : Bool) → blocks_all holds (rest_blocks around rest e way b (behind around (way + 2) rest e)) ≡ true
+      rests f go true = refl
+      rests f go false = and_both (holds (rest_block around rest e (way + 2))) (blocks_all holds (behind around (way + 2) rest e)) (rest_holds o rest e (way + 2) f r) (go (way + 2))
 
-      by : ((way : ℕ) → blocks_all holds (behind around way rest e) ≡ true) → (x : Ending) → blocks_all holds (behind_by around rest e way x (behind around (way + 2) rest e) (behind around way rest e)) ≡ true
-      by go (Raises v) = refl
-      by go Tested = and_both (holds (way_block around rest e)) (blocks_all holds (rest_blocks around rest e way (is_some (onward rest e)) (behind around (way + 2) rest e))) (way_holds rest e (next o rest e r)) (rests go (is_some (onward rest e)))
-      by go Leaves = go way
+      by : ((way : ℕ) → blocks_all holds (behind around way rest e) ≡ true) → (x : Ending) → ending_in around o ≡ x → blocks_all holds (behind_by around rest e way x (behind around (way + 2) rest e) (behind around way rest e)) ≡ true
+      by go (Raises v) f = refl
+      by go Tested f = and_both (holds (way_block around rest e)) (blocks_all holds (rest_blocks around rest e way (is_some (onward rest e)) (behind around (way + 2) rest e))) (way_holds rest e (next o rest e r)) (rests f go (is_some (onward rest e)))
+      by go Leaves f = go way
 
   -- each block, and the first piece of each
   abbrev pub AllFirst : List LlBlock → Type 0
@@ -82,7 +83,8 @@ module _ (around : Around) (holds : LlBlock → Bool) (Rest : List LlOp → LlEx
 
 -- ---- operations that are made
 
-module _ (p : LlProgram) (g : LlGraph) where
+-- and of what is asked besides of each rest of a block
+module _ (p : LlProgram) (Other : List LlOp → LlExit → Type 0) (other_next : (o : LlOp) (ops : List LlOp) (e : LlExit) → Other (o ∷ ops) e → Other ops e) (g : LlGraph) where
   abbrev pub More : List LlType
   More = test_types (exceptions_of p) (raises_within (marks_of p) (any_of p) g.blocks)
 
@@ -110,38 +112,38 @@ module _ (p : LlProgram) (g : LlGraph) where
     pub tests : HasTests → holds (op.Binary (length g.types + 1) Peq (Var (length g.types)) (Const constant.Null)) ≡ true
     pub takes : (a : ℕ) → Excepts a → holds (op.ExcValue a (root_of p)) ≡ true
     pub clears : holds op.ExcClear ≡ true
-    pub gives : (a v : ℕ) → Excepts a → Excepts v → holds (op.Set a (Var v)) ≡ true
+    pub gives : (a v : ℕ) (by without : LlLink) → Other (op.Raise v ∷ []) (exit.OnRaise a (Some by) without) → Excepts a → Excepts v → holds (op.Set a (Var v)) ≡ true
 
   module _ (holds : LlOp → Bool) (accepts : Accepts holds) where
     abbrev Holds : List LlOp → Type 0
     Holds ops = ops_all holds ops ≡ true
 
-    raising_all : HasTests → (v : ℕ) → Excepts v → Holds (raising (exceptions_of p) (length g.types) v)
+    pub raising_all : HasTests → (v : ℕ) → Excepts v → Holds (raising (exceptions_of p) (length g.types) v)
     raising_all t v h = by (exceptions_of p).kind refl
       where
         by : (o : Option ℕ) → (exceptions_of p).kind ≡ o → Holds (raising_by (root_of p) o (length g.types) v)
         by None e = and_both (holds (op.ExcSet v v)) true (accepts.alone v e h) refl
         by (Some n) e = and_both (holds (op.GetField (length g.types) (root_of p) v 0)) (ops_all holds (op.ExcSet (length g.types) v ∷ [])) (accepts.names t n v e h) (and_both (holds (op.ExcSet (length g.types) v)) true (accepts.puts t v h) refl)
 
-    testing_all : HasTests → Holds (testing (exceptions_of p) (length g.types) (length g.types + 1))
+    pub testing_all : HasTests → Holds (testing (exceptions_of p) (length g.types) (length g.types + 1))
     testing_all t =
         and_both (holds (op.ExcType (length g.types) (kind_of (exceptions_of p)))) (ops_all holds (op.Binary (length g.types + 1) Peq (Var (length g.types)) (Const constant.Null) ∷ [])) (accepts.asks t)
         (and_both (holds (op.Binary (length g.types + 1) Peq (Var (length g.types)) (Const constant.Null))) true (accepts.tests t) refl)
 
-    taking_all : (a : ℕ) → Excepts a → Holds (taking (exceptions_of p) g.types a)
+    pub taking_all : (a : ℕ) → Excepts a → Holds (taking (exceptions_of p) g.types a)
     taking_all a h =
         let led : led_to g.types a ≡ Some (root_of p) = ap spec.pointed (has_type_is (type.Ptr (root_of p)) (slice_get g.types a) h) in
         and_both (holds (op.ExcValue a (or_else (root_of p) (led_to g.types a)))) (ops_all holds (op.ExcClear ∷ [])) (ap (λ o. holds (op.ExcValue a (or_else (root_of p) o))) led ∙ accepts.takes a h)
         (and_both (holds op.ExcClear) true accepts.clears refl)
 
-    giving_all : HasTests → (a v : ℕ) → Excepts a → Excepts v → Holds (giving (exceptions_of p) g.types (length g.types) a v)
-    giving_all t a v h k = choose (same_led (led_to g.types a) (led_to g.types v))
+    pub giving_all : HasTests → (a v : ℕ) (by without : LlLink) → Other (op.Raise v ∷ []) (exit.OnRaise a (Some by) without) → Excepts a → Excepts v → Holds (giving (exceptions_of p) g.types (length g.types) a v)
+    giving_all t a v way without other h k = choose (same_led (led_to g.types a) (led_to g.types v))
       where
         choose : (b : Bool) → Holds (cond b (op.Set a (Var v) ∷ []) (raising (exceptions_of p) (length g.types) v ++ taking (exceptions_of p) g.types a))
-        choose true = and_both (holds (op.Set a (Var v))) true (accepts.gives a v h k) refl
+        choose true = and_both (holds (op.Set a (Var v))) true (accepts.gives a v way without other h k) refl
         choose false = ops_both holds (raising (exceptions_of p) (length g.types) v) (taking (exceptions_of p) g.types a) (raising_all t v k) (taking_all a h)
 
-    left_all : (e : LlExit) → exit_raises_alike (root_of p) g.types e ≡ true → (exit_leaves e ≡ true → HasTests) → Holds (left_ops (exceptions_of p) (length g.types) e)
+    pub left_all : (e : LlExit) → exit_raises_alike (root_of p) g.types e ≡ true → (exit_leaves e ≡ true → HasTests) → Holds (left_ops (exceptions_of p) (length g.types) e)
     left_all (exit.Raise v) h t = raising_all (t refl) v h
     left_all other h t = refl
 
@@ -151,11 +153,12 @@ module _ (p : LlProgram) (g : LlGraph) where
     way_all [] other h = refl
     way_all (o ∷ rest) e h = refl
 
-    raised_all : HasTests → (v : ℕ) → Excepts v → (rest : List LlOp) (e : LlExit) → exit_raises_alike (root_of p) g.types e ≡ true → Holds (raised_ops (exceptions_of p) g.types (length g.types) v rest e)
-    raised_all t v k [] (exit.OnRaise a (Some by) without) h = giving_all t a v h k
-    raised_all t v k [] (exit.OnRaise a None without) h = raising_all t v k
-    raised_all t v k [] other h = raising_all t v k
-    raised_all t v k (o ∷ rest) e h = raising_all t v k
+    pub raised_all : HasTests → (v : ℕ) → Excepts v → (rest : List LlOp) (e : LlExit) → Other (op.Raise v ∷ rest) e → exit_raises_alike (root_of p) g.types e ≡ true
+        → Holds (raised_ops (exceptions_of p) g.types (length g.types) v rest e)
+    raised_all t v k [] (exit.OnRaise a (Some by) without) other h = giving_all t a v by without other h k
+    raised_all t v k [] (exit.OnRaise a None without) other h = raising_all t v k
+    raised_all t v k [] else other h = raising_all t v k
+    raised_all t v k (o ∷ rest) e other h = raising_all t v k
 
     -- ---- rests of blocks
 
@@ -166,12 +169,13 @@ module _ (p : LlProgram) (g : LlGraph) where
 
     pub record Rest (ops : List LlOp) (e : LlExit) : Type 0 where
       pub own : Own ops
+      pub other : Other ops e
       pub raises : ops_raisable (root_of p) g.types ops e ≡ true
       pub end : exit_raises_alike (root_of p) g.types e ≡ true
       pub need : (exit_leaves e || some_raises (marks_of p) (any_of p) ops) ≡ true → HasTests
 
     pub rest_next : (o : LlOp) (ops : List LlOp) (e : LlExit) → Rest (o ∷ ops) e → Rest ops e
-    rest_next o ops e r = record { own = r.own.1; raises = and_right _ _ r.raises; end = r.end; need = λ h. r.need (more (exit_leaves e) (may_raise (marks_of p) (any_of p) o) (some_raises (marks_of p) (any_of p) ops) h) }
+    rest_next o ops e r = record { own = r.own.1; other = other_next o ops e r.other; raises = and_right _ _ r.raises; end = r.end; need = λ h. r.need (more (exit_leaves e) (may_raise (marks_of p) (any_of p) o) (some_raises (marks_of p) (any_of p) ops) h) }
       where
         more : (a b c : Bool) → (a || c) ≡ true → (a || (b || c)) ≡ true
         more true b c h = refl
@@ -188,8 +192,37 @@ module _ (p : LlProgram) (g : LlGraph) where
         by go (Raises v) f =
             let is : o ≡ op.Raise v = raises_is (marks_of p) (any_of p) o v f in
             raised_all (need_here o rest e r (subst (λ o. may_raise (marks_of p) (any_of p) o ≡ true) (sym is) refl)) v
-            (subst (λ o. raises_alike (root_of p) g.types o ≡ true) is (and_left _ _ (and_left _ _ (and_left _ _ r.raises)))) rest e r.end
+            (subst (λ o. raises_alike (root_of p) g.types o ≡ true) is (and_left _ _ (and_left _ _ (and_left _ _ r.raises)))) rest e (subst (λ o. Other (o ∷ rest) e) is r.other) r.end
         by go Tested f =
             let c = tested_calm (marks_of p) (any_of p) o f in
             and_both (holds o) (ops_all holds (testing (exceptions_of p) (length g.types) (length g.types + 1))) (r.own.0 c.0) (testing_all (need_here o rest e r (tested_raises (marks_of p) (any_of p) o c.1)))
         by go Leaves f = and_both (holds o) (ops_all holds (piece_ops (around_in p g) rest e)) (r.own.0 (leaves_calm (marks_of p) (any_of p) o f)) go
+
+    -- ---- the blocks of the graph
+
+    abbrev pub on_ops : LlBlock → Bool
+    on_ops block = ops_all holds block.ops
+
+    abbrev pub OwnAll : List LlBlock → Type 0
+    OwnAll [] = Unit {0}
+    OwnAll (block ∷ blocks) = Own block.ops × Other block.ops block.exit × OwnAll blocks
+
+    pub block_rest : (block : LlBlock) → block_raisable p g.types block ≡ true → Own block.ops → Other block.ops block.exit
+        → ((exit_leaves block.exit || some_raises (marks_of p) (any_of p) block.ops) ≡ true → HasTests) → Rest block.ops block.exit
+    block_rest block h own other t = record { own = own; other = other; raises = and_right _ _ (and_left _ _ h); end = and_right _ _ h; need = t }
+
+    way_holds : (rest : List LlOp) (e : LlExit) → Rest rest e → on_ops (way_block (around_in p g) rest e) ≡ true
+    way_holds rest e r = way_all rest e r.end
+
+    rest_holds : (o : LlOp) (rest : List LlOp) (e : LlExit) (way : ℕ) → ending_in (around_in p g) o ≡ Tested → Rest (o ∷ rest) e → on_ops (rest_block (around_in p g) rest e way) ≡ true
+    rest_holds o rest e way f r = piece_all rest e (rest_next o rest e r)
+
+    firsts_hold : (blocks : List LlBlock) → blocks_raisable p g.types blocks ≡ true → OwnAll blocks → (raises_within (marks_of p) (any_of p) blocks ≡ true → HasTests)
+        → AllFirst (around_in p g) on_ops Rest rest_next way_holds rest_holds blocks
+    firsts_hold [] h own t = tt
+    firsts_hold (b ∷ blocks) h own t =
+        let rest : Rest b.ops b.exit = block_rest b (and_left _ _ h) own.0 own.1 (λ f. t (or_first (exit_leaves b.exit || some_raises (marks_of p) (any_of p) b.ops) _ f)) in
+        (rest, (λ way. piece_all b.ops b.exit rest), firsts_hold blocks (and_right (block_raisable p g.types b) _ h) own.2 (λ f. t (or_second (exit_leaves b.exit || some_raises (marks_of p) (any_of p) b.ops) _ f)))
+
+    pub graph_holds : blocks_raisable p g.types g.blocks ≡ true → OwnAll g.blocks → blocks_all on_ops (blocks_of (around_in p g) g.blocks) ≡ true
+    graph_holds h own = made_all (around_in p g) on_ops Rest rest_next way_holds rest_holds g.blocks (firsts_hold g.blocks h own has_tests)
