@@ -181,7 +181,7 @@ module _ (p : LlProgram) (Other : List LlOp → LlExit → Type 0) (other_next :
         more true b c h = refl
         more false b c h = or_second b c h
 
-    need_here : (o : LlOp) (ops : List LlOp) (e : LlExit) → Rest (o ∷ ops) e → may_raise (marks_of p) (any_of p) o ≡ true → HasTests
+    pub need_here : (o : LlOp) (ops : List LlOp) (e : LlExit) → Rest (o ∷ ops) e → may_raise (marks_of p) (any_of p) o ≡ true → HasTests
     need_here o ops e r m = r.need (or_second (exit_leaves e) _ (or_first (may_raise (marks_of p) (any_of p) o) _ m))
 
     pub piece_all : (ops : List LlOp) (e : LlExit) → Rest ops e → Holds (piece_ops (around_in p g) ops e)
