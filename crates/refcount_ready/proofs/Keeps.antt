@@ -17,7 +17,7 @@ use Rattle.ll_held.specs.Roots.{waits_for}
 use Rattle.ll_live.specs.Live.{live}
 use Rattle.refcount_transform.specs.Plan.{plan_of, reference_given}
 use Rattle.refcount_laws.specs.Before.{NoBlocksIn}
-use Rattle.refcount_ready.specs.Countable.{is_number}
+use Rattle.refcount_checks.specs.Countable.{is_number}
 use Rattle.refcount_ready.proofs.Pointers.{Sound, AreCounted}
 
 -- blocks are counted, no static names a block, and the slots hold what is set, which is no block where they refer to nothing that is

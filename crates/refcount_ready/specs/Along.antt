@@ -12,7 +12,7 @@ use Rattle.ll_held.specs.Held.{IsBelow}
 use Rattle.ll_held.specs.Roots.{roots, core_of}
 use Rattle.refcount_transform.specs.Plan.{plan_of, field_referred, items_referred}
 use Rattle.refcount_laws.specs.Ready.{InBlock}
-use Rattle.refcount_ready.specs.Countable.{most}
+use Rattle.refcount_checks.specs.Countable.{most}
 
 -- each state that the run comes to
 abbrev pub EachState : (State → Type 0) → LlProgram → List (List ℕ) → ℕ → Type 0

@@ -16,7 +16,7 @@ use Rattle.refcount_laws.specs.Touched.{block_in}
 use Rattle.refcount_laws.specs.Whole.{Call, StandsFor}
 use Rattle.refcount_typed.specs.Leads.{LeadsToRoots}
 use Rattle.refcount_typed.specs.Numbered.{HasNumbers}
-use Rattle.refcount_ready.specs.Countable.{is_countable}
+use Rattle.refcount_checks.specs.Countable.{is_countable}
 use Rattle.refcount_ready.specs.Along.{EachState, IsSmall, LeavesStatics}
 
 -- its exceptions are explicit, and it keeps the rules that counts need: all but what each block reads is a test

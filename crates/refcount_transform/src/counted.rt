@@ -8,7 +8,7 @@ use crate::copies::copy_struct;
 use crate::made::push_all_made;
 use crate::plan::{Plan, add, base_at, counted_structs, counts_of_structs, has_count};
 use crate::releases::graph_of;
-use crate::slots::{behind, slots_of};
+use crate::slots::{first_made, slots_of};
 use csub_tree::{CCell, CConst, CStatic};
 use ll_code::{LlGraph, LlProgram, LlStage, LlStatic, LlStruct, LlType};
 use rpy_base::{NoMem, Seq};
@@ -186,7 +186,7 @@ pub fn count(alloc: Global, program: &LlProgram) -> Result<LlProgram, NoMem>
     let graphs = program.graphs.as_slice();
     let counted = counted_structs(alloc, structs, graphs)?;
     let slots = slots_of(counted.as_slice(), graphs, graphs.len() as u64);
-    let counts = counts_of_structs(alloc, structs, counted.as_slice(), behind(slots)?)?;
+    let counts = counts_of_structs(alloc, structs, counted.as_slice(), first_made(slots)?)?;
     let plan = Plan {
         structs,
         counted: counted.as_slice(),

@@ -18,3 +18,8 @@ mod releases;
 mod slots;
 
 pub use counted::count;
+pub use plan::{
+    Counts, Plan, counted_structs, counts_of_structs, field_referred, items_referred, place_of,
+    reference_given, referred, root_of,
+};
+pub use slots::{Slots, first_made, slots_of};

@@ -77,7 +77,7 @@ pub fn own_some(slots: Slots) -> bool
 }
 
 /// The number of the first graph behind that one, if there is one.
-pub fn behind(slots: Slots) -> Result<u64, NoMem>
+pub fn first_made(slots: Slots) -> Result<u64, NoMem>
     ensures { IfOk result (λ n. n ≡ p.behind slots) }
 {
     if own_some(slots) {

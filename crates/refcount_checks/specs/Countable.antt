@@ -86,3 +86,19 @@ graphs_countable plan all (graph ∷ graphs) = graph_countable plan all graph &&
 
 abbrev pub is_countable : LlProgram → Bool
 is_countable p = graphs_countable (plan_of p) p.graphs p.graphs
+
+-- ---- but for inputs that stand twice
+
+abbrev pub block_counts : Plan → List LlGraph → List LlType → LlBlock → Bool
+block_counts plan graphs types block = nat_lt (length block.inputs) most && ops_countable plan graphs types block.ops && numbers_follow plan None block.ops
+
+abbrev pub blocks_count : Plan → List LlGraph → List LlType → List LlBlock → Bool
+blocks_count plan graphs types [] = true
+blocks_count plan graphs types (block ∷ blocks) = block_counts plan graphs types block && blocks_count plan graphs types blocks
+
+abbrev pub graph_counts : Plan → List LlGraph → LlGraph → Bool
+graph_counts plan graphs graph = takes_params graph.params (slice_get graph.blocks 0) && blocks_count plan graphs graph.types graph.blocks
+
+abbrev pub graphs_count : Plan → List LlGraph → List LlGraph → Bool
+graphs_count plan all [] = true
+graphs_count plan all (graph ∷ graphs) = graph_counts plan all graph && graphs_count plan all graphs

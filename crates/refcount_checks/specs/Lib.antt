@@ -1,0 +1,3 @@
+pub mod Countable
+pub mod Passes
+pub mod Watch
