@@ -39,7 +39,7 @@ use Rattle.exc_ready.proofs.Made.{ops_all, blocks_all, AllFirst, made_all, More,
 use Rattle.refcount_transform.specs.Plan.{Plan, plan_of, reference_given, items_referred, place_of}
 use Rattle.refcount_transform.specs.Changes.{around_of, var_referred}
 use Rattle.refcount_laws.specs.Leaves.{are_apart}
-use Rattle.refcount_ready.specs.Countable.{most, sets_unread, result_of, call_countable, calls_countable, op_countable, ops_countable, is_number, fills, number_follows, numbers_follow, block_countable, blocks_countable, takes_params, graph_countable, graphs_countable, is_countable}
+use Rattle.refcount_checks.specs.Countable.{most, sets_unread, result_of, call_countable, calls_countable, op_countable, ops_countable, is_number, fills, number_follows, numbers_follow, block_countable, blocks_countable, takes_params, graph_countable, graphs_countable, is_countable}
 use Rattle.exc_counted.specs.Both.{catches_other, blocks_catch_others, graphs_catch_others}
 use Rattle.exc_counted.proofs.Distinct.{few_there, new_apart}
 use Rattle.exc_counted.proofs.Less.{First, Second, if_referred}

@@ -13,7 +13,7 @@ use Rattle.exc_ready.specs.Raisable.{slots_for}
 use Rattle.exc_ready.proofs.Agreeing.{explicit_agrees}
 use Rattle.exc_ready.proofs.Reading.{explicit_reads_inputs}
 use Rattle.refcount_typed.specs.Leads.{LeadsToRoots}
-use Rattle.refcount_ready.specs.Countable.{is_countable}
+use Rattle.refcount_checks.specs.Countable.{is_countable}
 use Rattle.refcount_ready.specs.Programs.{CanBeCounted}
 use Rattle.exc_counted.specs.Both.{CanBeBoth}
 use Rattle.exc_counted.proofs.Roots.{made_lead, made_numbered}

@@ -13,7 +13,7 @@ use Rattle.exc_laws.specs.Holds.{HasFewVariables}
 use Rattle.exc_ready.specs.Raisable.{IsRaisable}
 use Rattle.refcount_typed.specs.Leads.{LeadsToRoots}
 use Rattle.refcount_typed.specs.Numbered.{HasNumbers}
-use Rattle.refcount_ready.specs.Countable.{most, is_countable}
+use Rattle.refcount_checks.specs.Countable.{most, is_countable}
 
 -- what catches an exception that its own block raises is another variable than the one that is raised
 abbrev pub catches_other : List LlOp → LlExit → Bool
