@@ -15,6 +15,7 @@ use Rattle.exc_ready.proofs.Reading.{explicit_reads_inputs}
 use Rattle.refcount_typed.specs.Leads.{LeadsToRoots}
 use Rattle.refcount_checks.specs.Countable.{is_countable}
 use Rattle.refcount_ready.specs.Programs.{CanBeCounted}
+use Rattle.ll_compiled.specs.Compiled.{CanBeCompiled}
 use Rattle.exc_counted.specs.Both.{CanBeBoth}
 use Rattle.exc_counted.proofs.Roots.{made_lead, made_numbered}
 use Rattle.exc_counted.proofs.Counting.{made_countable}
@@ -47,3 +48,6 @@ can_be_counted p both = record {
   inputs = explicit_reads_inputs p both.raisable;
   countable = countable p both;
 }
+
+pub can_be_compiled : (p : LlProgram) → CanBeBoth p → CanBeCompiled (explicit p)
+can_be_compiled p both = record { explicit = refl; counts = can_be_counted p both }

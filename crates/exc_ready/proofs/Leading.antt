@@ -33,6 +33,7 @@ use Rattle.ll_laws.proofs.Values.{and_left, and_right, has_type_is}
 use Rattle.ll_laws.proofs.Steps.{step_fits}
 use Rattle.ll_laws.proofs.Runs.{start_fits}
 use Rattle.ll_held.specs.Places.{PlacedAt, AllBehind, IsPlaced}
+use Rattle.ll_held.specs.Roots.{core_of}
 use Rattle.ll_held.proofs.Placing.{NextPlaced, step_placed, start_placed, whole_run_placed}
 use Rattle.ll_points.specs.Points.{Leads, LeadsBy, AllLead, MemoryLeads}
 use Rattle.ll_points.proofs.Leading.{Grows, grows_same, all_more, same_memory, unset_leads, vars_set}
@@ -385,7 +386,19 @@ module _ (p : LlProgram) where
     raised_leads (Returning value frames core) place l = tt
     raised_leads (Throwing value frames core) place (t, l) = l.leads
 
+    ran_points : (steps : ℕ) → EachState StatePoints p args steps
+    ran_points steps = λ k s text events e. subst RanPoints e (run_points k (start p steps) [] [] (start_fits p ok steps) (start_placed p args steps) (begins_points steps (slice_get p.graphs p.entry) refl (and_right _ _ ok)))
+
     pub state_raised_leads : (steps : ℕ) → EachState (RaisedLeads p) p args steps
-    state_raised_leads steps = λ k s text events e.
-        raised_leads s (whole_run_placed p args steps k s text events e)
-        (subst RanPoints e (run_points k (start p steps) [] [] (start_fits p ok steps) (start_placed p args steps) (begins_points steps (slice_get p.graphs p.entry) refl (and_right _ _ ok))))
+    state_raised_leads steps = λ k s text events e. raised_leads s (whole_run_placed p args steps k s text events e) (ran_points steps k s text events e)
+
+    -- ---- the slots stay clear
+
+    slots_clear : (s : State) → StatePoints s → ((core_of s).exc_type ≡ Null) × ((core_of s).exc_value ≡ Null)
+    slots_clear (Calling f values frames core) (g, l) = l.memory.held
+    slots_clear (At ops e frames core) (g, l) = l.leads.memory.held
+    slots_clear (Returning value frames core) (t, l) = l.memory.held
+    slots_clear (Throwing value frames core) (t, l) = l.memory.held
+
+    pub state_clear : (steps : ℕ) → EachState (λ s. ((core_of s).exc_type ≡ Null) × ((core_of s).exc_value ≡ Null)) p args steps
+    state_clear steps = λ k s text events e. slots_clear s (ran_points steps k s text events e)
