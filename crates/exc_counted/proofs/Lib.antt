@@ -3,5 +3,6 @@ pub mod Counting
 pub mod Distinct
 pub mod Less
 pub mod Roots
+mod Rows
 pub mod Standing
 pub mod Whole

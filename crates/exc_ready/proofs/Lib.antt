@@ -6,6 +6,6 @@ pub mod Made
 pub mod Passes
 pub mod Placed
 pub mod Reading
-mod Rows
+pub mod Rows
 pub mod Setting
 pub mod Whole

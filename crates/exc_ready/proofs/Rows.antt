@@ -70,14 +70,14 @@ program entry first second = record {
   entry = entry;
 }
 
-abbrev caught : LlProgram
+abbrev pub caught : LlProgram
 caught = program 0 (main 0) (raiser (exit.Raise 0))
 
-typed : IsWellTyped caught
+pub typed : IsWellTyped caught
 unfolding begins_within
 typed = refl
 
-passes : IsRaisable caught
+pub passes : IsRaisable caught
 passes = refl
 
 -- an exception may not leave the first graph
@@ -139,14 +139,14 @@ classed_after (suc (suc (suc (suc (suc (suc (suc (suc (suc zero))))))))) = λ a 
 classed_after (suc (suc (suc (suc (suc (suc (suc (suc (suc (suc zero)))))))))) = tt
 classed_after (suc (suc (suc (suc (suc (suc (suc (suc (suc (suc (suc k))))))))))) = tt
 
-classed : EachState (RaisesClassed caught) caught [] 0
+pub classed : EachState (RaisesClassed caught) caught [] 0
 classed = λ k s text events e. subst RanClassed e (classed_after k)
 
 -- the exception is caught
-abbrev meant : Meant
+abbrev pub meant : Meant
 meant = record { ending = Came (Returned (pos 7)); output = []; paid = 0; made = (0, 0, 1) ∷ (1, 1, 1) ∷ []; gone = [] }
 
-means : LMeans caught [] 0 meant
+pub means : LMeans caught [] 0 meant
 unfolding run shapes_from
 means = (11, refl)
 
