@@ -190,7 +190,7 @@ module _ (p : LlProgram) (passes : IsRaisable p) (raises : graphs_calm p.graphs 
     own_counts [] k h = tt
     own_counts (o ∷ ops) k h = (
       λ c. and_both (sets_unread (Second p passes) (Types p Other other_next g) o (set_by o)) (calls_countable (Second p passes) Graphs o)
-        (sets_less o (set_by o) (sets_within p g.types o (and_left _ _ k)) (and_left _ _ (and_left _ _ h))) (calls_less o (and_right (sets_unread (First p passes) g.types o (set_by o)) _ (and_left _ _ h))),
+          (sets_less o (set_by o) (sets_within p g.types o (and_left _ _ k)) (and_left _ _ (and_left _ _ h))) (calls_less o (and_right (sets_unread (First p passes) g.types o (set_by o)) _ (and_left _ _ h))),
       own_counts ops (and_right (operation_ok p g.types o) _ k) (and_right (op_countable (First p passes) p.graphs g.types o) _ h),
     )
 
@@ -274,13 +274,12 @@ module _ (p : LlProgram) (passes : IsRaisable p) (raises : graphs_calm p.graphs 
       firsts_count (b ∷ blocks) h k c d t =
           let own : block_countable (First p passes) p.graphs g.types b ≡ true = and_left _ _ c in
           let rest : RestOf b.ops b.exit = block_rest p Other other_next g Counts accepts b (and_left _ _ h) (own_counts b.ops (and_left _ _ (and_left _ _ k)) (and_right _ _ (and_left _ _ own))) (and_left _ _ d)
-            (λ f. t (or_first (exit_leaves b.exit || some_raises (marks_of p) (any_of p) b.ops) _ f)) in
-          (
+          (λ f. t (or_first (exit_leaves b.exit || some_raises (marks_of p) (any_of p) b.ops) _ f)) in (
             record { rest = rest; before = None; follows = and_right _ _ own; ops_ok = and_left _ _ (and_left _ _ k); end_ok = and_right (operations_ok p g.types b.ops) _ (and_left _ _ k) },
             (λ way. count (piece (around_in p g) b.inputs b.ops b.exit way) (and_left _ _ (and_left _ _ (and_left _ _ own))) (is_less (length b.inputs) most (and_right (are_apart b.inputs) _ (and_left _ _ (and_left _ _ own)))) (piece_all p Other other_next g Counts accepts b.ops b.exit rest)
-              (piece_numbers b.ops b.exit None rest (and_right _ _ own))),
+                (piece_numbers b.ops b.exit None rest (and_right _ _ own))),
             firsts_count blocks (and_right (block_raisable p g.types b) _ h) (and_right (block_ok p g b) _ k) (and_right (block_countable (First p passes) p.graphs g.types b) _ c) (and_right (catches_other b.ops b.exit) _ d)
-              (λ f. t (or_second (exit_leaves b.exit || some_raises (marks_of p) (any_of p) b.ops) _ f)),
+                (λ f. t (or_second (exit_leaves b.exit || some_raises (marks_of p) (any_of p) b.ops) _ f)),
           )
 
       blocks_count : (blocks : List LlBlock) → blocks_all BlockCounts blocks ≡ true → blocks_countable (Second p passes) Graphs (Types p Other other_next g) blocks ≡ true

@@ -86,7 +86,7 @@ few_apart zero vs h below = let e : length vs ≡ 0 = nothing_among vs (λ v k. 
 few_apart (suc n) vs h below =
     let less : length vs ≤ suc (length (without n vs)) = without_less n vs h in
     let rest : length (without n vs) ≤ n = few_apart n (without n vs) (without_apart n vs h)
-      (λ v k. let both = without_among n v vs k in let lt : v < suc n = below v both.0 in let other : v ≡ n → ⊥ = both.1 in grind (arith, lt, other)) in
+    (λ v k. let both = without_among n v vs k in let lt : v < suc n = below v both.0 in let other : v ≡ n → ⊥ = both.1 in grind (arith, lt, other)) in
     omega (arith, less, rest)
 
 -- ---- variables that have a type
