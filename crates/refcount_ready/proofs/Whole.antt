@@ -74,7 +74,7 @@ statics_apart p (static ∷ statics) zero block e =
     (none_taken (shape_at (shapes_of p.structs) static.kind).size (static_values static) (none_in (joined (map cell_constants static.cells))), none_dropped (shape_at (shapes_of p.structs) static.kind).size (static_values static) (none_in (joined (map cell_constants static.cells))))
 statics_apart p (static ∷ statics) (suc s) block e = statics_apart p statics s block e
 
-start_keeps : (p : LlProgram) → IsWellTyped p → (steps : ℕ) → StateKeeps p (start p steps)
+pub start_keeps : (p : LlProgram) → IsWellTyped p → (steps : ℕ) → StateKeeps p (start p steps)
 start_keeps p ok steps = by (slice_get p.graphs p.entry) refl (and_right _ _ ok)
   where
     by : (o : Option LlGraph) → slice_get p.graphs p.entry ≡ o → begins_run o ≡ true → StateKeeps p (start p steps)
