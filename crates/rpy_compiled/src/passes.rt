@@ -1,13 +1,11 @@
 // The passes behind the checks, in a row.
 ghost use Rattle.std.specs.Prelude.{IfOk};
-ghost use Rattle.rpy_compiled.specs.Compile.{IsFile};
+ghost use Rattle.ll_file.specs.File.{IsFile};
 
-use csub_tree::{CFile, checked};
-use exc_transform::make_explicit;
-use genc_lower::lower;
+use csub_tree::CFile;
 use ll_code::LlProgram;
+use ll_file::file_of;
 use ll_joined::join_blocks;
-use refcount_transform::count;
 use rpy_base::NoMem;
 use rpy_checked::Checked;
 use rpy_resolved::resolved;
@@ -28,21 +26,8 @@ pub fn low_level(alloc: Global, program: &Program, checked: &Checked) -> Result<
     join_blocks(alloc, typed)
 }
 
-// The C file of a low-level program. No program is known whose file breaks a rule; it would be no text
-// to hand out, and the answer that is always free stands for it.
-fn file_of(alloc: Global, typed: LlProgram) -> Result<CFile, NoMem>
-    ensures { IfOk result IsFile }
-{
-    let explicit = make_explicit(alloc, typed)?;
-    let counted = count(alloc, &explicit)?;
-    let file = lower(alloc, &counted)?;
-    match checked(&file) {
-        Ok(()) => Ok(file),
-        Err(_) => Err(NoMem),
-    }
-}
-
-/// The C file of a program that has passed its checks, which keeps every rule of C files.
+/// The C file of a program that has passed its checks, which keeps every rule of C files and means what
+/// a low-level program means that can be counted.
 pub fn compile(alloc: Global, program: &Program, checked: &Checked) -> Result<CFile, NoMem>
     ensures { IfOk result IsFile }
 {

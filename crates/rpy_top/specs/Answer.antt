@@ -8,7 +8,7 @@ use Rattle.rpy_top.specs.Lower.{lowered}
 use Rattle.rpy_first.specs.Gives.{Gives}
 use Rattle.rpy_first.specs.Program.{program_of}
 use Rattle.rpy_top.specs.Built.{Built}
-use Rattle.rpy_compiled.specs.Compile.{IsFile}
+use Rattle.ll_file.specs.File.{IsFile}
 use Rattle.csub_tree.specs.declared.tree.CFile.{CFile}
 use Rattle.ll_code.specs.declared.program.LlProgram.{LlProgram}
 use Rattle.rpy_first.specs.declared.fault.TranslateFault.{TranslateFault as FrontFault}
