@@ -1,8 +1,9 @@
 -- A step changes no block but the one that it tells of.
 use Rattle.std.proofs.Common.{◌≡◌, ℕ, zero, suc, ◌+◌, ◌-◌, Bool, true, false, List, [], ◌∷◌, ◌++◌, length, map, replicate, Option, Some, None, Result, Ok, Err, refl, sym, ap, ◌∙◌, subst, arith, ℤ, pos, negsuc}
 use Rattle.std.specs.Prelude.{slice_get, slice_set, slice_index_or, cond, nat_lt, nat_le, ◌||◌, ◌&&◌}
+use Rattle.rpy_base.specs.declared.outcome.Outcome.{Outcome}
 use Rattle.rpy_base.specs.declared.outcome.Outcome.TheVariants.{Returned}
-use Rattle.csub_tree.specs.State.{Value, Unset, Ptr, Static, Block, Core, After, Onward, Puts as PutsByte, Told, Over, Stuck, Event, Made, Freed}
+use Rattle.csub_tree.specs.State.{Value, Unset, Word, Byte, Flag, Fun, Null, Ptr, Static, Block, Core, After, Onward, Puts as PutsByte, Told, Over, Stuck, Event, Made, Freed}
 use Rattle.csub_tree.specs.Layout.{Shape, shape_at, begins_with, place}
 use Rattle.csub_tree.specs.Operation.{Answer, is_unset, word_of, unary_of, binary_of, flag_of}
 use Rattle.csub_tree.specs.Statement as st
@@ -22,7 +23,7 @@ use Rattle.ll_code.specs.declared.program.LlBlock.{LlBlock}
 use Rattle.ll_code.specs.declared.program.LlGraph.{LlGraph}
 use Rattle.ll_code.specs.declared.program.LlProgram.{LlProgram}
 use Rattle.ll_held.specs.Roots.{core_of}
-use Rattle.ll_events.specs.Told.{Marks, mark, told, IsThere, InOrder}
+use Rattle.ll_events.specs.Told.{Marks, mark, told, IsThere, InOrder, IsLast}
 use Rattle.ll_events.proofs.Orders.{mark_at, length_kept, length_map}
 
 abbrev pub marks_of : Core → Marks
@@ -32,11 +33,15 @@ marks_of core = map mark core.blocks
 abbrev pub Hears : Marks → Event → Marks → Type 0
 Hears old event marks = InOrder old (event ∷ []) × (told old (event ∷ []) ≡ marks)
 
+abbrev pub NotReturned : Outcome → Type 0
+NotReturned (Returned n) = ⊥
+NotReturned other = Unit {0}
+
 abbrev pub AfterTells : Core → After → Type 0
 AfterTells old (Onward core) = marks_of old ≡ marks_of core
 AfterTells old (PutsByte byte core) = marks_of old ≡ marks_of core
 AfterTells old (Told event core) = Hears (marks_of old) event (marks_of core)
-AfterTells old (Over outcome core) = core.blocks ≡ old.blocks
+AfterTells old (Over outcome core) = (core.blocks ≡ old.blocks) × NotReturned outcome
 AfterTells old (Stuck reason) = Unit {0}
 
 -- ---- lists of blocks
@@ -131,7 +136,7 @@ module _ (core : Core) where
   free_tells w = tt
 
   pay_tells : (i : ℤ) → AfterTells core (st.pay_steps core i)
-  pay_tells (pos cost) = choice (nat_le cost core.steps) (Onward (record core { at = core.at + 1; steps = core.steps - cost })) (Over _ core) refl refl
+  pay_tells (pos cost) = choice (nat_le cost core.steps) (Onward (record core { at = core.at + 1; steps = core.steps - cost })) (Over _ core) refl (refl, tt)
   pay_tells (negsuc cost) = tt
 
   in_range_tells : (a : ℕ) (o : Option ℕ) → AfterTells core (st.in_range core a o)
@@ -177,7 +182,7 @@ abbrev pub NextTells : Core → Next → Type 0
 NextTells old (Goes s) = marks_of old ≡ marks_of (core_of s)
 NextTells old (Puts byte s) = marks_of old ≡ marks_of (core_of s)
 NextTells old (Tells event s) = Hears (marks_of old) event (marks_of (core_of s))
-NextTells old (Ends outcome core) = core.blocks ≡ old.blocks
+NextTells old (Ends outcome core) = (core.blocks ≡ old.blocks) × NotReturned outcome
 NextTells old (Sticks reason) = Unit {0}
 
 either : (old : Core) (b : Bool) (x y : Next) → NextTells old x → NextTells old y → NextTells old (cond b x y)
@@ -278,12 +283,12 @@ module _ (p : LlProgram) (args : List (List ℕ)) where
     where
       one : (o : Option _) → NextTells core (goes_on (At [] (exit.Fail number) frames) (st.fail core o))
       one None = tt
-      one (Some name) = refl
+      one (Some name) = (refl, tt)
   leaves_tells (exit.Raised a) frames core = by (type_in (slice_get p.graphs core.function) a)
     where
       named : (o : Option (List ℕ)) → NextTells core (goes_on (At [] (exit.Raised a) frames) (st.raised_as core o))
       named None = tt
-      named (Some name) = refl
+      named (Some name) = (refl, tt)
 
       found : (r : Result Block StuckReason) → NextTells core (goes_on (At [] (exit.Raised a) frames) (on_block (λ block. st.raised_as core (st.bytes_of block.items)) r))
       found (Ok block) = named (st.bytes_of block.items)
@@ -297,21 +302,52 @@ module _ (p : LlProgram) (args : List (List ℕ)) where
       by (Some c.Bool) = tt
       by (Some c.Fn) = tt
 
-  returned_tells : (value : Value) (frames : List Frame) (core : Core) → NextTells core (returned value frames core)
-  returned_tells value [] core = one (word_of value)
-    where
-      one : (o : Option ℤ) → NextTells core (goes_on (Returning value []) (st.on (λ n. Over (Returned n) (record core { vars = [] })) o))
-      one None = tt
-      one (Some n) = refl
-  returned_tells value (frame ∷ frames) core = refl
-
   thrown_tells : (value : Value) (frames : List Frame) (core : Core) → NextTells core (thrown p value frames core)
   thrown_tells value [] core = tt
   thrown_tells value (frame ∷ frames) core = caught_tells value frame.ops frame.exit frames (resumed frame core)
 
-  pub step_tells : (s : State) → NextTells (core_of s) (step p args s)
-  step_tells (Calling f values frames core) = entered_tells f values frames core (slice_get p.graphs f)
-  step_tells (At [] e frames core) = leaves_tells e frames core
-  step_tells (At (o ∷ ops) e frames core) = operates_tells o ops e frames core
+  -- ---- the last return
+
+  abbrev pub NextKeeps : Core → Next → Type 0
+  NextKeeps old (Ends outcome core) = core.blocks ≡ old.blocks
+  NextKeeps old next = NextTells old next
+
+  weaker : (old : Core) (next : Next) → NextTells old next → NextKeeps old next
+  weaker old (Goes s) h = h
+  weaker old (Puts byte s) h = h
+  weaker old (Tells event s) h = h
+  weaker old (Ends outcome core) h = h.0
+  weaker old (Sticks reason) h = tt
+
+  returned_tells : (value : Value) (frames : List Frame) (core : Core) → NextKeeps core (returned value frames core)
+  returned_tells value [] core = one (word_of value)
+    where
+      one : (o : Option ℤ) → NextKeeps core (goes_on (Returning value []) (st.on (λ n. Over (Returned n) (record core { vars = [] })) o))
+      one None = tt
+      one (Some n) = refl
+  returned_tells value (frame ∷ frames) core = refl
+
+  pub step_tells : (s : State) → NextKeeps (core_of s) (step p args s)
+  step_tells (Calling f values frames core) = weaker core _ (entered_tells f values frames core (slice_get p.graphs f))
+  step_tells (At [] e frames core) = weaker core _ (leaves_tells e frames core)
+  step_tells (At (o ∷ ops) e frames core) = weaker core _ (operates_tells o ops e frames core)
   step_tells (Returning value frames core) = returned_tells value frames core
-  step_tells (Throwing value frames core) = thrown_tells value frames core
+  step_tells (Throwing value frames core) = weaker core _ (thrown_tells value frames core)
+
+  no_return : (old : Core) (n : ℤ) (end : Core) (next : Next) → NextTells old next → next ≡ Ends (Returned n) end → ⊥
+  no_return old n end next h e = (subst (NextTells old) e h).1
+
+  pub returns_last : (s : State) (n : ℤ) (end : Core) → step p args s ≡ Ends (Returned n) end → IsLast n s
+  returns_last (Calling f values frames core) n end e = absurd (no_return core n end _ (entered_tells f values frames core (slice_get p.graphs f)) e)
+  returns_last (At [] x frames core) n end e = absurd (no_return core n end _ (leaves_tells x frames core) e)
+  returns_last (At (o ∷ ops) x frames core) n end e = absurd (no_return core n end _ (operates_tells o ops x frames core) e)
+  returns_last (Throwing value frames core) n end e = absurd (no_return core n end _ (thrown_tells value frames core) e)
+  returns_last (Returning value (frame ∷ frames) core) n end e = absurd (cc)
+  returns_last (Returning (Word z) [] core) n end e = (let f : z ≡ n = cc in ap Word f)
+  returns_last (Returning Unset [] core) n end e = absurd (cc)
+  returns_last (Returning (Byte z) [] core) n end e = absurd (cc)
+  returns_last (Returning (Flag z) [] core) n end e = absurd (cc)
+  returns_last (Returning (Fun z) [] core) n end e = absurd (cc)
+  returns_last (Returning Null [] core) n end e = absurd (cc)
+  returns_last (Returning (Ptr z) [] core) n end e = absurd (cc)
+  returns_last (Returning (Static z) [] core) n end e = absurd (cc)

@@ -1,7 +1,8 @@
 -- What events tell of memory: which blocks were made, and which of them are gone.
-use Rattle.std.specs.Prelude.{◌≡◌, ◌<◌, ◌≤◌, ℕ, suc, ◌+◌, ◌==◌, cond, List, [], ◌∷◌, ◌++◌, length, map, slice_get, slice_set, slice_index_or, Option, Some, None}
-use Rattle.csub_tree.specs.State.{Block, Event, Made, Freed}
-use Rattle.ll_code.specs.State.{State}
+use Rattle.std.specs.Prelude.{◌≡◌, ◌<◌, ◌≤◌, ℕ, ℤ, suc, ◌+◌, ◌==◌, cond, List, [], ◌∷◌, ◌++◌, length, map, slice_get, slice_set, slice_index_or, Option, Some, None}
+use Rattle.csub_tree.specs.State.{Value, Word, Block, Event, Made, Freed}
+use Rattle.csub_tree.specs.Meaning.{made_in, gone_in}
+use Rattle.ll_code.specs.State.{State, Returning}
 use Rattle.ll_code.specs.Machine.{start}
 use Rattle.ll_code.specs.Meaning.{Meant, Unfinished, run, within}
 use Rattle.ll_code.specs.declared.program.LlProgram.{LlProgram}
@@ -55,3 +56,15 @@ pub record EndsAt (p : LlProgram) (args : List (List ℕ)) (steps : ℕ) (s : St
   pub events : List Event
   pub comes : run p args taken (start p steps) [] [] ≡ Unfinished s text events
   pub ends : within p args steps (suc taken) ≡ Some m
+
+-- the first graph gives this word
+abbrev pub IsLast : ℤ → State → Type 0
+IsLast n (Returning value [] core) = value ≡ Word n
+IsLast n other = ⊥
+
+-- nothing is taken back of what was told: more is made, and more goes
+pub record AddsTo (events : List Event) (m : Meant) : Type 0 where
+  pub made : List (ℕ × ℕ × ℕ)
+  pub gone : List ℕ
+  pub more_made : m.made ≡ made_in events ++ made
+  pub more_gone : m.gone ≡ gone_in events ++ gone

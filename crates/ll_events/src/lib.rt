@@ -4,4 +4,7 @@
 
 mod laws;
 
-pub use laws::{endings_tell_the_memory, events_tell_the_memory, runs_end_at_a_state};
+pub use laws::{
+    endings_tell_the_memory, events_tell_the_memory, returned_runs_end_at_a_return,
+    runs_end_at_a_state, what_is_told_stays_told,
+};
