@@ -1,0 +1,11 @@
+-- The last step tells nothing more.
+use Rattle.ll_events.proofs.Telling.{ending_tells, ends_unchanged}
+use Rattle.ll_events.proofs.laws.endings_tell_the_memory.Goals as goal
+
+-- src/laws.rt:32:1
+pub returns-clause-blocks : goal.returns-clause-blocks
+returns-clause-blocks c = λ p args steps s m w. ending_tells p args steps s m w
+
+-- src/laws.rt:32:1
+pub returns-clause-unchanged : goal.returns-clause-unchanged
+returns-clause-unchanged c = λ p args s outcome core e. ends_unchanged p args s outcome core e

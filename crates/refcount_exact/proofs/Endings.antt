@@ -1,0 +1,151 @@
+-- What is left at the end is held, and where nothing is held nothing is left.
+use Rattle.std.proofs.Common.{◌≡◌, ⊎_elim, ◌<◌, ◌≤◌, ℕ, ℤ, zero, suc, ◌+◌, Bool, true, false, List, [], ◌∷◌, ◌++◌, length, map, Option, Some, None, refl, sym, ap, ◌∙◌, subst, arith}
+use Rattle.std.specs.Prelude.{cond, slice_index_or, ◌==◌, ◌||◌}
+use Rattle.rpy_base.specs.declared.outcome.Outcome.TheVariants.{Returned}
+use Rattle.csub_tree.specs.Meaning.{made_in, gone_in}
+use Rattle.csub_tree.specs.Statement.{read}
+use Rattle.csub_tree.specs.State.{Value, Unset, Word, Byte, Flag, Fun, Null, Ptr, Static, Block, Core, Event}
+use Rattle.ll_code.specs.Machine.{start}
+use Rattle.ll_code.specs.Meaning.{Unfinished, Came, Meant, LMeans, run, comes}
+use Rattle.ll_code.specs.State.{Frame, State, Calling, At, Returning, Throwing}
+use Rattle.ll_code.specs.declared.program.LlExit.TheVariants as exit
+use Rattle.ll_code.specs.declared.program.LlProgram.{LlProgram}
+use Rattle.ll_live.specs.Live.{live}
+use Rattle.ll_held.specs.Held.{times, is_block, Reaches, Held, Root, Cycle, From}
+use Rattle.ll_held.specs.Roots.{kept, roots, slots, core_of}
+use Rattle.ll_held.proofs.Keeping.{times_append, used_from, or_one}
+use Rattle.ll_laws.proofs.Values.{and_left, is_same}
+use Rattle.ll_events.specs.Told.{often, TellOf, EndsAt, IsLast, AddsTo}
+use Rattle.ll_events.proofs.Telling.{run_ends, ending_tells, whole_run_tells, last_told, adds_to, return_is_last}
+use Rattle.refcount_transform.specs.Counted.{counted}
+use Rattle.refcount_laws.specs.Ghost.{Ghost}
+use Rattle.refcount_laws.specs.Means.{SameMeaning}
+use Rattle.refcount_laws.specs.Run.{RunStands, wider}
+use Rattle.refcount_laws.specs.Touched.{block_in}
+use Rattle.refcount_laws.specs.Whole.{Call, StandsFor}
+use Rattle.refcount_laws.proofs.Running.{run_stands}
+use Rattle.refcount_laws.proofs.Starting.{ghost, starts_stand}
+use Rattle.refcount_ready.specs.Programs.{CanBeCounted, RunsSmall}
+use Rattle.refcount_ready.proofs.Composed.{ready_so, means_the_same}
+use Rattle.refcount_exact.proofs.There.{there_at}
+use Rattle.refcount_exact.specs.Endings.{EndsHolding, EndsEmpty, IsClear}
+
+length_map : {A B : Type 0} (f : A → B) (xs : List A) → length (map f xs) ≡ length xs
+length_map f [] = refl
+length_map f (x ∷ xs) = ap suc (length_map f xs)
+
+often_left : (b : ℕ) (xs ys : List ℕ) → often b (xs ++ ys) ≡ 0 → often b xs ≡ 0
+often_left b [] ys e = refl
+often_left b (x ∷ xs) ys e = by (b == x) (often_left b xs ys) e
+  where
+    by : (y : Bool) → (often b (xs ++ ys) ≡ 0 → often b xs ≡ 0) → cond y (suc (often b (xs ++ ys))) (often b (xs ++ ys)) ≡ 0 → cond y (suc (often b xs)) (often b xs) ≡ 0
+    by true go e = absurd (omega (arith, e))
+    by false go e = go e
+
+-- ---- what is not gone is held
+
+module _ (p : LlProgram) (can : CanBeCounted p) (args : List (List ℕ)) (steps : ℕ) (small : RunsSmall p args steps) where
+  -- where the counted program stands, with the same blocks made
+  record Along (s : State) (events : List Event) : Type 0 where
+    taken : ℕ
+    state : State
+    text : List ℕ
+    told : List Event
+    runs : run (counted p) args taken (start (counted p) steps) [] [] ≡ Unfinished state text told
+    made : made_in told ≡ map wider (made_in events)
+    calls : List Call
+    others : List Frame
+    g : Ghost
+    h : List (Option Block)
+    stands : StandsFor p calls others s state g h
+
+  along : (k : ℕ) (s : State) (text : List ℕ) (events : List Event) → run p args k (start p steps) [] [] ≡ Unfinished s text events → Along s events
+  along k s text events e =
+      by (subst (RunStands p args k (start (counted p) steps) [] []) e (run_stands p can.typed (and_left _ _ can.leads) can.inputs args k [] [] (start p steps) (start (counted p) steps) (ghost p can.typed steps) [] [] [] [] (starts_stand p can.typed steps) (ready_so p can args steps small k) refl))
+    where
+      by : RunStands p args k (start (counted p) steps) [] [] (Unfinished s text events) → Along s events
+      by (j, t, told, enough, runs, made, calls, others, g, h, stands) = record { taken = j; state = t; text = text; told = told; runs = runs; made = made; calls = calls; others = others; g = g; h = h; stands = stands }
+
+  pub ends_holding : (s : State) (m : Meant) → EndsAt p args steps s m → comes m.ending → EndsHolding p args steps s m
+  ends_holding s m w c = by (run_ends (counted p) args steps same.other same.means)
+    where
+      same : SameMeaning p args steps m
+      same = means_the_same p can args steps small m (suc w.taken, w.ends) c
+
+      a : Along s w.events
+      a = along w.taken s w.text w.events w.comes
+
+      told : (made_in w.events ≡ m.made) × (gone_in w.events ≡ m.gone)
+      told = last_told p args steps s m w
+
+      tells : TellOf (core_of a.state).blocks (made_in a.told) (gone_in a.told)
+      tells = whole_run_tells (counted p) args steps a.taken a.state a.text a.told a.runs
+
+      -- as many blocks are there in the state that stands for this one
+      long : length same.other.made ≡ length (core_of a.state).blocks
+      long = ap length same.made ∙ ap (λ l. length (map wider l)) (sym told.0) ∙ ap length (sym a.made) ∙ tells.count
+
+      by : (t : State) × EndsAt (counted p) args steps t same.other → EndsHolding p args steps s m
+      by (t, v) = record { same = same; last = t; tells = ending_tells (counted p) args steps t same.other v; held = λ b lt e. one b lt e (slice_index_or (core_of a.state).blocks b None) refl }
+        where
+          adds : AddsTo a.told same.other
+          adds = adds_to (counted p) args steps a.taken a.state t a.text a.told same.other a.runs v
+
+          one : (b : ℕ) → b < length same.other.made → often b same.other.gone ≡ 0 → (o : Option Block) → slice_index_or (core_of a.state).blocks b None ≡ o → Held (core_of s).blocks (roots p s) b
+          one b lt e (Some block) f = there_at p s a.state a.calls a.others a.g a.h a.stands b block f
+          one b lt e None f =
+              let x : often b (gone_in a.told) ≡ 1 = tells.once b (omega (arith, lt, long)) f in
+              let y : often b (gone_in a.told) ≡ 0 = often_left b (gone_in a.told) adds.gone (ap (often b) (sym adds.more_gone) ∙ e) in
+              absurd (omega (arith, x, y))
+
+  -- ---- nothing is held
+
+  none_held : (blocks : List (Option Block)) (rs : List Value) → ((b : ℕ) → times b rs ≡ 0) → ((b : ℕ) → Reaches blocks b b → ⊥) → (b : ℕ) → Held blocks rs b → ⊥
+  none_held blocks rs empty apart b (Root h) = let e : times b rs ≡ 0 = empty b in absurd (omega (arith, e, h))
+  none_held blocks rs empty apart b (Cycle c) = apart b c
+  none_held blocks rs empty apart b (From h r) = none_held blocks rs empty apart _ h
+
+  ends_empty : (s : State) (m : Meant) → EndsAt p args steps s m → comes m.ending → ((b : ℕ) → times b (roots p s) ≡ 0) → ((b : ℕ) → Reaches (core_of s).blocks b b → ⊥) → EndsEmpty p args steps m
+  ends_empty s m w c empty apart = by (ends_holding s m w c)
+    where
+      by : EndsHolding p args steps s m → EndsEmpty p args steps m
+      by x = record { same = x.same; gone = λ b lt. one b lt (slice_index_or (core_of x.last).blocks b None) refl }
+        where
+          one : (b : ℕ) → b < length x.same.other.made → (o : Option Block) → slice_index_or (core_of x.last).blocks b None ≡ o → often b x.same.other.gone ≡ 1
+          one b lt None e = x.tells.once b (omega (arith, lt, x.tells.count)) e
+          one b lt (Some block) e = absurd (none_held (core_of s).blocks (roots p s) empty apart b (x.held b lt (x.tells.there b block e)))
+
+  none_times : (value kind exception : Value) (b : ℕ) → is_block b value ≡ false → kind ≡ Null → exception ≡ Null → times b (value ∷ kind ∷ exception ∷ []) ≡ 0
+  none_times value kind exception b h e f = ap (λ x. times b (value ∷ x ∷ exception ∷ [])) e ∙ ap (λ x. times b (value ∷ Null ∷ x ∷ [])) f ∙ ap (λ c. cond c 1 0) h
+
+  last_empty : (s : State) (m : Meant) → EndsAt p args steps s m → comes m.ending → (n : ℤ) → IsLast n s → IsClear (core_of s) → EndsEmpty p args steps m
+  last_empty (Returning value [] core) m w c n e clear = ends_empty (Returning value [] core) m w c (λ b. none_times value core.exc_type core.exc_value b (ap (is_block b) e) clear.kind clear.value) clear.apart
+  last_empty other m w c n e clear = absurd (e)
+
+  pub returns_empty : (n : ℤ) (s : State) (m : Meant) → EndsAt p args steps s m → m.ending ≡ Came (Returned n) → IsClear (core_of s) → EndsEmpty p args steps m
+  returns_empty n s m w e clear = last_empty s m w (subst comes (sym e) tt) n (return_is_last p args steps n s m w e) clear
+
+  -- ---- the exception that leaves the first graph
+
+  only : (a v : ℕ) → live [] (exit.Raised a) v ≡ true → a ≡ v
+  only a v e = ⊎_elim (λ f. ⊎_elim (λ g. is_same a v g) (λ g. absurd (cc)) (or_one (a == v) false f)) (λ f. absurd (cc)) (or_one (a == v || false) false e)
+
+  pub raises_empty : (a g : ℕ) (core : Core) (m : Meant) → EndsAt p args steps (At [] (exit.Raised a) [] core) m → comes m.ending → read core.vars a ≡ Static g → IsClear core → EndsEmpty p args steps m
+  raises_empty a g core m w c e clear = ends_empty (At [] (exit.Raised a) [] core) m w c (λ b. none b (times b (roots p (At [] (exit.Raised a) [] core))) refl) clear.apart
+    where
+      kept_none : (b : ℕ) → 0 < times b (kept (live [] (exit.Raised a)) 0 core.vars) → ⊥
+      kept_none b h = by (used_from (live [] (exit.Raised a)) core.vars b h)
+        where
+          by : (v : ℕ) × (live [] (exit.Raised a) v ≡ true) × (read core.vars v ≡ Ptr b) → ⊥
+          by (v, u, f) = let x : Static g ≡ Ptr b = sym e ∙ ap (read core.vars) (only a v u) ∙ f in cc
+
+      slots_none : (b : ℕ) → times b (core.exc_type ∷ core.exc_value ∷ []) ≡ 0
+      slots_none b = ap (λ x. times b (x ∷ core.exc_value ∷ [])) clear.kind ∙ ap (λ x. times b (Null ∷ x ∷ [])) clear.value
+
+      none : (b n : ℕ) → times b ((kept (live [] (exit.Raised a)) 0 core.vars ++ slots core) ++ []) ≡ n → n ≡ 0
+      none b zero f = refl
+      none b (suc n) f =
+          let x : times b ((kept (live [] (exit.Raised a)) 0 core.vars ++ slots core) ++ []) ≡ times b (kept (live [] (exit.Raised a)) 0 core.vars ++ slots core) + 0 = times_append b (kept (live [] (exit.Raised a)) 0 core.vars ++ slots core) [] in
+          let y : times b (kept (live [] (exit.Raised a)) 0 core.vars ++ slots core) ≡ times b (kept (live [] (exit.Raised a)) 0 core.vars) + times b (slots core) = times_append b (kept (live [] (exit.Raised a)) 0 core.vars) (slots core) in
+          let z : times b (slots core) ≡ 0 = slots_none b in
+          absurd (kept_none b (omega (arith, f, x, y, z)))

@@ -1,0 +1,6 @@
+pub mod Counts
+pub mod Endings
+pub mod Hits
+pub mod Inner
+pub mod Places
+pub mod There

@@ -1,0 +1,31 @@
+// Laws of exact counts, over all programs that can be counted.
+ghost use Rattle.std.specs.Prelude.{◌≡◌, ℕ, ℤ, List, []};
+ghost use Rattle.rpy_base.specs.declared.outcome.Outcome.TheVariants.{Returned};
+ghost use Rattle.csub_tree.specs.State.{Static, Core};
+ghost use Rattle.csub_tree.specs.Statement.{read};
+ghost use Rattle.ll_code.specs.Meaning.{Came, Meant, comes};
+ghost use Rattle.ll_code.specs.State.{State, At};
+ghost use Rattle.ll_code.specs.declared.program.LlExit.TheVariants as exit;
+ghost use Rattle.ll_code.specs.declared.program.LlProgram.{LlProgram};
+ghost use Rattle.ll_held.specs.Roots.{core_of};
+ghost use Rattle.ll_events.specs.Told.{EndsAt};
+ghost use Rattle.refcount_ready.specs.Programs.{CanBeCounted, RunsSmall};
+ghost use Rattle.refcount_exact.specs.Endings.{EndsHolding, EndsEmpty, IsClear};
+
+/// Where a run of a program that can be counted ends, the counted program ends the same way; and each
+/// block that it made and that is not among those gone is held in the program, in the state at which that
+/// ends: it is reached from a root of that state, or lies on a cycle or is reached from one.
+pub fn what_is_left_is_held()
+    ensures { (p : LlProgram) → CanBeCounted p → (args : List (List ℕ)) (steps : ℕ) → RunsSmall p args steps → (s : State) (m : Meant) → EndsAt p args steps s m → comes m.ending → EndsHolding p args steps s m }
+{}
+
+/// Where such a run returns, its exception slots are clear and no block lies on a cycle, each block that
+/// the counted program made is gone, and went once.
+pub fn returned_runs_leave_nothing()
+    ensures { (p : LlProgram) → CanBeCounted p → (args : List (List ℕ)) (steps : ℕ) → RunsSmall p args steps → (n : ℤ) (s : State) (m : Meant) → EndsAt p args steps s m → m.ending ≡ Came (Returned n) → IsClear (core_of s) → EndsEmpty p args steps m }
+{}
+
+/// So it is where such a run ends with an exception whose name stands in a static, while no call waits.
+pub fn raised_runs_leave_nothing()
+    ensures { (p : LlProgram) → CanBeCounted p → (args : List (List ℕ)) (steps : ℕ) → RunsSmall p args steps → (a g : ℕ) (core : Core) (m : Meant) → EndsAt p args steps (At [] (exit.Raised a) [] core) m → comes m.ending → read core.vars a ≡ Static g → IsClear core → EndsEmpty p args steps m }
+{}
