@@ -1,0 +1,3 @@
+-- Lemmas for the laws, and for code that grows an assignment.
+pub mod Meeting
+pub mod Asked
