@@ -1,7 +1,9 @@
 -- Assignments that grow towards the least one: each is below all that are closed and free of conflict.
-use Rattle.std.specs.Prelude.{◌≡◌, ℕ, Bool, true, false, List, [], ◌∷◌, length}
+use Rattle.std.specs.Prelude.{◌≡◌, ℕ, Bool, true, false, List, [], ◌∷◌, length, slice_get, Some}
 use Rattle.rpy_tree.specs.declared.program.ClassInfo.{ClassInfo}
 use Rattle.flow_graph.specs.declared.graph.Op.{Op}
+use Rattle.flow_graph.specs.declared.graph.Block.{Block}
+use Rattle.flow_graph.specs.declared.graph.Graph.{Graph}
 use Rattle.ann_lattice.specs.Kind.{is_nothing}
 use Rattle.ann_lattice.specs.Assign.{Assignment, Need, at, mark, Fits, Closed, Free, IsTable, IsLeast}
 use Rattle.ann_lattice.specs.Laws.{IsTree}
@@ -49,3 +51,19 @@ Keeps p a b = (spots : ℕ → Bool) (start : Assignment) → Basis p spots star
 abbrev pub AllGo : Whole → Assignment → ℕ → List Op → Type 0
 AllGo p a g [] = Unit {0}
 AllGo p a g (o ∷ os) = (goes_on p a g o ≡ true) × AllGo p a g os
+
+-- the block of this number in the graph of that number is reached
+pub record IsReached (p : Whole) (g : ℕ) (graph : Graph) (n : ℕ) (c : Block) (a : Assignment) : Type 0 where
+  pub graph_is : slice_get p.graphs g ≡ Some graph
+  pub block_is : slice_get graph.blocks n ≡ Some c
+  pub marked : mark a (p.places.block g n) ≡ true
+
+-- b is below each closed, free assignment if a is, in which the block is reached; it is in b, and these operations gave values there
+pub record HasReached (p : Whole) (g : ℕ) (graph : Graph) (n : ℕ) (c : Block) (os : List Op) (spots : ℕ → Bool) (start b : Assignment) : Type 0 where
+  pub partial : IsPartial p spots start b
+  pub reached : IsReached p g graph n c b
+  pub go : AllGo p b g os
+
+abbrev pub Reaches : Whole → ℕ → Graph → ℕ → Block → Assignment → Assignment → List Op → Type 0
+Reaches p g graph n c a b os =
+    IsReached p g graph n c a → (spots : ℕ → Bool) (start : Assignment) → Basis p spots start → IsPartial p spots start a → HasReached p g graph n c os spots start b

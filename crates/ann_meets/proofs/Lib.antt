@@ -1,0 +1,3 @@
+-- Lemmas for the code.
+pub mod Raising
+pub mod Steps
