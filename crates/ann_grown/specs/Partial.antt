@@ -1,12 +1,12 @@
 -- Assignments that grow towards the least one: each is below all that are closed and free of conflict.
-use Rattle.std.specs.Prelude.{◌≡◌, ℕ, Bool, true, false, List, [], ◌∷◌, length, slice_get, Some}
+use Rattle.std.specs.Prelude.{◌≡◌, ℕ, Bool, true, false, List, [], ◌∷◌, length, map, slice_get, Some}
 use Rattle.rpy_tree.specs.declared.program.ClassInfo.{ClassInfo}
 use Rattle.flow_graph.specs.declared.graph.Op.{Op}
 use Rattle.flow_graph.specs.declared.graph.Block.{Block}
 use Rattle.flow_graph.specs.declared.graph.Graph.{Graph}
 use Rattle.ann_lattice.specs.Kind.{is_nothing}
 use Rattle.ann_lattice.specs.Assign.{Assignment, Need, at, mark, Fits, Closed, Free, IsTable, IsLeast}
-use Rattle.ann_lattice.specs.Laws.{IsTree}
+use Rattle.ann_lattice.specs.Laws.{IsTree, named}
 use Rattle.ann_laws.specs.Rows.{HasClasses}
 use Rattle.ann_rules.specs.Program.{Whole}
 use Rattle.ann_rules.specs.Rules.{rules, goes_on}
@@ -67,3 +67,7 @@ pub record HasReached (p : Whole) (g : ℕ) (graph : Graph) (n : ℕ) (c : Block
 abbrev pub Reaches : Whole → ℕ → Graph → ℕ → Block → Assignment → Assignment → List Op → Type 0
 Reaches p g graph n c a b os =
     IsReached p g graph n c a → (spots : ℕ → Bool) (start : Assignment) → Basis p spots start → IsPartial p spots start a → HasReached p g graph n c os spots start b
+
+-- each element written with the least site of each class
+abbrev pub with_leaders : Assignment → Assignment
+with_leaders a = record { cells = map (named a.same) a.cells; marks = a.marks; same = a.same }
