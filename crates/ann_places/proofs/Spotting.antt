@@ -178,7 +178,7 @@ one_of s n lt = grind arith
 alone_read : (n s : ℕ) → s < n → get_or (below n) s 0 ≡ s
 alone_read zero s lt = absurd (omega (arith, lt))
 alone_read (suc n) s lt = ⊎_elim
-    (λ (less : s < n). let inside : s < length (below n) = omega (arith, less, length_below n) in get_or_append_left (below n) (n ∷ []) s 0 inside ∙ alone_read n s less)
+    (λ (less : s < n). let inside : s < length (below n) = omega (arith, less, length_below n) in get_or_append_left (below n) (n ∷ []) 0 s inside ∙ alone_read n s less)
     (λ (e : n ≡ s). get_or_push (below n) n 0 s (length_below n ∙ e) ∙ e)
     (one_of s n lt)
 

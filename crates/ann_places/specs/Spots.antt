@@ -55,5 +55,8 @@ abbrev pub spots : Plan → ℕ → Bool
 spots p c = (c == nowhere) || among c (spot_cells p)
 
 -- every element is unreached, no mark is set, and each site is alone
+abbrev pub empty : ℕ → ℕ → List Site → Assignment
+empty cells marks sites = record { cells = replicate cells Nothing; marks = replicate marks false; same = alone sites }
+
 abbrev pub start : Planned → Assignment
-start p = record { cells = replicate p.cells Nothing; marks = replicate p.marks false; same = alone p.plan.sites }
+start p = empty p.cells p.marks p.plan.sites

@@ -17,7 +17,6 @@ pub fn parts_have_places()
 {}
 
 /// Each site and each result of an operation has a cell that there is, in which no conflict may stand.
-#[tactic(auto, using(crate::proofs::Spotting::is_placed))]
 pub fn spots_have_places()
     ensures { (p : Program) (gs : Graphs) (t : Tables) → IsPlaced (whole (plan p gs t)) (spots (plan p gs t)) (start (planned p gs t)) }
 {}
