@@ -15,9 +15,9 @@ use Rattle.ann_rules.specs.Program.{Whole, Callee}
 use Rattle.ann_rules.specs.Asks.{when}
 use Rattle.ann_rules.specs.Rules as rule
 use Rattle.ann_rules.specs.Hold.{AllHold}
-use Rattle.ann_rules.proofs.Facts.{hold_left, hold_right}
+use Rattle.ann_rules.proofs.Facts.{hold_append, hold_left, hold_right}
 use Rattle.ann_rules.proofs.Mono.{rules_monotone}
-use Rattle.ann_grown.specs.Partial.{Basis, IsPartial, Due, Grows, AllGo}
+use Rattle.ann_grown.specs.Partial.{Basis, IsPartial, Due, Grows, AllGo, Meets, IsPart}
 
 hold_all : (k : List ClassInfo) (b : Assignment) (ns : List Need) → ((r : ℕ) → Holds k b (get_or ns r rule.no_need)) → AllHold k b ns
 hold_all k b [] h = tt
@@ -168,3 +168,23 @@ go_on p a b g h (o ∷ os) go =
 pub go_one : (p : Whole) (a : Assignment) (g : ℕ) (os : List Op) (o : Op) → AllGo p a g os → rule.goes_on p a g o ≡ true → AllGo p a g (os ++ o ∷ [])
 go_one p a g [] o go e = (e, tt)
 go_one p a g (x ∷ os) o go e = (go.0, go_one p a g os o go.1 e)
+
+-- ---- some of what is asked
+
+pub part_left : (os ms : List Need) → IsPart os (os ++ ms)
+part_left os ms k b h = hold_left k b os ms h
+
+pub part_same : (ns os : List Need) → ns ≡ os → IsPart ns os
+part_same ns os e = subst (λ m. IsPart m os) (sym e) (λ k b h. h)
+
+-- some of the first, then some of the others
+pub part_then : (os ms rs ns ps : List Need) → IsPart ns (os ++ ms) → IsPart ps (ns ++ rs) → IsPart ps (os ++ (ms ++ rs))
+part_then os ms rs ns ps g h k b all =
+    let others : AllHold k b (ms ++ rs) = hold_right k b os (ms ++ rs) all in
+    h k b (hold_append k b ns rs (g k b (hold_append k b os ms (hold_left k b os (ms ++ rs) all) (hold_left k b ms rs others))) (hold_right k b ms rs others))
+
+pub meets_part : (p : Whole) (ns ms : List Need) (a b : Assignment) → IsPart ns ms → Meets p ns a b → Meets p ms a b
+meets_part p ns ms a b part m = record {
+  grows = m.grows;
+  partial = λ spots start basis h due. m.partial spots start basis h (λ e fits closed free. part p.tables.classes e (due e fits closed free));
+}

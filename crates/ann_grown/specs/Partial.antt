@@ -71,3 +71,7 @@ Reaches p g graph n c a b os =
 -- each element written with the least site of each class
 abbrev pub with_leaders : Assignment → Assignment
 with_leaders a = record { cells = map (named a.same) a.cells; marks = a.marks; same = a.same }
+
+-- where the latter needs hold, so do the former
+abbrev pub IsPart : List Need → List Need → Type 0
+IsPart ms ns = (k : List ClassInfo) (b : Assignment) → AllHold k b ns → AllHold k b ms
