@@ -171,17 +171,15 @@ go_one p a g (x ∷ os) o go e = (go.0, go_one p a g os o go.1 e)
 
 -- ---- some of what is asked
 
-pub part_left : (os ms : List Need) → IsPart os (os ++ ms)
-part_left os ms k b h = hold_left k b os ms h
+pub part_self : (ns : List Need) → IsPart ns ns
+part_self ns k b h = h
 
-pub part_same : (ns os : List Need) → ns ≡ os → IsPart ns os
-part_same ns os e = subst (λ m. IsPart m os) (sym e) (λ k b h. h)
+pub part_when : (c : Bool) (ms ns : List Need) → IsPart ms ns → IsPart (when c ms) (when c ns)
+part_when true ms ns f k b h = f k b h
+part_when false ms ns f k b h = h
 
--- some of the first, then some of the others
-pub part_then : (os ms rs ns ps : List Need) → IsPart ns (os ++ ms) → IsPart ps (ns ++ rs) → IsPart ps (os ++ (ms ++ rs))
-part_then os ms rs ns ps g h k b all =
-    let others : AllHold k b (ms ++ rs) = hold_right k b os (ms ++ rs) all in
-    h k b (hold_append k b ns rs (g k b (hold_append k b os ms (hold_left k b os (ms ++ rs) all) (hold_left k b ms rs others))) (hold_right k b ms rs others))
+pub part_both : (ms ns os ps : List Need) → IsPart ms os → IsPart ns ps → IsPart (ms ++ ns) (os ++ ps)
+part_both ms ns os ps f g k b h = hold_append k b ms ns (f k b (hold_left k b os ps h)) (g k b (hold_right k b os ps h))
 
 pub meets_part : (p : Whole) (ns ms : List Need) (a b : Assignment) → IsPart ns ms → Meets p ns a b → Meets p ms a b
 meets_part p ns ms a b part m = record {

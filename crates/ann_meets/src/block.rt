@@ -4,8 +4,9 @@ ghost use Rattle.ann_rules.specs.Rules as rule;
 ghost use Rattle.ann_needs.specs.View.{assignment, whole};
 ghost use Rattle.ann_grown.specs.Partial.{IsReached, Keeps, Meets};
 
+use crate::link::{exception_asks, exit_asks};
 use crate::meet::{News, meet_all};
-use ann_needs::{Asks, Plan, State, exception_asks, exit_asks, goes_on, op_asks};
+use ann_needs::{Asks, Plan, State, goes_on, op_asks};
 use flow_graph::{Block, Exit, Graph, Op};
 use rpy_base::NoMem;
 use std::alloc::Global;
