@@ -7,5 +7,6 @@ mod meet;
 mod part;
 
 pub use block::grow_block;
+pub use link::{exception_asks, exit_asks};
 pub use meet::News;
 pub use part::{grow_entry, grow_site, grow_start, grow_ties};

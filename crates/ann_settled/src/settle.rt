@@ -6,8 +6,8 @@ ghost use Rattle.ann_settled.specs.Settled as spec;
 
 use crate::node::nodes_of;
 use crate::read::read;
-use ann_closed::is_closed;
 use ann_element::Annotation;
+use ann_holding::all_holds;
 use ann_layout::Planned;
 use ann_needs::{Plan, State};
 use ann_states::{find_clash, nothing_reached, write_leaders};
@@ -94,7 +94,7 @@ fn judge(alloc: Global, planned: &Planned, s: &State) -> Result<Verdict, NoMem>
             if !is_complete(planned, s) {
                 return Ok(Verdict::Open);
             }
-            if is_closed(alloc, &planned.plan, s)? {
+            if all_holds(alloc, &planned.plan, s)? {
                 Ok(Verdict::Settled)
             } else {
                 Ok(Verdict::Open)
