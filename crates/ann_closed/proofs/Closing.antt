@@ -36,7 +36,7 @@ module _ (k : List ClassInfo) where
   marked (b ∷ bs) zero e lt = e
   marked (b ∷ bs) (suc m) e lt = marked bs m e (omega (arith, lt))
 
-  one_holds : (a : Assignment) (n : Need) → holds k a n ≡ true → Holds k a n
+  pub one_holds : (a : Assignment) (n : Need) → holds k a n ≡ true → Holds k a n
   one_holds a (Up c xs) e = above a.same xs a.cells c e
   one_holds a (Set m) e = marked a.marks m e
 

@@ -1,4 +1,4 @@
--- The functions of a program by their parameters with their defaults, and which calls have a string literal as their one argument.
+-- The functions of a program by their parameters with their defaults.
 use Rattle.std.specs.Prelude.{ℕ, ◌+◌, ◌==◌, ◌&&◌, ◌||◌, Bool, true, false, if◌then◌else◌, List, [], ◌∷◌, ◌++◌, map, slice_get, slice_set, replicate, length, nat_lt, Option, Some, None}
 use Rattle.rpy_tree.specs.declared.syntax.Expr.{Expr}
 use Rattle.rpy_tree.specs.declared.syntax.Param.{Param}
@@ -61,44 +61,3 @@ with_modules uses first (m ∷ ms) callees = with_modules uses (first + m.nodes)
 -- the functions of all modules, in node order
 abbrev pub callees : Program → List Callee
 callees p = with_modules p.uses 0 p.modules []
-
--- ---- literals
-
-abbrev pub is_text : RowOp → Bool
-is_text (row.Str text) = true
-is_text other = false
-
--- the variable is a string literal of the block
-abbrev pub is_literal : ℕ → List Op → Bool
-is_literal v [] = false
-is_literal v (o ∷ os) = (o.result == v && is_text o.op) || is_literal v os
-
-abbrev pub is_one_literal : List ℕ → List Op → Bool
-is_one_literal (v ∷ []) os = is_literal v os
-is_one_literal other os = false
-
-abbrev pub set_mark : ℕ → List Bool → List Bool
-set_mark n marks = if nat_lt n (length marks) then slice_set marks n true else marks
-
-abbrev pub is_new : RowOp → Bool
-is_new (row.New c) = true
-is_new other = false
-
-abbrev pub with_op : List Op → Op → List Bool → List Bool
-with_op all o marks = if is_new o.op && is_one_literal o.args all then set_mark o.node marks else marks
-
-abbrev pub with_ops : List Op → List Op → List Bool → List Bool
-with_ops all [] marks = marks
-with_ops all (o ∷ os) marks = with_ops all os (with_op all o marks)
-
-abbrev pub with_blocks : List Block → List Bool → List Bool
-with_blocks [] marks = marks
-with_blocks (b ∷ bs) marks = with_blocks bs (with_ops b.ops b.ops marks)
-
-abbrev pub with_graphs : List Graph → List Bool → List Bool
-with_graphs [] marks = marks
-with_graphs (g ∷ gs) marks = with_graphs gs (with_blocks g.blocks marks)
-
--- the nodes that call a class with a string literal as the one argument
-abbrev pub literals : ℕ → List Graph → List Bool
-literals nodes gs = with_graphs gs (replicate nodes false)

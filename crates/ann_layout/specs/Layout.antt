@@ -9,7 +9,8 @@ use Rattle.class_desc.specs.Tables.{Tables, declared}
 use Rattle.ann_needs.specs.declared.plan.Callee.{Callee}
 use Rattle.ann_needs.specs.declared.plan.Plan.{Plan}
 use Rattle.ann_needs.specs.declared.plan.Places.{Places}
-use Rattle.ann_layout.specs.Callees.{callees, literals}
+use Rattle.ann_layout.specs.Callees.{callees}
+use Rattle.ann_layout.specs.Literals.{literals}
 use Rattle.ann_layout.specs.declared.layout.Layout.{Layout}
 use Rattle.ann_layout.specs.declared.layout.Planned.{Planned}
 

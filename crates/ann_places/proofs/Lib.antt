@@ -1,2 +1,3 @@
 -- Lemmas for the laws.
 pub mod Placing
+pub mod Spotting

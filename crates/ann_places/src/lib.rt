@@ -3,4 +3,4 @@
 
 mod laws;
 
-pub use laws::parts_have_places;
+pub use laws::{parts_have_places, spots_have_places};

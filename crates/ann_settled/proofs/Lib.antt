@@ -1,3 +1,2 @@
 -- Lemmas for the code.
-pub mod Cells
-pub mod Gathered
+pub mod Ending

@@ -1,3 +1,2 @@
-pub mod Free
 pub mod Read
 pub mod Settled

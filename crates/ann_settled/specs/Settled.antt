@@ -1,31 +1,83 @@
--- An annotation that is closed under all that its program's graphs ask, and free of conflict.
-use Rattle.std.specs.Prelude.{◌≡◌, ◌==◌, ◌&&◌, Bool, true, List, length}
+-- The least annotation that is closed under all that its program's graphs ask and free of conflict.
+use Rattle.std.specs.Prelude.{◌≡◌, ◌<◌, ◌==◌, ◌&&◌, ℕ, Bool, true, List, length, Result, Ok, Err}
 use Rattle.rpy_tree.specs.declared.program.Program.{Program}
 use Rattle.flow_graph.specs.declared.graph.Graphs.{Graphs}
 use Rattle.class_desc.specs.Tables.{Tables}
 use Rattle.ann_element.specs.declared.element.Element.{Element}
 use Rattle.ann_element.specs.declared.annotation.Annotation.{Annotation}
-use Rattle.ann_lattice.specs.Assign.{Closed}
+use Rattle.ann_lattice.specs.Join.{is_clash}
+use Rattle.ann_lattice.specs.Assign.{Assignment, at, Closed, Free, IsLeast}
+use Rattle.ann_laws.specs.Rows.{HasClasses}
 use Rattle.ann_rules.specs.Rules.{rules}
+use Rattle.ann_grown.specs.Partial as partial
 use Rattle.ann_needs.specs.View.{assignment, whole}
 use Rattle.ann_needs.specs.declared.state.State.{State}
-use Rattle.ann_layout.specs.Layout.{plan, planned}
+use Rattle.ann_layout.specs.Layout.{planned}
 use Rattle.ann_layout.specs.declared.layout.Planned.{Planned}
-use Rattle.ann_settled.specs.Free.{all_free}
+use Rattle.ann_places.specs.Spots.{spots, empty, start}
 use Rattle.ann_settled.specs.Read.{annotation}
-use Rattle.ann_settled.specs.declared.settle.Settled.{Settled}
+use Rattle.ann_settled.specs.declared.settle.Unsettled.{Unsettled}
+use Rattle.ann_settled.specs.declared.settle.Unsettled.TheVariants as unsettled
+use Rattle.ann_settled.specs.declared.settle.Verdict.{Verdict}
+use Rattle.ann_settled.specs.declared.settle.Verdict.TheVariants as verdict
 
 -- each cell and each mark is there
 abbrev pub is_complete : Planned → State → Bool
-is_complete p s = (length s.cells == p.cells) && (length s.marks == p.marks)
+is_complete q s = (length s.cells == q.cells) && (length s.marks == q.marks)
 
--- The annotation is what stands in these cells and marks, one for each part of the program; all that the rules of its graphs ask holds there; and no
--- parameter, result, attribute, item, key or result of an operation is in conflict.
+-- all that the rules of the graphs ask holds, and no parameter, result, attribute, item, key or result of an operation is in conflict
+pub record IsClosed (q : Planned) (s : State) : Type 0 where
+  pub complete : is_complete q s ≡ true
+  pub closed : Closed q.plan.classes.classes (rules (whole q.plan)) (assignment s)
+  pub free : Free (spots q.plan) (assignment s)
+
+-- ---- while it grows
+
+abbrev pub begin : Program → Planned → Assignment
+begin p q = empty q.cells q.marks p.sites
+
+abbrev pub Basis : Program → Planned → Type 0
+Basis p q = partial.Basis (whole q.plan) (spots q.plan) (begin p q)
+
+abbrev pub Keeps : Planned → State → State → Type 0
+Keeps q s t = partial.Keeps (whole q.plan) (assignment s) (assignment t)
+
+abbrev pub IsGrown : Program → Planned → State → Type 0
+IsGrown p q s = Basis p q → partial.IsPartial (whole q.plan) (spots q.plan) (begin p q) (assignment s)
+
+abbrev pub Judged : Planned → State → Verdict → Type 0
+Judged q s verdict.Settled = IsClosed q s
+Judged q s (verdict.Conflict c) = (spots q.plan c ≡ true) × (is_clash (at (assignment s) c) ≡ true)
+Judged q s verdict.Open = Unit {0}
+
+abbrev pub NoneFree : Program → Planned → Type 0
+NoneFree p q = Basis p q → partial.NoneFree (whole q.plan) (spots q.plan) (begin p q)
+
+-- closed and free, and below each that is; or none is
+abbrev pub Ends : Program → Planned → Result State Unsettled → Type 0
+Ends p q (Ok s) = IsClosed q s × IsGrown p q s
+Ends p q (Err (unsettled.Conflict n)) = NoneFree p q
+Ends p q (Err unsettled.NoMem) = Unit {0}
+
+-- ---- the annotation
+
+-- the annotation is what stands in these cells and marks, one for each part of the program
+abbrev pub IsRead : Planned → State → Annotation → Type 0
+IsRead q s n = n ≡ annotation s q.plan.classes n.nodes q.plan.places
+
+abbrev pub Closes : Program → Planned → Result Annotation Unsettled → Type 0
+Closes p q (Ok n) = (s : State) × (IsRead q s n × (IsClosed q s × IsGrown p q s))
+Closes p q (Err (unsettled.Conflict n)) = NoneFree p q
+Closes p q (Err unsettled.NoMem) = Unit {0}
+
+-- The annotation is what stands in these cells and marks, one for each part of the program; all that the rules of its graphs ask holds there; no
+-- parameter, result, attribute, item, key or result of an operation is in conflict; and it is below each assignment of which that holds. What is said
+-- of others rests on classes that are a tree and on a site, which each program has.
 pub record IsSettled (p : Program) (gs : Graphs) (t : Tables) (n : Annotation) (s : State) : Type 0 where
-  pub read : n ≡ annotation s t n.nodes (plan p gs t).places
-  pub complete : is_complete (planned p gs t) s ≡ true
-  pub closed : Closed t.classes (rules (whole (plan p gs t))) (assignment s)
-  pub free : all_free (plan p gs t) (assignment s) ≡ true
+  pub read : IsRead (planned p gs t) s n
+  pub closed : IsClosed (planned p gs t) s
+  pub least : HasClasses t → 0 < length p.sites → IsLeast t.classes (rules (whole (planned p gs t).plan)) (spots (planned p gs t).plan) (start (planned p gs t)) (assignment s)
 
-abbrev pub finished : Planned → State → List Element → Settled
-finished p s nodes = record { graphs = p.plan.graphs; classes = p.plan.classes; annotation = annotation s p.plan.classes nodes p.plan.places }
+-- no assignment is closed under them and free of conflict
+abbrev pub NoneSettled : Program → Graphs → Tables → Type 0
+NoneSettled p gs t = HasClasses t → 0 < length p.sites → partial.NoneFree (whole (planned p gs t).plan) (spots (planned p gs t).plan) (start (planned p gs t))

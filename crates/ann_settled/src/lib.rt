@@ -1,10 +1,11 @@
-//! An annotation that is closed under all that its program's graphs ask, and free of conflict.
+//! The least annotation that is closed under all that its program's graphs ask and free of conflict, or that
+//! there is none.
 #![tactic(auto)]
 
-mod free;
-mod grow;
+mod laws;
+mod node;
 mod read;
-mod seed;
 mod settle;
 
-pub use settle::{Settled, Unsettled, close};
+pub use laws::growing_has_a_basis;
+pub use settle::{Unsettled, close};

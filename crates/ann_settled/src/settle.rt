@@ -1,92 +1,24 @@
-// The annotation of a program, closed under all that its graphs ask.
-ghost use Rattle.std.specs.Prelude.{◌≡◌, true, IfOk};
-ghost use Rattle.ann_lattice.specs.Assign.{Closed};
-ghost use Rattle.ann_rules.specs.Rules.{rules};
-ghost use Rattle.ann_needs.specs.View.{assignment, whole};
-ghost use Rattle.ann_needs.specs.declared.state.State.{State};
+// The least annotation of a program.
+ghost use Rattle.std.specs.Prelude.{◌≡◌, true, IfOk, OnOk};
+ghost use Rattle.ann_needs.specs.View.{assignment};
+ghost use Rattle.ann_places.specs.Spots.{empty};
 ghost use Rattle.ann_settled.specs.Settled as spec;
 
-use crate::free::{all_free, is_free};
-use crate::grow::grow;
+use crate::node::nodes_of;
 use crate::read::read;
-use crate::seed::seed;
-use ann_closed::is_closed;
-use ann_element::{Annotation, Element};
-use ann_layout::{Planned, plan_of};
+use ann_element::Annotation;
+use ann_holding::all_holds;
+use ann_layout::Planned;
 use ann_needs::{Plan, State};
-use class_desc::Classes;
-use flow_graph::{Block, Graphs, Op};
-use rpy_base::{NoMem, Seq};
+use ann_states::{find_clash, nothing_reached, write_leaders};
+use ann_swept::{Work, begin, sweep, wake_all};
+use flow_graph::{Block, Op};
+use rpy_base::NoMem;
 use rpy_tree::{NodeId, Program};
 use std::alloc::Global;
 
-// Whether each cell and each mark is there.
-fn is_complete(planned: &Planned, s: &State) -> bool
-    ensures { result ≡ spec.is_complete planned.now s.now }
-{
-    s.cells.len() == planned.cells && s.marks.len() == planned.marks
-}
-
-// Grows until all that is asked holds.
-fn settle(alloc: Global, planned: &Planned, s: State) -> Result<State, NoMem>
-    ensures closed { IfOk result (λ end. Closed planned.now.plan.classes.classes (rules (whole planned.now.plan)) (assignment end)) }
-    ensures complete { IfOk result (λ end. spec.is_complete planned.now end ≡ true) }
-{
-    let mut s = s;
-    for _pass in 0..u64::MAX {
-        if is_complete(planned, &s) {
-            if is_closed(alloc, &planned.plan, &s)? {
-                return Ok(s);
-            }
-        }
-        grow(alloc, &planned.plan, &mut s)?;
-    }
-    Err(NoMem)
-}
-
-// ---- conflicts
-
-fn op_in_conflict(p: &Plan, s: &State, g: usize, ops: &[Op]) -> Option<NodeId> {
-    for op in ops {
-        if !is_free(s, p.variable(g, op.result)) {
-            return Some(op.node);
-        }
-    }
-    None
-}
-
-fn block_in_conflict(p: &Plan, s: &State, g: usize, blocks: &[Block]) -> Option<NodeId> {
-    for block in blocks {
-        match op_in_conflict(p, s, g, block.ops.as_slice()) {
-            None => {}
-            Some(node) => return Some(node),
-        }
-    }
-    None
-}
-
-// The node of an operation whose result is in conflict, else the first node.
-fn node_in_conflict(p: &Plan, s: &State) -> NodeId {
-    for (g, graph) in p.graphs.graphs.as_slice().iter().enumerate() {
-        match block_in_conflict(p, s, g, graph.blocks.as_slice()) {
-            None => {}
-            Some(node) => return node,
-        }
-    }
-    0
-}
-
-// ---- the whole
-
-/// A program's graphs, its classes and its annotation.
-#[derive(Drop)]
-pub struct Settled {
-    pub graphs: Graphs,
-    pub classes: Classes,
-    pub annotation: Annotation,
-}
-
-/// Why there is no annotation: growing met a conflict, or there was no memory.
+/// Why there is no annotation: none is closed and free of conflict, and growing met one at this node; or
+/// there was no memory.
 #[derive(Clone, Copy, Debug, PartialEq, Eq)]
 pub enum Unsettled {
     Conflict(NodeId),
@@ -104,54 +36,134 @@ impl From<NoMem> for Unsettled {
     }
 }
 
-fn read_out(
-    alloc: Global,
-    planned: Planned,
-    s: State,
-    nodes: Seq<Element>,
-) -> Result<Settled, NoMem>
-    ensures { IfOk result (λ end. end ≡ spec.finished planned s nodes) }
-{
-    let annotation = read(alloc, s, &planned.plan.classes, &planned.plan.places, nodes)?;
-    let Planned {
-        plan,
-        cells: _,
-        marks: _,
-    } = planned;
-    let Plan {
-        classes,
-        callees: _,
-        sites: _,
-        graphs,
-        entry: _,
-        literals: _,
-        places: _,
-    } = plan;
-    Ok(Settled {
-        graphs,
-        classes,
-        annotation,
-    })
+// ---- conflicts
+
+fn op_at(p: &Plan, cell: usize, g: usize, ops: &[Op]) -> Option<NodeId> {
+    for op in ops {
+        if p.variable(g, op.result) == cell {
+            return Some(op.node);
+        }
+    }
+    None
 }
 
-/// The annotation that was found, closed under all that the graphs ask: what does not hold in it is met,
-/// until all holds. It is free of conflict.
+fn block_at(p: &Plan, cell: usize, g: usize, blocks: &[Block]) -> Option<NodeId> {
+    for block in blocks {
+        match op_at(p, cell, g, block.ops.as_slice()) {
+            None => {}
+            Some(node) => return Some(node),
+        }
+    }
+    None
+}
+
+// The node of the operation whose result stands in a cell, else the first node.
+fn node_at(p: &Plan, cell: usize) -> NodeId {
+    for (g, graph) in p.graphs.graphs.as_slice().iter().enumerate() {
+        match block_at(p, cell, g, graph.blocks.as_slice()) {
+            None => {}
+            Some(node) => return node,
+        }
+    }
+    0
+}
+
+// ---- the end of growing
+
+/// What a state is: closed and free, in conflict at a cell where none may be, or neither.
+#[derive(Clone, Copy, Debug, PartialEq, Eq)]
+pub enum Verdict {
+    Settled,
+    Conflict(usize),
+    Open,
+}
+
+// Whether each cell and each mark is there.
+fn is_complete(planned: &Planned, s: &State) -> bool
+    ensures { result ≡ spec.is_complete planned.now s.now }
+{
+    s.cells.len() == planned.cells && s.marks.len() == planned.marks
+}
+
+fn judge(alloc: Global, planned: &Planned, s: &State) -> Result<Verdict, NoMem>
+    ensures { IfOk result (λ verdict. spec.Judged planned.now s.now verdict) }
+{
+    match find_clash(s, &planned.plan) {
+        Some(cell) => Ok(Verdict::Conflict(cell)),
+        None => {
+            if !is_complete(planned, s) {
+                return Ok(Verdict::Open);
+            }
+            if all_holds(alloc, &planned.plan, s)? {
+                Ok(Verdict::Settled)
+            } else {
+                Ok(Verdict::Open)
+            }
+        }
+    }
+}
+
+// Grows until nothing waits, and writes each element with the least sites.
+fn grow(
+    alloc: Global,
+    planned: &Planned,
+    s: &mut State,
+    work: &mut Work,
+) -> Result<(), NoMem>
+    ensures { OnOk result (spec.Keeps planned.now s.old s.new) }
+{
+    sweep(alloc, &planned.plan, s, work)?;
+    write_leaders(alloc, s)
+}
+
+fn start(
+    alloc: Global,
+    program: &Program,
+    planned: &Planned,
+    work: &mut Work,
+) -> Result<State, NoMem>
+    ensures { IfOk result (λ s. spec.IsGrown program.now planned.now s) }
+{
+    let mut s = nothing_reached(alloc, program, planned.cells, planned.marks)?;
+    begin(alloc, &planned.plan, &mut s, work)?;
+    Ok(s)
+}
+
+fn settle(alloc: Global, program: &Program, planned: &Planned) -> Result<State, Unsettled>
+    ensures { spec.Ends program.now planned.now result }
+{
+    let mut work = Work::new(alloc, &planned.plan, planned.cells, planned.marks)?;
+    let mut s = start(alloc, program, planned, &mut work)?;
+    for _pass in 0..u64::MAX {
+        grow(alloc, planned, &mut s, &mut work)?;
+        match judge(alloc, planned, &s)? {
+            Verdict::Settled => return Ok(s),
+            Verdict::Conflict(cell) => {
+                return Err(Unsettled::Conflict(node_at(&planned.plan, cell)));
+            }
+            Verdict::Open => wake_all(&mut work, &planned.plan)?,
+        }
+    }
+    Err(Unsettled::NoMem)
+}
+
+fn read_out(alloc: Global, planned: &Planned, s: State) -> Result<Annotation, NoMem>
+    ensures { IfOk result (λ n. spec.IsRead planned.now s n) }
+{
+    let plan = &planned.plan;
+    let nodes = nodes_of(alloc, plan, &s)?;
+    read(alloc, s, &plan.classes, &plan.places, nodes)
+}
+
+/// The least annotation that is closed under all that the graphs of a planned program ask and free of
+/// conflict. Or there is none.
 pub fn close(
     alloc: Global,
     program: &Program,
-    graphs: Graphs,
-    classes: Classes,
-    found: Annotation,
-) -> Result<Settled, Unsettled>
-    ensures graphs { IfOk result (λ end. end.graphs ≡ graphs) }
-    ensures classes { IfOk result (λ end. end.classes ≡ classes) }
-    ensures settled { IfOk result (λ end. (s : State) × spec.IsSettled program.now graphs classes end.annotation s) }
+    planned: &Planned,
+) -> Result<Annotation, Unsettled>
+    ensures { spec.Closes program.now planned.now result }
 {
-    let planned = plan_of(alloc, program, graphs, classes)?;
-    let (seeded, nodes) = seed(alloc, &planned, found)?;
-    let s = settle(alloc, &planned, seeded)?;
-    if !all_free(&s, &planned.plan) {
-        return Err(Unsettled::Conflict(node_in_conflict(&planned.plan, &s)));
-    }
-    Ok(read_out(alloc, planned, s, nodes)?)
+    let s = settle(alloc, program, planned)?;
+    Ok(read_out(alloc, planned, s)?)
 }

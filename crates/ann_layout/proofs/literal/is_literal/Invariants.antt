@@ -1,5 +1,5 @@
 use Rattle.std.proofs.Common.{◌≡◌, drop}
-use Rattle.ann_layout.specs.Callees as spec
+use Rattle.ann_layout.specs.Literals as spec
 use Rattle.ann_layout.proofs.literal.is_literal.Given as goal
 
 abbrev pub invariant-loop-op : goal.invariant-loop-op

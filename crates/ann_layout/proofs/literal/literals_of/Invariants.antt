@@ -1,5 +1,5 @@
 use Rattle.std.proofs.Common.{◌≡◌, drop}
-use Rattle.ann_layout.specs.Callees as spec
+use Rattle.ann_layout.specs.Literals as spec
 use Rattle.ann_layout.proofs.literal.literals_of.Given as goal
 
 abbrev pub invariant-loop-graph : goal.invariant-loop-graph

@@ -1,0 +1,5 @@
+-- Lemmas for the laws, and for code that grows an assignment.
+pub mod Meeting
+pub mod Asked
+pub mod Reached
+pub mod Naming

@@ -1,0 +1,112 @@
+-- An element written with the least site of each class is below what it was below.
+use Rattle.std.proofs.Common.{◌≡◌, ℕ, zero, suc, Bool, List, [], ◌∷◌, ◌++◌, length, map, get_or, Option, Some, None, refl, sym, ap, ◌∙◌, subst}
+use Rattle.std.proofs.lemmas.List.{length-map}
+use Rattle.rpy_tree.specs.declared.program.ClassInfo.{ClassInfo}
+use Rattle.ann_element.specs.Sites.{leader, Same}
+use Rattle.ann_lattice.specs.Shape.{Shape, Nothing, NoneOnly, Truth, Num, Str, Tup, Lst, Dct, Inst, Fun, Clash, Shapes, end, more}
+use Rattle.ann_lattice.specs.Order.{Below, least, none, none_str, none_list, none_dict, none_inst, none_fun, truth, num, str, tuple, list, dict, inst, fun, clash, Each, no_more, and_more, In, Held, kept, lists, all_lists, dicts, all_dicts}
+use Rattle.ann_lattice.specs.Join.{Within}
+use Rattle.ann_lattice.specs.Laws.{name_of, named, all_named}
+use Rattle.ann_lattice.specs.Assign.{Assignment, at, Less, IsTable}
+use Rattle.ann_lattice.proofs.Ordered.{held_append, held_split}
+use Rattle.ann_rules.specs.Program.{Whole}
+use Rattle.ann_grown.specs.Partial.{IsPartial, Keeps, with_leaders}
+
+module _ (k : List ClassInfo) (t u : List ℕ) (w : Within t u) (leads : (s : ℕ) → leader t (leader t s) ≡ leader t s) where
+  led : (s v : ℕ) → Same u s v → Same u (leader t s) v
+  led s v e = w.by (leader t s) s (leads s) ∙ e
+
+  in_led : (o : Option ℕ) (s : ℕ) → In u o s → In u o (leader t s)
+  in_led None s h = h
+  in_led (Some a) s h = led s a h
+
+  kept_led : (o q : Option ℕ) → Held u o (kept q) → Held u o (kept (name_of t q))
+  kept_led o None h = tt
+  kept_led o (Some s) h = (in_led o s h.0, tt)
+
+  mutual
+    lists_led : (o : Option ℕ) (x : Shape) → Held u o (lists x) → Held u o (lists (named t x))
+    lists_led o (Lst s n) h = (in_led o s h.0, tt)
+    lists_led o (Tup xs) h = all_lists_led o xs h
+    lists_led o (Clash q r) h = kept_led o q h
+    lists_led o Nothing h = tt
+    lists_led o NoneOnly h = tt
+    lists_led o (Truth a) h = tt
+    lists_led o (Num a) h = tt
+    lists_led o (Str a) h = tt
+    lists_led o (Dct s n) h = tt
+    lists_led o (Inst c n) h = tt
+    lists_led o (Fun fs n) h = tt
+
+    all_lists_led : (o : Option ℕ) (xs : Shapes) → Held u o (all_lists xs) → Held u o (all_lists (all_named t xs))
+    all_lists_led o end h = tt
+    all_lists_led o (more x xs) h =
+        let parts = held_split u o (lists x) (all_lists xs) h in
+        held_append u o (lists (named t x)) (all_lists (all_named t xs)) (lists_led o x parts.0) (all_lists_led o xs parts.1)
+
+  mutual
+    dicts_led : (o : Option ℕ) (x : Shape) → Held u o (dicts x) → Held u o (dicts (named t x))
+    dicts_led o (Dct s n) h = (in_led o s h.0, tt)
+    dicts_led o (Tup xs) h = all_dicts_led o xs h
+    dicts_led o (Clash q r) h = kept_led o r h
+    dicts_led o Nothing h = tt
+    dicts_led o NoneOnly h = tt
+    dicts_led o (Truth a) h = tt
+    dicts_led o (Num a) h = tt
+    dicts_led o (Str a) h = tt
+    dicts_led o (Lst s n) h = tt
+    dicts_led o (Inst c n) h = tt
+    dicts_led o (Fun fs n) h = tt
+
+    all_dicts_led : (o : Option ℕ) (xs : Shapes) → Held u o (all_dicts xs) → Held u o (all_dicts (all_named t xs))
+    all_dicts_led o end h = tt
+    all_dicts_led o (more x xs) h =
+        let parts = held_split u o (dicts x) (all_dicts xs) h in
+        held_append u o (dicts (named t x)) (all_dicts (all_named t xs)) (dicts_led o x parts.0) (all_dicts_led o xs parts.1)
+
+  mutual
+    named_down : (x z : Shape) → Below k u x z → Below k u (named t x) z
+    named_down _ _ (least y) = least y
+    named_down _ _ none = none
+    named_down _ _ none_str = none_str
+    named_down _ _ (none_list s) = none_list s
+    named_down _ _ (none_dict s) = none_dict s
+    named_down _ _ (none_inst c) = none_inst c
+    named_down _ _ (none_fun fs) = none_fun fs
+    named_down _ _ (truth a b h) = truth a b h
+    named_down _ _ (num a b h) = num a b h
+    named_down _ _ (str a b h) = str a b h
+    named_down _ _ (tuple xs ys h) = tuple (all_named t xs) ys (all_named_down xs ys h)
+    named_down _ _ (list s v a b e h) = list (leader t s) v a b (led s v e) h
+    named_down _ _ (dict s v a b e h) = dict (leader t s) v a b (led s v e) h
+    named_down _ _ (inst c d a b e h) = inst c d a b e h
+    named_down _ _ (fun fs gs a b e h) = fun fs gs a b e h
+    named_down _ _ (clash x o p h i) = clash (named t x) o p (lists_led o x h) (dicts_led p x i)
+
+    all_named_down : (xs ys : Shapes) → Each k u xs ys → Each k u (all_named t xs) ys
+    all_named_down _ _ no_more = no_more
+    all_named_down _ _ (and_more x y xs ys h hs) = and_more (named t x) y (all_named t xs) ys (named_down x y h) (all_named_down xs ys hs)
+
+named_at : (t : List ℕ) (cells : List Shape) (c : ℕ) → get_or (map (named t) cells) c Nothing ≡ named t (get_or cells c Nothing)
+named_at t [] c = refl
+named_at t (x ∷ xs) zero = refl
+named_at t (x ∷ xs) (suc c) = named_at t xs c
+
+pub keeps_named : (p : Whole) (a : Assignment) → Keeps p a (with_leaders a)
+keeps_named p a spots start basis h = record {
+  cells = length-map a.cells (named a.same) ∙ h.cells;
+  marks = h.marks;
+  table = h.table;
+  least = λ b fits closed free.
+      let below : Less p.tables.classes a b = h.least b fits closed free in
+      record {
+        same = below.same;
+        cells = λ c. subst (λ x. Below p.tables.classes b.same x (at b c)) (sym (named_at a.same a.cells c))
+            (named_down p.tables.classes a.same b.same below.same h.table.leads (at a c) (at b c) (below.cells c));
+        marks = below.marks;
+      };
+}
+
+-- the start is below each above it
+pub partial_start : (p : Whole) (spots : ℕ → Bool) (start : Assignment) → IsTable (length start.same) start.same → IsPartial p spots start start
+partial_start p spots start table = record { cells = refl; marks = refl; table = table; least = λ b fits closed free. fits.above }

@@ -1,0 +1,7 @@
+//! Assignments that grow by what a program's graphs ask, and stay below each that is closed and free of
+//! conflict.
+#![tactic(auto)]
+
+mod laws;
+
+pub use laws::{a_conflict_leaves_none_free, what_is_met_is_partial};

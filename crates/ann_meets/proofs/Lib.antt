@@ -1,0 +1,4 @@
+-- Lemmas for the code.
+pub mod Raising
+pub mod Steps
+pub mod Linked

@@ -1,7 +1,0 @@
-use Rattle.std.proofs.Common.{◌≡◌, drop}
-use Rattle.ann_needs.specs.View.{assignment, whole}
-use Rattle.ann_settled.specs.Free as spec
-use Rattle.ann_settled.proofs.free.blocks_free.Given as goal
-
-abbrev pub invariant-loop-block : goal.invariant-loop-block
-invariant-loop-block l = spec.blocks_free (assignment l.s) (whole l.p) l.g (drop l.block-index l.blocks) ≡ spec.blocks_free (assignment l.s) (whole l.p) l.g l.blocks

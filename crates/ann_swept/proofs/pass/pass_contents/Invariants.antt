@@ -1,0 +1,6 @@
+use Rattle.ann_needs.specs.View.{assignment, whole}
+use Rattle.ann_grown.specs.Partial.{Keeps}
+use Rattle.ann_swept.proofs.pass.pass_contents.Given as goal
+
+abbrev pub invariant-loop-site : goal.invariant-loop-site
+invariant-loop-site l = Keeps (whole l.p) (assignment l.fn.s) (assignment l.s)

@@ -1,0 +1,6 @@
+use Rattle.ann_needs.specs.View.{assignment, whole}
+use Rattle.ann_grown.specs.Partial.{Keeps}
+use Rattle.ann_swept.proofs.pass.sweep.Given as goal
+
+abbrev pub invariant-loop-pass : goal.invariant-loop-pass
+invariant-loop-pass l = Keeps (whole l.p) (assignment l.fn.s) (assignment l.s)
