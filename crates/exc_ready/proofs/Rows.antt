@@ -29,6 +29,7 @@ use Rattle.ll_points.specs.Agrees.{Agrees}
 use Rattle.exc_laws.specs.Ready.{exceptions_of}
 use Rattle.exc_laws.proofs.Whole.{means_forth}
 use Rattle.exc_ready.specs.Raisable.{is_raisable, IsRaisable}
+use Rattle.exc_ready.specs.Classes.{names_classes}
 use Rattle.exc_ready.specs.Along.{EachState, NamesClass, HasClass, RaisesClassed}
 use Rattle.exc_ready.proofs.Agreeing.{explicit_agrees}
 use Rattle.exc_ready.proofs.Whole.{allowed}
@@ -159,3 +160,26 @@ agrees = explicit_agrees caught typed refl passes
 
 agrees_so : Agrees (Some (1, 0)) (explicit caught)
 agrees_so = refl
+
+-- ---- classes
+
+-- an exception is made, and these are done
+abbrev making : List LlOp → LlProgram
+making ops = record (program 0 (main 0) (record (raiser (exit.Raise 0)) { blocks = record { inputs = []; ops = op.New 0 0 0 ∷ ops; exit = exit.Raise 0 } ∷ [] })) {
+  statics = record { kind = 1; cells = [] } ∷ [];
+}
+
+-- its class is named at once
+at_once : names_classes (making (op.SetField 0 0 0 (Const (constant.Static 1 0)) ∷ op.New 1 1 1 ∷ [])) ≡ true
+unfolding shapes_from
+at_once = refl
+
+-- not where another operation stands between
+too_late : names_classes (making (op.New 1 1 1 ∷ op.SetField 0 0 0 (Const (constant.Static 1 0)) ∷ [])) ≡ false
+unfolding shapes_from
+too_late = refl
+
+-- nor where it is taken away
+taken_away : names_classes (making (op.SetField 0 0 0 (Const (constant.Static 1 0)) ∷ op.SetField 0 0 0 (Const constant.Null) ∷ [])) ≡ false
+unfolding shapes_from
+taken_away = refl
