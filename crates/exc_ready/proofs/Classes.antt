@@ -1,9 +1,9 @@
 -- Where the program passes the test of classes, what is raised has a class if it is no NULL.
-use Rattle.std.proofs.Common.{◌≡◌, ◌<◌, ℕ, zero, suc, ◌+◌, Bool, true, false, ◌&&◌, ◌||◌, ◌==◌, List, [], ◌∷◌, ◌++◌, length, map, Option, Some, None, Result, Ok, Err, refl, sym, ap, ◌∙◌, subst, ℤ, arith, ◌⊎◌, inl, inr}
-use Rattle.std.specs.Prelude.{slice_get, slice_set, slice_index_or, cond, not}
+use Rattle.std.proofs.Common.{◌≡◌, ◌<◌, ℕ, zero, suc, Bool, true, false, ◌&&◌, ◌||◌, ◌==◌, List, [], ◌∷◌, ◌++◌, length, map, Option, Some, None, Result, Ok, Err, refl, sym, ap, ◌∙◌, subst, ℤ, inl}
+use Rattle.std.specs.Prelude.{slice_get, slice_set, cond}
 use Rattle.rpy_base.specs.declared.outcome.Outcome.TheVariants.{Returned}
-use Rattle.csub_tree.specs.State.{Value, Unset, Word, Byte, Flag, Fun, Null, Ptr, Static, Block, Core, After, Onward, Puts as PutsByte, Told, Over, Stuck, Event}
-use Rattle.csub_tree.specs.Layout.{begins_with, shape_at, place, static_block}
+use Rattle.csub_tree.specs.State.{Value, Unset, Null, Ptr, Static, Block, Core, After, Onward, Puts as PutsByte, Told, Over, Stuck, Event}
+use Rattle.csub_tree.specs.Layout.{shape_at, place, static_block}
 use Rattle.csub_tree.specs.Operation.{is_unset, word_of, flag_of, unary_of, binary_of}
 use Rattle.csub_tree.specs.Statement as st
 use Rattle.csub_tree.specs.Statement.{read, operand, operands, any_unset, reached, on_block, block_at, fun_of, same_result, same_types, fail_name_of}
@@ -14,9 +14,9 @@ use Rattle.csub_tree.specs.declared.tree.CType.{CType}
 use Rattle.csub_tree.specs.declared.tree.CType.TheVariants as c
 use Rattle.csub_tree.specs.declared.tree.COperand.{COperand}
 use Rattle.ll_code.specs.State.{Frame, State, Calling, At, Returning, Throwing, Next, Goes, Puts, Tells, Ends, Sticks}
-use Rattle.ll_code.specs.Machine.{does, goes_on, shapes_of, block_in, begins, jump, branch, caught_by, caught, waiting, resumed, called, called_as, called_value, enters, entered, returned, thrown, given, operates, type_in, leaves, step, start, param_types, c_result, c_type}
+use Rattle.ll_code.specs.Machine.{does, goes_on, shapes_of, block_in, begins, jump, branch, caught, waiting, resumed, called_as, called_value, enters, entered, returned, given, operates, type_in, leaves, step, start, param_types, c_result, c_type}
 use Rattle.ll_code.specs.Meaning.{Ran, Ended, Unfinished, run, follow}
-use Rattle.ll_code.specs.Typed.{IsWellTyped, has_type, given_takes, field_of, operation_ok, operations_ok, structs_ok, is_counted}
+use Rattle.ll_code.specs.Typed.{IsWellTyped, has_type, given_takes, field_of, operation_ok, structs_ok, is_counted}
 use Rattle.ll_code.specs.declared.program.LlStage.TheVariants as stage
 use Rattle.ll_code.specs.declared.program.LlType.{LlType}
 use Rattle.ll_code.specs.declared.program.LlType.TheVariants as type
@@ -29,27 +29,26 @@ use Rattle.ll_code.specs.declared.program.LlBlock.{LlBlock}
 use Rattle.ll_code.specs.declared.program.LlGraph.{LlGraph}
 use Rattle.ll_code.specs.declared.program.LlProgram.{LlProgram}
 use Rattle.ll_laws.specs.Fits.{Fits, CoreFits}
-use Rattle.ll_laws.specs.States.{AtFits, StateFits, NextFits, RanFits}
+use Rattle.ll_laws.specs.States.{StateFits, NextFits, RanFits}
 use Rattle.ll_laws.proofs.Values.{and_left, and_right, has_type_is}
 use Rattle.ll_laws.proofs.Steps.{step_fits}
 use Rattle.ll_laws.proofs.Runs.{start_fits, whole_run_fits}
-use Rattle.ll_live.specs.Live.{among, sets, set_by}
 use Rattle.ll_held.specs.Places.{PlacedAt, IsPlaced}
 use Rattle.ll_held.proofs.Placing.{NextPlaced, step_placed, start_placed, whole_run_placed}
 use Rattle.ll_points.specs.Points.{Leads}
 use Rattle.exc_laws.specs.Ready.{exceptions_of, is_pointer, uses_slots, raised_next}
 use Rattle.exc_laws.specs.Stands.{needs}
-use Rattle.exc_laws.proofs.Lives.{reads_needed, among_own}
+use Rattle.exc_laws.proofs.Lives.{reads_needed}
 use Rattle.exc_laws.proofs.Tests.{equals, or_first}
 use Rattle.exc_laws.proofs.Waiting.{sets_within}
 use Rattle.exc_ready.specs.Raisable.{root_of, is_exception, ops_raisable, exit_raises_alike, IsRaisable}
-use Rattle.exc_ready.specs.Along.{EachState, NamesClass, HasClass, RaisesClassed, RaisedLeads}
-use Rattle.exc_ready.specs.Classes.{class_place, is_exception_struct, is_static, names_class, op_names, ops_name, blocks_name, graphs_name, static_names, statics_name, names_classes_by, names_classes, RaisesSome}
+use Rattle.exc_ready.specs.Along.{EachState, NamesClass, HasClass, RaisesClassed}
+use Rattle.exc_ready.specs.Classes.{is_exception_struct, names_class, op_names, ops_name, blocks_name, graphs_name, static_names, statics_name, names_classes_by, names_classes, RaisesSome}
 use Rattle.exc_ready.proofs.Passes.{is_not, ops_pass, exit_passes, slots_alone}
 use Rattle.exc_ready.proofs.Placed.{placed_holds}
-use Rattle.exc_ready.proofs.Filled.{StateFilled, state_filled}
+use Rattle.exc_ready.proofs.Filled.{state_filled}
 use Rattle.exc_ready.proofs.Leading.{state_raised_leads}
-use Rattle.exc_ready.proofs.Naming.{implied, Named, StaticsNamed, AllNamed, AlmostNamed, almost, certain, AfterNamed, choice, on_option, found_named, reached_named, set_named, answered_named, item_named, pay_named, in_range_named, put_named, put_item_named, made_named, items_named, field_named}
+use Rattle.exc_ready.proofs.Naming.{implied, Named, StaticsNamed, AllNamed, AlmostNamed, certain, AfterNamed, choice, on_option, found_named, reached_named, set_named, answered_named, item_named, pay_named, in_range_named, put_named, put_item_named, made_named, items_named, field_named}
 
 module _ (p : LlProgram) (kind : ℕ) (ok : IsWellTyped p) (raw : p.stage ≡ stage.Raw) (passes : IsRaisable p) (first : field_of (slice_get p.structs (root_of p)) 0 ≡ Some (type.Ptr kind)) (graphs : graphs_name p kind p.graphs ≡ true) (args : List (List ℕ)) where
   structs : structs_ok p.structs 0 p.structs ≡ true
@@ -89,7 +88,7 @@ module _ (p : LlProgram) (kind : ℕ) (ok : IsWellTyped p) (raw : p.stage ≡ st
     does_named (op.SetItem n b i x) h t s named =
         choice p kind ops (is_unset (operand core.vars x)) (Stuck IsUnset) _ tt
         (on_option p kind ops _ (λ j. reached_named p kind ops core n (read core.vars b) (λ block. st.put_item core (read core.vars b) block j (operand core.vars x))
-          (λ block e begins. put_item_named p kind ops core (certain p kind (op.SetItem n b i x ∷ ops) core (λ b e. cc) named) (read core.vars b) block j (operand core.vars x) e)) (word_of (operand core.vars i)))
+        (λ block e begins. put_item_named p kind ops core (certain p kind (op.SetItem n b i x ∷ ops) core (λ b e. cc) named) (read core.vars b) block j (operand core.vars x) e)) (word_of (operand core.vars i)))
     does_named (op.Set a x) h t s named = set_named p kind ops core (certain p kind (op.Set a x ∷ ops) core (λ b e. cc) named) a (operand core.vars x)
     does_named (op.Unary a o x) h t s named = answered_named p kind ops core (certain p kind (op.Unary a o x ∷ ops) core (λ b e. cc) named) a (unary_of o (operand core.vars x))
     does_named (op.Binary a o x y) h t s named = answered_named p kind ops core (certain p kind (op.Binary a o x y ∷ ops) core (λ b e. cc) named) a (binary_of o (operand core.vars x) (operand core.vars y))

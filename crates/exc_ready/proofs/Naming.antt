@@ -1,39 +1,34 @@
 -- In each state of a run of a program that passes the test of classes, each exception that is there names its class, but for one that was
 -- just made.
-use Rattle.std.proofs.Common.{◌≡◌, ◌≢◌, ◌<◌, ◌≤◌, ℕ, zero, suc, ◌+◌, ◌-◌, Bool, true, false, ◌&&◌, ◌||◌, ◌==◌, List, [], ◌∷◌, ◌++◌, length, map, replicate, Option, Some, None, Result, Ok, Err, refl, sym, ap, ◌∙◌, subst, ℤ, pos, negsuc, arith, ◌⊎◌, inl, inr}
+use Rattle.std.proofs.Common.{◌≡◌, ◌≢◌, ◌<◌, ℕ, zero, suc, ◌+◌, ◌-◌, Bool, true, false, ◌||◌, ◌==◌, List, [], ◌∷◌, ◌++◌, length, replicate, Option, Some, None, Result, Ok, Err, refl, sym, ap, ◌∙◌, subst, ℤ, pos, negsuc, arith, ◌⊎◌, inl, inr}
 use Rattle.std.specs.Prelude.{slice_get, slice_set, slice_index_or, cond, not, nat_lt, nat_le}
 use Rattle.std.proofs.lemmas.Option.{slice_get_within}
-use Rattle.csub_tree.specs.State.{Value, Unset, Word, Null, Ptr, Static, Block, Core, After, Onward, Puts as PutsByte, Told, Over, Stuck, Event}
-use Rattle.csub_tree.specs.Layout.{Shape, shape_at, place, begins_with, static_block}
-use Rattle.csub_tree.specs.Operation.{Answer, is_unset, word_of, unary_of, binary_of}
+use Rattle.csub_tree.specs.State.{Value, Unset, Word, Ptr, Static, Block, Core, After, Onward, Puts as PutsByte, Told, Over, Stuck}
+use Rattle.csub_tree.specs.Layout.{shape_at, place, begins_with}
+use Rattle.csub_tree.specs.Operation.{Answer, is_unset}
 use Rattle.csub_tree.specs.Statement as st
 use Rattle.csub_tree.specs.Statement.{read, operand, block_at, as_struct, reached, on_block, stored}
 use Rattle.csub_tree.specs.declared.stuck.StuckReason.{StuckReason}
 use Rattle.csub_tree.specs.declared.stuck.StuckReason.TheVariants.{Unset as IsUnset, Outside, Kind}
-use Rattle.csub_tree.specs.declared.tree.CStatic.{CStatic}
 use Rattle.csub_tree.specs.declared.tree.CConst.TheVariants as constant
 use Rattle.csub_tree.specs.declared.tree.COperand.{COperand}
 use Rattle.csub_tree.specs.declared.tree.COperand.TheVariants.{Var, Const}
-use Rattle.ll_code.specs.Machine.{does, shapes_of}
-use Rattle.ll_code.specs.Typed.{has_type, given_takes, field_of, operation_ok, structs_ok, is_counted}
-use Rattle.ll_code.specs.declared.program.LlStage.TheVariants as stage
+use Rattle.ll_code.specs.Machine.{shapes_of}
+use Rattle.ll_code.specs.Typed.{has_type, field_of, structs_ok}
 use Rattle.ll_code.specs.declared.program.LlType.{LlType}
 use Rattle.ll_code.specs.declared.program.LlType.TheVariants as type
 use Rattle.ll_code.specs.declared.program.LlOp.{LlOp}
 use Rattle.ll_code.specs.declared.program.LlOp.TheVariants as op
 use Rattle.ll_code.specs.declared.program.LlProgram.{LlProgram}
 use Rattle.ll_laws.specs.Fields.{fields_of, fields_from}
-use Rattle.ll_laws.specs.Fits.{AllFit, BlockFits, CoreFits}
+use Rattle.ll_laws.specs.Fits.{BlockFits, CoreFits}
 use Rattle.ll_laws.proofs.Cells.{Laid, all_laid, new_at, old_at, is_new}
-use Rattle.ll_laws.proofs.Values.{and_left, and_right, is_same, has_type_is}
-use Rattle.ll_live.specs.Live.{sets, set_by}
-use Rattle.exc_laws.specs.Ready.{is_pointer, uses_slots}
+use Rattle.ll_laws.proofs.Values.{and_left, and_right, is_same}
+use Rattle.exc_laws.specs.Ready.{is_pointer}
 use Rattle.exc_laws.proofs.Tests.{and_both, equals}
 use Rattle.exc_laws.proofs.Slots.{set_here, set_elsewhere}
-use Rattle.exc_laws.proofs.Waiting.{sets_within}
 use Rattle.exc_ready.specs.Raisable.{root_of}
-use Rattle.exc_ready.specs.Classes.{class_place, is_exception_struct, is_class_field, is_static, names_class, op_names}
-use Rattle.exc_ready.proofs.Passes.{is_not}
+use Rattle.exc_ready.specs.Classes.{class_place, is_exception_struct, is_class_field, is_static, names_class}
 
 -- ---- lists
 
