@@ -116,7 +116,7 @@ module _ (p : LlProgram) (can : CanBeCounted p) where
   memory_leads (Returning value frames core) (graph, w) = w.memory
   memory_leads (Throwing value frames core) w = absurd w
 
-  exact_at : (s t : State) (calls : List Call) (others : List Frame) (g : Ghost) (h : List (Option Block)) → StandsFor p calls others s t g h → StateFits p s → StateLeads p (slots_of p) s → IsExact t
+  pub exact_at : (s t : State) (calls : List Call) (others : List Frame) (g : Ghost) (h : List (Option Block)) → StandsFor p calls others s t g h → StateFits p s → StateLeads p (slots_of p) s → IsExact t
   exact_at (At ops e frames core) t calls others g h both fits lead =
       exact_by core both.qcore g h both.stands (λ r. owned (around_of (plan_of p) both.graph.types) (live ops e) core.vars r + beside p calls frames core r) (λ r. owned (around_of (plan_of p) both.graph.types) (live ops e) core.vars r + waits_own p calls frames r) both.counts (λ r. omega arith)
       (memory_fits (At ops e frames core) fits) (memory_leads (At ops e frames core) lead) t (ap (λ t. (core_of t).blocks) both.is) (λ b. ap (λ t. inner (core_of t) b) both.is) out

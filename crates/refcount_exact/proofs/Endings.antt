@@ -1,12 +1,12 @@
 -- What is left at the end is held, and where nothing is held nothing is left.
-use Rattle.std.proofs.Common.{◌≡◌, ⊎_elim, ◌<◌, ◌≤◌, ℕ, ℤ, zero, suc, ◌+◌, Bool, true, false, List, [], ◌∷◌, ◌++◌, length, map, Option, Some, None, refl, sym, ap, ◌∙◌, subst, arith}
+use Rattle.std.proofs.Common.{◌≡◌, ⊎_elim, ◌<◌, ◌≤◌, ℕ, ℤ, pos, zero, suc, ◌+◌, Bool, true, false, List, [], ◌∷◌, ◌++◌, length, map, Option, Some, None, refl, sym, ap, ◌∙◌, subst, arith}
 use Rattle.std.specs.Prelude.{cond, slice_index_or, ◌==◌, ◌||◌}
 use Rattle.rpy_base.specs.declared.outcome.Outcome.TheVariants.{Returned}
 use Rattle.csub_tree.specs.Meaning.{made_in, gone_in}
 use Rattle.csub_tree.specs.Statement.{read}
 use Rattle.csub_tree.specs.State.{Value, Unset, Word, Byte, Flag, Fun, Null, Ptr, Static, Block, Core, Event}
 use Rattle.ll_code.specs.Machine.{start}
-use Rattle.ll_code.specs.Meaning.{Unfinished, Came, Meant, LMeans, run, comes}
+use Rattle.ll_code.specs.Meaning.{Unfinished, Came, Meant, LMeans, run, within, comes}
 use Rattle.ll_code.specs.State.{Frame, State, Calling, At, Returning, Throwing}
 use Rattle.ll_code.specs.declared.program.LlExit.TheVariants as exit
 use Rattle.ll_code.specs.declared.program.LlProgram.{LlProgram}
@@ -15,8 +15,9 @@ use Rattle.ll_held.specs.Held.{times, is_block, Reaches, Held, Root, Cycle, From
 use Rattle.ll_held.specs.Roots.{kept, roots, slots, core_of}
 use Rattle.ll_held.proofs.Keeping.{times_append, used_from, or_one}
 use Rattle.ll_laws.proofs.Values.{and_left, is_same}
-use Rattle.ll_events.specs.Told.{often, TellOf, EndsAt, IsLast, AddsTo}
-use Rattle.ll_events.proofs.Telling.{run_ends, ending_tells, whole_run_tells, last_told, adds_to, return_is_last}
+use Rattle.ll_events.specs.Told.{often, TellOf, EndsAt, IsLast}
+use Rattle.ll_events.proofs.Stepping.{ends_here}
+use Rattle.ll_events.proofs.Telling.{LastStep, last_step_is, halts_at, ending_tells, return_is_last}
 use Rattle.refcount_transform.specs.Counted.{counted}
 use Rattle.refcount_laws.specs.Ghost.{Ghost}
 use Rattle.refcount_laws.specs.Means.{SameMeaning}
@@ -28,19 +29,15 @@ use Rattle.refcount_laws.proofs.Starting.{ghost, starts_stand}
 use Rattle.refcount_ready.specs.Programs.{CanBeCounted, RunsSmall}
 use Rattle.refcount_ready.proofs.Composed.{ready_so, means_the_same}
 use Rattle.refcount_exact.proofs.There.{there_at}
-use Rattle.refcount_exact.specs.Endings.{EndsHolding, EndsEmpty, IsClear}
-
-length_map : {A B : Type 0} (f : A → B) (xs : List A) → length (map f xs) ≡ length xs
-length_map f [] = refl
-length_map f (x ∷ xs) = ap suc (length_map f xs)
-
-often_left : (b : ℕ) (xs ys : List ℕ) → often b (xs ++ ys) ≡ 0 → often b xs ≡ 0
-often_left b [] ys e = refl
-often_left b (x ∷ xs) ys e = by (b == x) (often_left b xs ys) e
-  where
-    by : (y : Bool) → (often b (xs ++ ys) ≡ 0 → often b xs ≡ 0) → cond y (suc (often b (xs ++ ys))) (often b (xs ++ ys)) ≡ 0 → cond y (suc (often b xs)) (often b xs) ≡ 0
-    by true go e = absurd (omega (arith, e))
-    by false go e = go e
+use Rattle.ll_points.specs.Agrees.{slots_of}
+use Rattle.ll_points.specs.Points.{RanLeads}
+use Rattle.ll_points.proofs.Runs.{whole_run_leads}
+use Rattle.ll_laws.specs.States.{RanFits}
+use Rattle.ll_laws.proofs.Runs.{whole_run_fits}
+use Rattle.refcount_exact.specs.Exact.{inner, HasCount, IsExact}
+use Rattle.refcount_exact.specs.Endings.{EndsHolding, ReturnsExact, EndsEmpty, IsClear}
+use Rattle.refcount_exact.proofs.Counts.{exact_at}
+use Rattle.refcount_exact.proofs.Halting.{stands_halts}
 
 -- ---- what is not gone is held
 
@@ -67,7 +64,14 @@ module _ (p : LlProgram) (can : CanBeCounted p) (args : List (List ℕ)) (steps 
       by (j, t, told, enough, runs, made, calls, others, g, h, stands) = record { taken = j; state = t; text = text; told = told; runs = runs; made = made; calls = calls; others = others; g = g; h = h; stands = stands }
 
   pub ends_holding : (s : State) (m : Meant) → EndsAt p args steps s m → comes m.ending → EndsHolding p args steps s m
-  ends_holding s m w c = by (run_ends (counted p) args steps same.other same.means)
+  ends_holding s m w c = record {
+    same = same;
+    last = a.state;
+    ends = last_ends;
+    exact = exact_at p can s a.state a.calls a.others a.g a.h a.stands (subst (RanFits p) w.comes (whole_run_fits p can.typed args steps w.taken)) (subst (RanLeads p (slots_of p)) w.comes (whole_run_leads p (slots_of p) can.typed can.agrees args steps w.taken));
+    tells = tells;
+    held = λ b lt e. one b lt e (slice_index_or (core_of a.state).blocks b None) refl;
+  }
     where
       same : SameMeaning p args steps m
       same = means_the_same p can args steps small m (suc w.taken, w.ends) c
@@ -75,28 +79,38 @@ module _ (p : LlProgram) (can : CanBeCounted p) (args : List (List ℕ)) (steps 
       a : Along s w.events
       a = along w.taken s w.text w.events w.comes
 
-      told : (made_in w.events ≡ m.made) × (gone_in w.events ≡ m.gone)
-      told = last_told p args steps s m w
+      step_ : LastStep p args s
+      step_ = last_step_is p args steps s m w c
 
-      tells : TellOf (core_of a.state).blocks (made_in a.told) (gone_in a.told)
-      tells = whole_run_tells (counted p) args steps a.taken a.state a.text a.told a.runs
+      halts : (n : Meant) × (within (counted p) args steps (suc a.taken) ≡ Some n)
+      halts = halts_at (counted p) args steps a.taken a.state a.text a.told a.runs (stands_halts p args s a.state a.calls a.others a.g a.h a.stands (ends_here p args s step_.outcome step_.end step_.is) step_.outcome step_.end step_.is)
 
-      -- as many blocks are there in the state that stands for this one
-      long : length same.other.made ≡ length (core_of a.state).blocks
-      long = ap length same.made ∙ ap (λ l. length (map wider l)) (sym told.0) ∙ ap length (sym a.made) ∙ tells.count
+      last_ends : EndsAt (counted p) args steps a.state same.other
+      last_ends = record { taken = a.taken; text = a.text; events = a.told; comes = a.runs; ends = halts.1 ∙ ap Some (same.only halts.0 (suc a.taken, halts.1)) }
 
-      by : (t : State) × EndsAt (counted p) args steps t same.other → EndsHolding p args steps s m
-      by (t, v) = record { same = same; last = t; tells = ending_tells (counted p) args steps t same.other v; held = λ b lt e. one b lt e (slice_index_or (core_of a.state).blocks b None) refl }
-        where
-          adds : AddsTo a.told same.other
-          adds = adds_to (counted p) args steps a.taken a.state t a.text a.told same.other a.runs v
+      tells : TellOf (core_of a.state).blocks same.other.made same.other.gone
+      tells = ending_tells (counted p) args steps a.state same.other last_ends
 
-          one : (b : ℕ) → b < length same.other.made → often b same.other.gone ≡ 0 → (o : Option Block) → slice_index_or (core_of a.state).blocks b None ≡ o → Held (core_of s).blocks (roots p s) b
-          one b lt e (Some block) f = there_at p s a.state a.calls a.others a.g a.h a.stands b block f
-          one b lt e None f =
-              let x : often b (gone_in a.told) ≡ 1 = tells.once b (omega (arith, lt, long)) f in
-              let y : often b (gone_in a.told) ≡ 0 = often_left b (gone_in a.told) adds.gone (ap (often b) (sym adds.more_gone) ∙ e) in
-              absurd (omega (arith, x, y))
+      one : (b : ℕ) → b < length same.other.made → often b same.other.gone ≡ 0 → (o : Option Block) → slice_index_or (core_of a.state).blocks b None ≡ o → Held (core_of s).blocks (roots p s) b
+      one b lt e (Some block) f = there_at p s a.state a.calls a.others a.g a.h a.stands b block f
+      one b lt e None f = let x : often b same.other.gone ≡ 1 = tells.once b (omega (arith, lt, tells.count)) f in absurd (omega (arith, x, e))
+
+  -- ---- no frame is left
+
+  is_inner : (n : ℤ) (t : State) → IsLast n t → IsExact t → (b : ℕ) (block : Block) → slice_index_or (core_of t).blocks b None ≡ Some block → read block.fields 0 ≡ Word (pos (inner (core_of t) b))
+  is_inner n (Returning value [] core) e exact b block is =
+      let w : HasCount (Returning value [] core) b block = exact b block is in
+      let none : times b (value ∷ []) ≡ 0 = ap (λ v. times b (v ∷ [])) e in
+      let most : w.count ≤ inner core b + (times b (value ∷ []) + 0) = w.most in
+      let least : inner core b ≤ w.count = w.least in
+      let same : w.count ≡ inner core b = omega (arith, most, least, none) in
+      w.first ∙ ap (λ n. Word (pos n)) same
+  is_inner n other e exact b block is = absurd e
+
+  pub returns_exact : (n : ℤ) (s : State) (m : Meant) → EndsAt p args steps s m → m.ending ≡ Came (Returned n) → ReturnsExact p args steps m
+  returns_exact n s m w e =
+      let x : EndsHolding p args steps s m = ends_holding s m w (subst comes (sym e) tt) in
+      record { same = x.same; last = x.last; ends = x.ends; counts = is_inner n x.last (return_is_last (counted p) args steps n x.last x.same.other x.ends (x.same.ending ∙ e)) x.exact }
 
   -- ---- nothing is held
 

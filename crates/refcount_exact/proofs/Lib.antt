@@ -1,5 +1,6 @@
 pub mod Counts
 pub mod Endings
+pub mod Halting
 pub mod Hits
 pub mod Inner
 pub mod Places

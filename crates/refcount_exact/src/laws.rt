@@ -12,13 +12,20 @@ ghost use Rattle.ll_held.specs.Roots.{core_of};
 ghost use Rattle.ll_events.specs.Told.{EndsAt};
 ghost use Rattle.refcount_ready.specs.Programs.{CanBeCounted, RunsSmall};
 ghost use Rattle.refcount_exact.specs.Exact.{ComesExact};
-ghost use Rattle.refcount_exact.specs.Endings.{EndsHolding, EndsEmpty, IsClear};
+ghost use Rattle.refcount_exact.specs.Endings.{EndsHolding, ReturnsExact, EndsEmpty, IsClear};
 
-/// Where a run of a program that can be counted ends, the counted program ends the same way; and each
-/// block that it made and that is not among those gone is held in the program, in the state at which that
-/// ends: it is reached from a root of that state, or lies on a cycle or is reached from one.
+/// Where a run of a program that can be counted ends, the counted program ends the same way, in a state
+/// in which its counts are exact; and each block that it made and that is not among those gone is held in
+/// the program, in the state at which that ends: it is reached from a root of that state, or lies on a
+/// cycle or is reached from one.
 pub fn what_is_left_is_held()
     ensures { (p : LlProgram) → CanBeCounted p → (args : List (List ℕ)) (steps : ℕ) → RunsSmall p args steps → (s : State) (m : Meant) → EndsAt p args steps s m → comes m.ending → EndsHolding p args steps s m }
+{}
+
+/// Where such a run returns, no frame is left, and the count of each block that is there is the number of
+/// references to it from blocks and exception slots.
+pub fn returned_runs_count_exactly()
+    ensures { (p : LlProgram) → CanBeCounted p → (args : List (List ℕ)) (steps : ℕ) → RunsSmall p args steps → (n : ℤ) (s : State) (m : Meant) → EndsAt p args steps s m → m.ending ≡ Came (Returned n) → ReturnsExact p args steps m }
 {}
 
 /// Where such a run returns, its exception slots are clear and no block lies on a cycle, each block that
