@@ -4,4 +4,5 @@ pub mod Halting
 pub mod Hits
 pub mod Inner
 pub mod Places
+pub mod Rows
 pub mod There
