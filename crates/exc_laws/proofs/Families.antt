@@ -144,7 +144,7 @@ module _ (structs : List LlStruct) where
         one (Some s) f h = is_less m n (and_left _ _ (subst (λ b. is_base structs n b ≡ true) h (and_left _ _ (and_left _ _ (ok_at n s f)))))
 
     -- as many looks as the number of the struct suffice
-    root_is : (times : List LlStruct) (n : ℕ) → n ≤ length times → n < length structs → (base_of (slice_get structs (root_within structs times n)) ≡ None) × (root_within structs times n < length structs)
+    pub root_is : (times : List LlStruct) (n : ℕ) → n ≤ length times → n < length structs → (base_of (slice_get structs (root_within structs times n)) ≡ None) × (root_within structs times n < length structs)
     root_is [] n le lt = (none (base_of (slice_get structs n)) refl, lt)
       where
         none : (o : Option ℕ) → base_of (slice_get structs n) ≡ o → base_of (slice_get structs n) ≡ None

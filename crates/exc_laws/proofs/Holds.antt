@@ -37,7 +37,7 @@ use Rattle.exc_laws.proofs.Whole.{ReadyFrom, does_placed, one_more}
 module _ (p : LlProgram) (ok : IsWellTyped p) (raw : p.stage ≡ stage.Raw) (raises : graphs_calm p.graphs ≡ false) (closed : IsClosed p) (args : List (List ℕ)) where
   -- ---- a state some quiet steps behind one that stands
 
-  beside_blocks : (s x : State) → Stands p s x → ((core_of x).blocks ≡ (core_of s).blocks) × ((core_of x).statics ≡ (core_of s).statics)
+  pub beside_blocks : (s x : State) → Stands p s x → ((core_of x).blocks ≡ (core_of s).blocks) × ((core_of x).statics ≡ (core_of s).statics)
   beside_blocks (Calling f values frames core) (Calling x_f x_values x_frames x_core) s = (s.beside.blocks, s.beside.statics)
   beside_blocks (At ops e frames core) (At x_ops x_exit x_frames x_core) (graph, s) = (s.beside.blocks, s.beside.statics)
   beside_blocks (Returning value frames core) (Returning x_value x_frames x_core) s = (s.beside.blocks, s.beside.statics)
@@ -180,7 +180,7 @@ module _ (p : LlProgram) where
   roots_same (Returning value frames core) = ap (λ l. value ∷ slots core ++ l) (waiting_same frames)
   roots_same (Throwing value frames core) = ap (λ l. value ∷ slots core ++ l) (waiting_same frames)
 
-  same_holds : explicit p ≡ restaged p → (y : State) → HoldsNoMore p y y
+  pub same_holds : explicit p ≡ restaged p → (y : State) → HoldsNoMore p y y
   same_holds e y = record {
     blocks = refl;
     held = λ b h. subst (λ l. Held (core_of y).blocks l b) (ap (λ q. roots q y) e ∙ roots_same y) h;

@@ -1,5 +1,6 @@
 pub mod Cores
 pub mod Found
+pub mod Given
 pub mod Leading
 mod Rows
 pub mod Runs

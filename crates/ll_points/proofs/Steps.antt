@@ -32,6 +32,7 @@ use Rattle.ll_points.specs.Agrees.{Slots, Agrees, op_agrees, ops_agree, exit_agr
 use Rattle.ll_points.specs.Points.{LeadsBy, AllLead, FramesLead, CallingLeads, AtLeads, ReturningLeads, StateLeads, NextLeads}
 use Rattle.ll_points.proofs.Leading.{grows_same, frames_more, same_memory, vars_set, unset_leads, operand_leads}
 use Rattle.ll_points.proofs.Cores.{CoreLeads, Follows, AfterLeads, operation_leads}
+use Rattle.ll_points.proofs.Given.{read_filled, same_given, takes_leads, inputs_lead, parameters_lead, asked_lead, taken_leads}
 
 -- ---- lists
 
@@ -50,33 +51,9 @@ block_agree slots types [] n b ok e = absurd (cc)
 block_agree slots types (x ∷ blocks) zero b ok e = let f : x ≡ b = cc in subst (λ b. block_agrees slots types b ≡ true) f (and_left _ _ ok)
 block_agree slots types (x ∷ blocks) (suc n) b ok e = block_agree slots types blocks n b (and_right _ _ ok) e
 
-read_filled : (values : List Value) (n k : ℕ) → read (values ++ replicate n Unset) k ≡ read values k
-read_filled [] n k = unset_at n k
-read_filled (v ∷ values) n zero = refl
-read_filled (v ∷ values) n (suc k) = read_filled values n k
-
 raise_never : (slots : Slots) (types : List LlType) (a : ℕ) → op_agrees slots types (op.Raise a) ≡ true → ⊥
 raise_never None types a h = cc
 raise_never (Some (k, v)) types a h = cc
-
--- ---- types of a file
-
-same_c : (structs : List LlStruct) (t u : LlType) → is_type structs t ≡ true → is_type structs u ≡ true → same_type (c_type t) (c_type u) ≡ true → t ≡ u
-same_c structs type.Signed type.Signed h k e = refl
-same_c structs type.Char type.Char h k e = refl
-same_c structs type.Bool type.Bool h k e = refl
-same_c structs type.Fn type.Fn h k e = refl
-same_c structs (type.Ptr m) (type.Ptr n) h k e = ap type.Ptr (is_same m n e)
-same_c structs t u h k e = absurd (cc)
-
-same_given : (structs : List LlStruct) (t u : LlType) → is_kind structs t ≡ true → is_kind structs u ≡ true → same_result (c_result t) (c_result u) ≡ true → t ≡ u
-same_given structs type.Signed type.Signed h k e = refl
-same_given structs type.Char type.Char h k e = refl
-same_given structs type.Bool type.Bool h k e = refl
-same_given structs type.Void type.Void h k e = refl
-same_given structs type.Fn type.Fn h k e = refl
-same_given structs (type.Ptr m) (type.Ptr n) h k e = ap type.Ptr (is_same m n e)
-same_given structs t u h k e = absurd (cc)
 
 module _ (p : LlProgram) (slots : Slots) (all : graphs_ok p p.graphs ≡ true) (structs : structs_ok p.structs 0 p.structs ≡ true) (agrees : Agrees slots p) where
   choice_next : (b : Bool) (x y : Next) → NextLeads p slots x → NextLeads p slots y → NextLeads p slots (cond b x y)
@@ -95,9 +72,6 @@ module _ (p : LlProgram) (slots : Slots) (all : graphs_ok p p.graphs ≡ true) (
   -- ---- a graph that runs
 
   module _ (g : LlGraph) (frames : List Frame) (core : Core) (of : slice_get p.graphs core.function ≡ Some g) (fit : CoreLeads p slots g.types core) (waits : FramesLead p slots core g.result frames) where
-    takes_leads : (t : LlType) (x : COperand) → takes p g.types t x ≡ true → LeadsBy p core.blocks core.statics t (operand core.vars x)
-    takes_leads t x h = operand_leads p core.blocks core.statics structs fit.memory.stand g.types core.vars fit.vars t x h
-
     followed : (ops : List LlOp) (exit : LlExit) (next : Core) → ops_agree slots g.types ops ≡ true → exit_agrees exit ≡ true → Follows p slots g.types core next → StateLeads p slots (At ops exit frames next)
     followed ops exit next h k f = (
       g,
@@ -113,17 +87,6 @@ module _ (p : LlProgram) (slots : Slots) (all : graphs_ok p p.graphs ≡ true) (
 
     -- ---- links
 
-    set_given : (vars : List Value) (v : ℕ) (o : Option LlType) (x : COperand) → AllLead p core.blocks core.statics g.types vars → slice_get g.types v ≡ o → given_takes p g.types o x ≡ true
-        → AllLead p core.blocks core.statics g.types (slice_set vars v (operand core.vars x))
-    set_given vars v None x h e k = absurd (cc)
-    set_given vars v (Some t) x h e k = vars_set p core.blocks core.statics g.types vars v t (operand core.vars x) h e (takes_leads t x k)
-
-    inputs_lead : (vars : List Value) (vs : List ℕ) (xs : List COperand) → AllLead p core.blocks core.statics g.types vars → all_given p g.types g.types vs xs ≡ true
-        → AllLead p core.blocks core.statics g.types (set_all vars vs (operands core.vars xs))
-    inputs_lead vars [] xs h k = h
-    inputs_lead vars (v ∷ vs) [] h k = h
-    inputs_lead vars (v ∷ vs) (x ∷ xs) h k = inputs_lead (slice_set vars v (operand core.vars x)) vs xs (set_given vars v (slice_get g.types v) x h refl (and_left _ _ k)) (and_right _ _ k)
-
     begins_leads : (to : ℕ) (xs : List COperand) (o : Option LlBlock) → slice_get g.blocks to ≡ o → typed.enters p g.types o xs ≡ true → NextLeads p slots (begins frames core to (operands core.vars xs) o)
     begins_leads to xs None e h = tt
     begins_leads to xs (Some b) e h =
@@ -132,7 +95,7 @@ module _ (p : LlProgram) (slots : Slots) (all : graphs_ok p p.graphs ≡ true) (
           g,
           record {
             of = of;
-            vars = inputs_lead core.vars b.inputs xs fit.vars h;
+            vars = inputs_lead p slots structs g.types core fit core.vars b.inputs xs fit.vars h;
             left = and_left _ _ agree;
             end = and_right _ _ agree;
             waiting = frames_more p slots core (record core { block = to; at = 0; vars = vars }) (grows_same core.blocks core.statics) g.result frames waits;
@@ -160,7 +123,7 @@ module _ (p : LlProgram) (slots : Slots) (all : graphs_ok p p.graphs ≡ true) (
 
     gives_back_leads : (x : Option COperand) → typed.return_ok p g x ≡ true → NextLeads p slots (gives_back x frames core)
     gives_back_leads None h = gives Unset (unset_leads p core.blocks core.statics g.result)
-    gives_back_leads (Some x) h = given_leads (operand core.vars x) (λ value. Goes (Returning value frames core)) (gives (operand core.vars x) (takes_leads g.result x h))
+    gives_back_leads (Some x) h = given_leads (operand core.vars x) (λ value. Goes (Returning value frames core)) (gives (operand core.vars x) (takes_leads p slots structs g.types core fit g.result x h))
 
     raised_as_leads : (exit : LlExit) (o : Option (List ℕ)) → NextLeads p slots (goes_on (At [] exit frames) (raised_as core o))
     raised_as_leads exit None = tt
@@ -188,44 +151,6 @@ module _ (p : LlProgram) (slots : Slots) (all : graphs_ok p p.graphs ≡ true) (
     leaves_leads (exit.Raised a) h k = raised_leads (exit.Raised a) (type_in (slice_get p.graphs core.function) a) (read core.vars a)
 
   -- ---- calls
-
-  -- values that are given to the parameters lead as the first variables do
-  parameters_lead : (others : List LlType) (n : ℕ) (g : LlGraph) (core : Core) → CoreLeads p slots g.types core → (vs : List ℕ) (xs : List COperand) → params_ok p others n vs ≡ true
-      → all_given p g.types others vs xs ≡ true → (k : ℕ) (t : LlType) → slice_get others (n + k) ≡ Some t → LeadsBy p core.blocks core.statics t (read (operands core.vars xs) k)
-  parameters_lead others n g core fit [] [] ok h k t e = unset_leads p core.blocks core.statics t
-  parameters_lead others n g core fit [] (x ∷ xs) ok h k t e = absurd (cc)
-  parameters_lead others n g core fit (v ∷ vs) [] ok h k t e = absurd (cc)
-  parameters_lead others n g core fit (v ∷ vs) (x ∷ xs) ok h zero t e =
-      let same : v ≡ n + 0 = omega (arith, is_same v n (and_left _ _ (and_left _ _ ok))) in first (slice_get others v) (ap (slice_get others) same ∙ e) (and_left _ _ h)
-    where
-      first : (o : Option LlType) → o ≡ Some t → given_takes p g.types o x ≡ true → LeadsBy p core.blocks core.statics t (operand core.vars x)
-      first None f h = absurd (cc)
-      first (Some u) f h =
-          let i : u ≡ t = cc in subst (λ t. LeadsBy p core.blocks core.statics t (operand core.vars x)) i (operand_leads p core.blocks core.statics structs fit.memory.stand g.types core.vars fit.vars u x h)
-  parameters_lead others n g core fit (v ∷ vs) (x ∷ xs) ok h (suc k) t e =
-      let same : n + 1 + k ≡ n + suc k = omega arith in parameters_lead others (n + 1) g core fit vs xs (and_right _ _ ok) (and_right _ _ h) k t (ap (slice_get others) same ∙ e)
-
-  -- the same where the types of the parameters are those that are asked for
-  asked_lead : (others : List LlType) (n : ℕ) (g : LlGraph) (core : Core) → CoreLeads p slots g.types core → (vs : List ℕ) (ts : List LlType) (xs : List COperand) → params_ok p others n vs ≡ true
-      → are_types p.structs ts ≡ true → same_types (map (λ v. type_or_word (slice_get others v)) vs) (map c_type ts) ≡ true → all_taken p g.types ts xs ≡ true
-      → (k : ℕ) (t : LlType) → slice_get others (n + k) ≡ Some t → LeadsBy p core.blocks core.statics t (read (operands core.vars xs) k)
-  asked_lead others n g core fit [] [] [] ok kinds same h k t e = unset_leads p core.blocks core.statics t
-  asked_lead others n g core fit [] [] (x ∷ xs) ok kinds same h k t e = absurd (cc)
-  asked_lead others n g core fit [] (u ∷ ts) xs ok kinds same h k t e = absurd (cc)
-  asked_lead others n g core fit (v ∷ vs) [] xs ok kinds same h k t e = absurd (cc)
-  asked_lead others n g core fit (v ∷ vs) (u ∷ ts) [] ok kinds same h k t e = absurd (cc)
-  asked_lead others n g core fit (v ∷ vs) (u ∷ ts) (x ∷ xs) ok kinds same h zero t e =
-      let here : v ≡ n + 0 = omega (arith, is_same v n (and_left _ _ (and_left _ _ ok))) in
-      first (slice_get others v) (ap (slice_get others) here ∙ e) (and_right _ _ (and_left _ _ ok)) (and_left _ _ same)
-    where
-      first : (o : Option LlType) → o ≡ Some t → is_type_given p.structs o ≡ true → same_type (type_or_word o) (c_type u) ≡ true → LeadsBy p core.blocks core.statics t (operand core.vars x)
-      first None f i j = absurd (cc)
-      first (Some w) f i j =
-          let a : w ≡ u = same_c p.structs w u i (and_left _ _ kinds) j in let b : w ≡ t = cc in let d : u ≡ t = sym a ∙ b in
-          subst (λ t. LeadsBy p core.blocks core.statics t (operand core.vars x)) d (operand_leads p core.blocks core.statics structs fit.memory.stand g.types core.vars fit.vars u x (and_left _ _ h))
-  asked_lead others n g core fit (v ∷ vs) (u ∷ ts) (x ∷ xs) ok kinds same h (suc k) t e =
-      let on : n + 1 + k ≡ n + suc k = omega arith in
-      asked_lead others (n + 1) g core fit vs ts xs (and_right _ _ ok) (and_right _ _ kinds) (and_right _ _ same) (and_right _ _ h) k t (ap (slice_get others) on ∙ e)
 
   entered_leads : (f : ℕ) (values : List Value) (frames : List Frame) (core : Core) (g : LlGraph) → CallingLeads p slots f values frames core g → NextLeads p slots (entered f values frames core (slice_get p.graphs f))
   entered_leads f values frames core g fit = subst (λ o. NextLeads p slots (entered f values frames core o)) (sym fit.of) (enters_leads (slice_get g.blocks 0) refl)
@@ -262,7 +187,7 @@ module _ (p : LlProgram) (slots : Slots) (all : graphs_ok p p.graphs ≡ true) (
           other,
           record {
             of = e;
-            given = λ a t is. parameters_lead other.types 0 g core fit other.params xs (params_of other good) (and_right _ _ h) a t (ap (slice_get other.types) (omega arith) ∙ is);
+            given = λ a t is. parameters_lead p slots structs other.types 0 g core fit other.params xs (params_of other good) (and_right _ _ h) a t (ap (slice_get other.types) (omega arith) ∙ is);
             waiting = waiting_leads into other.result (and_left _ _ h);
             memory = fit.memory;
           },
@@ -284,7 +209,7 @@ module _ (p : LlProgram) (slots : Slots) (all : graphs_ok p p.graphs ≡ true) (
           other,
           record {
             of = e;
-            given = λ v t is. asked_lead other.types 0 g core fit other.params params xs (params_of other good) b (and_right _ _ h) d v t (ap (slice_get other.types) (omega arith) ∙ is);
+            given = λ v t is. asked_lead p slots structs other.types 0 g core fit other.params params xs (params_of other good) b (and_right _ _ h) d v t (ap (slice_get other.types) (omega arith) ∙ is);
             waiting = waiting_leads into other.result (subst (λ r. result_ok g.types into r ≡ true) (sym (same_given p.structs other.result result (result_of other good) a (and_left _ _ h))) c);
             memory = fit.memory;
           },
@@ -318,11 +243,6 @@ module _ (p : LlProgram) (slots : Slots) (all : graphs_ok p p.graphs ≡ true) (
   ended_leads (Word z) core = tt
   ended_leads other core = tt
 
-  taken_leads : (core : Core) (types : List LlType) (vars : List Value) (into : Option ℕ) (t : LlType) (value : Value) → AllLead p core.blocks core.statics types vars → result_ok types into t ≡ true
-      → LeadsBy p core.blocks core.statics t value → AllLead p core.blocks core.statics types (taken_by vars into value)
-  taken_leads core types vars None t value fit h k = fit
-  taken_leads core types vars (Some a) t value fit h k = vars_set p core.blocks core.statics types vars a t value fit (has_type_is t (slice_get types a) h) k
-
   returned_leads : (value : Value) (frames : List Frame) (core : Core) (g : LlGraph) → ReturningLeads p slots value frames core g → NextLeads p slots (returned value frames core)
   returned_leads value [] core g l = ended_leads value core
   returned_leads value (frame ∷ frames) core g l = back l.waiting
@@ -335,7 +255,7 @@ module _ (p : LlProgram) (slots : Slots) (all : graphs_ok p p.graphs ≡ true) (
         h,
         record {
           of = w.of;
-          vars = taken_leads core h.types frame.vars frame.into g.result value w.vars w.into l.leads;
+          vars = taken_leads p slots structs core h.types frame.vars frame.into g.result value w.vars w.into l.leads;
           left = w.ops;
           end = w.exit;
           waiting = frames_more p slots core (record core { function = frame.graph; block = frame.block; at = frame.at; vars = vars }) (grows_same core.blocks core.statics) h.result frames rest;

@@ -1,16 +1,15 @@
 -- The laws of counted programs, with nothing asked of their states but that they are small and leave statics alone.
-use Rattle.std.proofs.Common.{◌≡◌, ◌<◌, ◌≤◌, ℕ, zero, suc, ◌+◌, Bool, true, false, List, [], ◌∷◌, ◌++◌, map, Option, Some, None, refl, sym, ap, ◌∙◌, subst, arith}
+use Rattle.std.proofs.Common.{◌≡◌, ◌<◌, ℕ, zero, suc, ◌+◌, false, List, [], ◌∷◌, Option, Some, None, refl, sym, ap, ◌∙◌, subst, arith}
 use Rattle.std.specs.Prelude.{cond}
-use Rattle.csub_tree.specs.Meaning.{made_in}
 use Rattle.csub_tree.specs.State.{Value, Unset, Word, Byte, Flag, Fun, Null, Ptr, Static, Block, Core, Event}
 use Rattle.ll_code.specs.Machine.{start}
-use Rattle.ll_code.specs.Meaning.{Ran, Ended, Unfinished, Ending, Came, StuckFor, Meant, LMeans, RunsOn, run, within, comes}
+use Rattle.ll_code.specs.Meaning.{Unfinished, Meant, LMeans, RunsOn, run, comes}
 use Rattle.ll_code.specs.State.{Frame, State, Calling, At, Returning, Throwing}
 use Rattle.ll_code.specs.declared.program.LlType.{LlType}
 use Rattle.ll_code.specs.declared.program.LlType.TheVariants as type
 use Rattle.ll_code.specs.declared.program.LlProgram.{LlProgram}
 use Rattle.ll_held.specs.Held.{times, is_block, Reaches, Held, Root, Cycle, From}
-use Rattle.ll_held.specs.Roots.{roots, slots, waiting_roots, core_of}
+use Rattle.ll_held.specs.Roots.{roots, core_of}
 use Rattle.ll_laws.specs.Fits.{Fits}
 use Rattle.ll_laws.specs.States.{RanFits, StateFits}
 use Rattle.ll_laws.proofs.Runs.{whole_run_fits}
@@ -25,10 +24,9 @@ use Rattle.refcount_laws.specs.Leaves.{given_to}
 use Rattle.refcount_laws.specs.Made.{counts_of}
 use Rattle.refcount_laws.specs.Means.{SameMeaning}
 use Rattle.refcount_laws.specs.Owned.{owned, hits_by}
-use Rattle.refcount_laws.specs.Reach.{Owns}
-use Rattle.refcount_laws.specs.Run.{ReadyAlong, RunStands, wider}
+use Rattle.refcount_laws.specs.Run.{ReadyAlong, RunStands}
 use Rattle.refcount_laws.specs.Touched.{block_in}
-use Rattle.refcount_laws.specs.Whole.{Call, AllWait, BothAt, BothCalling, BothReturning, StandsFor, beside}
+use Rattle.refcount_laws.specs.Whole.{Call, StandsFor, beside}
 use Rattle.refcount_laws.proofs.Leftover.{edges_of}
 use Rattle.refcount_laws.proofs.Meaning.{means_so, ends_so, runs_on_so}
 use Rattle.refcount_laws.proofs.Reaching.{there_held}

@@ -1,8 +1,8 @@
 -- What operations keep: blocks that are made are counted, no static comes to name a block, and a pointer that is set is no unset value.
-use Rattle.std.proofs.Common.{◌≡◌, ◌≢◌, ◌⊎◌, inl, inr, ⊎_elim, ◌<◌, ℕ, zero, suc, ◌+◌, ◌-◌, ℤ, pos, negsuc, Bool, true, false, ◌&&◌, ◌||◌, ◌==◌, List, [], ◌∷◌, ◌++◌, length, replicate, Option, Some, None, refl, sym, ap, ◌∙◌, subst, arith}
+use Rattle.std.proofs.Common.{◌≡◌, ◌≢◌, ◌⊎◌, inl, inr, ⊎_elim, ◌<◌, ℕ, zero, suc, ◌+◌, ◌-◌, ℤ, pos, negsuc, Bool, true, false, ◌||◌, ◌==◌, List, [], ◌∷◌, ◌++◌, length, replicate, Option, Some, None, refl, sym, ap, ◌∙◌, subst, arith}
 use Rattle.std.specs.Prelude.{slice_get, slice_set, slice_index_or, cond, nat_lt, nat_le, Result, Ok, Err, if◌then◌else◌}
 use Rattle.csub_tree.specs.State.{Value, Unset, Word, Byte, Flag, Fun, Null, Ptr, Static, Block, Core, After, Onward, Puts as PutsByte, Told, Over, Stuck}
-use Rattle.csub_tree.specs.Layout.{Shape, shape_at, place, begins_with}
+use Rattle.csub_tree.specs.Layout.{shape_at, place}
 use Rattle.csub_tree.specs.Operation.{Answer, is_unset, word_of, unary_of, binary_of}
 use Rattle.csub_tree.specs.Checked.{gives_bool}
 use Rattle.csub_tree.specs.Statement as st
@@ -10,10 +10,8 @@ use Rattle.csub_tree.specs.Statement.{read, operand, reached, block_at, on_block
 use Rattle.csub_tree.specs.declared.stuck.StuckReason.{StuckReason}
 use Rattle.csub_tree.specs.declared.stuck.StuckReason.TheVariants.{Outside, Unset as IsUnset}
 use Rattle.csub_tree.specs.declared.tree.COperand.{COperand}
-use Rattle.csub_tree.specs.declared.tree.COperand.TheVariants.{Var, Const}
 use Rattle.csub_tree.specs.declared.tree.CUnary.{CUnary}
 use Rattle.csub_tree.specs.declared.tree.CUnary.TheVariants as unary
-use Rattle.csub_tree.specs.declared.tree.CBinary.{CBinary}
 use Rattle.ll_code.specs.Machine.{does, shapes_of}
 use Rattle.ll_code.specs.Typed.{IsWellTyped, takes, given_takes, field_of, own_field, items_of, operation_ok, unary_gives, binary_gives}
 use Rattle.ll_code.specs.declared.program.LlType.{LlType}
@@ -29,17 +27,15 @@ use Rattle.ll_laws.proofs.Cells.{new_at, old_at, is_new}
 use Rattle.ll_laws.proofs.Operations.{set_at}
 use Rattle.ll_laws.proofs.Values.{and_left, and_right, has_type_is, operand_fits}
 use Rattle.ll_live.specs.Live.{set_by, sets}
-use Rattle.ll_points.specs.Agrees.{Slots, op_agrees}
 use Rattle.ll_points.specs.Points.{AllLead, StaticsStand}
 use Rattle.refcount_transform.specs.Plan.{Plan, plan_of, is_counted, made_by, reference_to, reference_given, base_at, fields_of, place_of, place_behind, field_referred, items_referred}
 use Rattle.refcount_transform.specs.Changes.{around_of, var_referred}
-use Rattle.refcount_laws.specs.Before.{NoBlocksIn}
 use Rattle.refcount_laws.specs.Ready.{InBlock}
 use Rattle.refcount_laws.proofs.Cells.{set_here, set_other}
 use Rattle.refcount_laws.proofs.Numbers.{Based}
 use Rattle.refcount_ready.specs.Along.{WritesBlocks}
-use Rattle.refcount_ready.proofs.Pointers.{AreCounted, block_refers, var_refers, operand_leads}
-use Rattle.refcount_ready.proofs.Keeps.{MemoryKeeps, CoreKeeps}
+use Rattle.refcount_ready.proofs.Pointers.{block_refers, var_refers, operand_leads}
+use Rattle.refcount_ready.proofs.Keeps.{CoreKeeps}
 
 -- ---- fields
 

@@ -1,6 +1,6 @@
 -- Behind the operation that makes an array, its variable leads to a block with as many items as was said.
-use Rattle.std.proofs.Common.{◌≡◌, ◌≢◌, ℕ, zero, suc, ◌+◌, ◌<◌, ℤ, pos, negsuc, Bool, true, false, ◌&&◌, ◌||◌, ◌==◌, List, [], ◌∷◌, ◌++◌, length, replicate, Option, Some, None, refl, sym, ap, ◌∙◌, subst, arith}
-use Rattle.std.specs.Prelude.{slice_get, slice_set, slice_index_or, not, is_some}
+use Rattle.std.proofs.Common.{◌≡◌, ◌≢◌, ℕ, zero, suc, ◌<◌, ℤ, pos, negsuc, Bool, true, false, ◌&&◌, ◌||◌, List, [], ◌∷◌, ◌++◌, length, replicate, Option, Some, None, refl, sym, ap, ◌∙◌, arith}
+use Rattle.std.specs.Prelude.{slice_get, slice_index_or, not, is_some}
 use Rattle.csub_tree.specs.State.{Value, Unset, Word, Ptr, Block, Core, After, Onward, Puts as PutsByte, Told, Over, Stuck}
 use Rattle.csub_tree.specs.Layout.{shape_at}
 use Rattle.csub_tree.specs.Operation.{word_of}

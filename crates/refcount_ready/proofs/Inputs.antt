@@ -1,5 +1,5 @@
 -- A test of a program: each block reads its inputs alone, and what it sets itself.
-use Rattle.std.proofs.Common.{◌≡◌, ◌⊎◌, inl, inr, ⊎_elim, ℕ, zero, suc, Bool, true, false, ◌&&◌, ◌||◌, ◌==◌, List, [], ◌∷◌, ◌++◌, Option, Some, None, refl, sym, ap, ◌∙◌, subst}
+use Rattle.std.proofs.Common.{◌≡◌, ◌⊎◌, inl, inr, ⊎_elim, ℕ, zero, suc, Bool, true, false, ◌&&◌, ◌||◌, List, [], ◌∷◌, ◌++◌, Option, Some, None, refl, sym, ap, ◌∙◌, subst}
 use Rattle.std.specs.Prelude.{slice_get, not}
 use Rattle.ll_code.specs.declared.program.LlOp.{LlOp}
 use Rattle.ll_code.specs.declared.program.LlExit.{LlExit}
@@ -10,7 +10,7 @@ use Rattle.ll_code.specs.declared.program.LlProgram.{LlProgram}
 use Rattle.ll_held.specs.Quiet.{ReadsInputs}
 use Rattle.ll_held.proofs.Keeping.{or_one}
 use Rattle.ll_laws.proofs.Values.{and_left, and_right}
-use Rattle.ll_live.specs.Live.{among, reads, set_by, sets, live, exit_variables, handler_variable, exit_reads}
+use Rattle.ll_live.specs.Live.{among, reads, set_by, sets, live, exit_variables, handler_variable}
 use Rattle.refcount_transform.specs.Changes.{variable_set}
 use Rattle.refcount_checks.specs.Countable.{all_among}
 use Rattle.refcount_ready.proofs.Lists.{all_are}

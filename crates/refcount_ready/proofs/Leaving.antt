@@ -1,46 +1,41 @@
 -- Exits, graphs that are entered and calls that go on are ready.
-use Rattle.std.proofs.Common.{◌≡◌, ◌⊎◌, inl, inr, ⊎_elim, ◌<◌, ◌≤◌, ℕ, zero, suc, ◌+◌, ◌-◌, Bool, true, false, ◌&&◌, ◌||◌, ◌==◌, List, [], ◌∷◌, ◌++◌, length, replicate, Option, Some, None, refl, sym, ap, ◌∙◌, subst, arith}
-use Rattle.std.specs.Prelude.{slice_get, slice_set, nat_lt, not}
-use Rattle.csub_tree.specs.State.{Value, Unset, Ptr, Block, Core}
+use Rattle.std.proofs.Common.{◌≡◌, ⊎_elim, ◌<◌, ◌≤◌, ℕ, zero, suc, ◌+◌, ◌-◌, true, List, [], ◌∷◌, ◌++◌, length, replicate, Option, Some, None, refl, sym, ap, ◌∙◌, subst, arith}
+use Rattle.std.specs.Prelude.{slice_get, slice_set}
+use Rattle.csub_tree.specs.State.{Value, Unset, Core}
 use Rattle.csub_tree.specs.Operation.{is_unset}
-use Rattle.csub_tree.specs.Statement.{read, operand, operands, any_unset}
+use Rattle.csub_tree.specs.Statement.{read, operand, operands}
 use Rattle.csub_tree.specs.declared.tree.COperand.{COperand}
 use Rattle.ll_code.specs.Machine.{set_all}
 use Rattle.ll_code.specs.State.{Frame}
-use Rattle.ll_code.specs.Typed.{IsWellTyped, takes, given_takes, all_given, enters, has_type, result_ok, link_ok, return_ok, exit_ok, graph_ok}
+use Rattle.ll_code.specs.Typed.{IsWellTyped, takes, given_takes, all_given, enters, result_ok, link_ok, return_ok, exit_ok}
 use Rattle.ll_code.specs.declared.program.LlType.{LlType}
 use Rattle.ll_code.specs.declared.program.LlType.TheVariants as type
 use Rattle.ll_code.specs.declared.program.LlLink.{LlLink}
-use Rattle.ll_code.specs.declared.program.LlOp.{LlOp}
 use Rattle.ll_code.specs.declared.program.LlExit.{LlExit}
 use Rattle.ll_code.specs.declared.program.LlExit.TheVariants as exit
 use Rattle.ll_code.specs.declared.program.LlBlock.{LlBlock}
 use Rattle.ll_code.specs.declared.program.LlGraph.{LlGraph}
 use Rattle.ll_code.specs.declared.program.LlProgram.{LlProgram}
-use Rattle.ll_held.specs.Roots.{waits_for}
 use Rattle.ll_laws.specs.Fits.{Fits, AllFit, CoreFits}
 use Rattle.ll_laws.specs.States.{CallingFits}
 use Rattle.ll_laws.proofs.Cells.{length_both}
 use Rattle.ll_laws.proofs.Heap.{length_unset, unset_at}
 use Rattle.ll_laws.proofs.Operations.{set_at, vars_set}
 use Rattle.ll_laws.proofs.Values.{and_left, and_right, is_less, has_type_is, operand_fits}
-use Rattle.ll_live.specs.Live.{among, set_by, live}
+use Rattle.ll_live.specs.Live.{among, live}
 use Rattle.ll_points.specs.Agrees.{Slots, Agrees, exit_agrees}
 use Rattle.ll_points.specs.Points.{LeadsBy, AllLead, MemoryLeads}
-use Rattle.refcount_transform.specs.Plan.{plan_of, root_of, reference_to, reference_given}
-use Rattle.refcount_transform.specs.Changes.{around_of, var_referred, operand_referred}
 use Rattle.refcount_laws.specs.Ghost.{Ghost}
 use Rattle.refcount_laws.specs.Leaves.{LinksPoint, ReturnPoints, is_explicit}
-use Rattle.refcount_laws.specs.Matches.{AllRoots, PointsTo, Pointing}
 use Rattle.refcount_laws.specs.Owned.{Roomy}
 use Rattle.refcount_laws.specs.Whole.{Call, Waits, ReadyToLeave, ReadyToEnter, ReadyToGoOn}
 use Rattle.refcount_laws.proofs.Numbers.{Based}
 use Rattle.refcount_typed.specs.Leads.{LeadsToRoots}
 use Rattle.refcount_checks.specs.Countable.{most, takes_params, all_among, is_countable}
 use Rattle.refcount_ready.proofs.Tests.{stands_under, graph_test, inputs_apart, inputs_few, unread, all_roots, result_root}
-use Rattle.refcount_ready.proofs.Pointers.{Sound, AreCounted, sound_points, block_refers, operand_sound, operand_leads, pointing}
-use Rattle.refcount_ready.proofs.Keeps.{CoreKeeps, SetIn, FrameKeeps, CallingKeeps, AtKeeps, ReturningKeeps}
-use Rattle.refcount_ready.proofs.Lists.{each_set, read_first, inputs_set, length_operands, given_count, all_are, params_below, each_param, params_short}
+use Rattle.refcount_ready.proofs.Pointers.{Sound, sound_points, block_refers, operand_sound, operand_leads, pointing}
+use Rattle.refcount_ready.proofs.Keeps.{CoreKeeps, SetIn, FrameKeeps, CallingKeeps}
+use Rattle.refcount_ready.proofs.Lists.{each_set, inputs_set, length_operands, given_count, all_are, params_below, each_param, params_short}
 use Rattle.refcount_ready.proofs.Operands.{type_refers}
 use Rattle.refcount_ready.proofs.Room.{waits_same}
 use Rattle.refcount_ready.proofs.Stepping.{based, good, params_of}

@@ -1,12 +1,12 @@
 -- Values that are set stay so on links, and the first variables of a graph are those that are given.
-use Rattle.std.proofs.Common.{◌≡◌, ◌≢◌, ◌⊎◌, inl, inr, ⊎_elim, ◌<◌, ◌≤◌, ℕ, zero, suc, ◌+◌, ◌-◌, Bool, true, false, ◌&&◌, ◌||◌, ◌==◌, List, [], ◌∷◌, ◌++◌, length, map, Option, Some, None, refl, sym, ap, ◌∙◌, subst, arith}
-use Rattle.std.specs.Prelude.{slice_get, slice_set, nat_lt}
+use Rattle.std.proofs.Common.{◌≡◌, ◌⊎◌, inl, inr, ⊎_elim, ◌<◌, ◌≤◌, ℕ, zero, suc, ◌+◌, Bool, true, false, ◌||◌, ◌==◌, List, [], ◌∷◌, ◌++◌, length, Option, Some, None, refl, sym, ap, ◌∙◌, subst, arith}
+use Rattle.std.specs.Prelude.{slice_get, slice_set}
 use Rattle.csub_tree.specs.State.{Value, Unset}
 use Rattle.csub_tree.specs.Operation.{is_unset}
-use Rattle.csub_tree.specs.Statement.{read, operand, operands, any_unset, same_type, same_types, same_result}
+use Rattle.csub_tree.specs.Statement.{read, operands, any_unset, same_result}
 use Rattle.csub_tree.specs.declared.tree.COperand.{COperand}
-use Rattle.ll_code.specs.Machine.{c_type, c_result, type_or_word, set_all}
-use Rattle.ll_code.specs.Typed.{is_type, is_kind, given_takes, all_given, all_taken, takes, params_ok, is_type_given}
+use Rattle.ll_code.specs.Machine.{c_result, set_all}
+use Rattle.ll_code.specs.Typed.{is_kind, all_given, params_ok, is_type_given}
 use Rattle.ll_code.specs.declared.program.LlType.{LlType}
 use Rattle.ll_code.specs.declared.program.LlType.TheVariants as type
 use Rattle.ll_code.specs.declared.program.LlStruct.{LlStruct}

@@ -1,30 +1,29 @@
 -- Operands, fields and items lead where they should, and may be taken by the variables that they are given to.
-use Rattle.std.proofs.Common.{◌≡◌, ◌⊎◌, inl, inr, ⊎_elim, ◌<◌, ℕ, zero, suc, ◌+◌, Bool, true, false, ◌&&◌, ◌||◌, ◌==◌, List, [], ◌∷◌, ◌++◌, length, Option, Some, None, refl, sym, ap, ◌∙◌, subst, arith}
-use Rattle.std.specs.Prelude.{slice_get, slice_index_or, Result, Ok, Err}
-use Rattle.csub_tree.specs.State.{Value, Unset, Ptr, Static, Block, Core}
+use Rattle.std.proofs.Common.{◌≡◌, ℕ, Bool, true, false, ◌||◌, ◌==◌, List, [], ◌∷◌, ◌++◌, length, Some, refl, sym, ap, ◌∙◌, subst}
+use Rattle.std.specs.Prelude.{slice_get, Ok}
+use Rattle.csub_tree.specs.State.{Value, Ptr, Static, Block, Core}
 use Rattle.csub_tree.specs.Layout.{shape_at, place, begins_with}
 use Rattle.csub_tree.specs.Operation.{is_unset}
 use Rattle.csub_tree.specs.Statement.{read, operand, reached, block_at}
-use Rattle.csub_tree.specs.declared.tree.CConst.{CConst}
 use Rattle.csub_tree.specs.declared.tree.CConst.TheVariants as constant
 use Rattle.csub_tree.specs.declared.tree.COperand.{COperand}
 use Rattle.csub_tree.specs.declared.tree.COperand.TheVariants.{Var, Const}
 use Rattle.ll_code.specs.Machine.{shapes_of}
-use Rattle.ll_code.specs.Typed.{IsWellTyped, takes, has_given, given_takes, is_of_any, field_of, items_of, has_type}
+use Rattle.ll_code.specs.Typed.{IsWellTyped, takes, field_of, items_of}
 use Rattle.ll_code.specs.declared.program.LlType.{LlType}
 use Rattle.ll_code.specs.declared.program.LlType.TheVariants as type
 use Rattle.ll_code.specs.declared.program.LlProgram.{LlProgram}
 use Rattle.ll_held.proofs.Calming.{reached_there}
 use Rattle.ll_held.proofs.Keeping.{or_left, or_right, same_number}
-use Rattle.ll_laws.specs.Fits.{Fits, AllFit, BlockFits, CoreFits}
+use Rattle.ll_laws.specs.Fits.{Fits, BlockFits, CoreFits}
 use Rattle.ll_laws.specs.Fields.{fields_of, fields_from}
 use Rattle.ll_laws.proofs.Cells.{Laid, all_laid}
-use Rattle.ll_laws.proofs.Values.{and_left, and_right, is_same, has_type_is}
-use Rattle.ll_live.specs.Live.{among, variables_of, variables_in}
+use Rattle.ll_laws.proofs.Values.{and_left, is_same, has_type_is}
+use Rattle.ll_live.specs.Live.{among, variables_of}
 use Rattle.ll_points.specs.Agrees.{Slots}
 use Rattle.ll_points.specs.Points.{AllLead, LeadsBy, BlockLeads, MemoryLeads}
-use Rattle.refcount_transform.specs.Plan.{plan_of, root_of, where_marked, reference_to, reference_given}
-use Rattle.refcount_transform.specs.Changes.{around_of, var_referred, operand_referred}
+use Rattle.refcount_transform.specs.Plan.{plan_of, root_of, reference_to, reference_given}
+use Rattle.refcount_transform.specs.Changes.{around_of, operand_referred}
 use Rattle.refcount_laws.specs.Before.{MayStand}
 use Rattle.refcount_laws.specs.Matches.{PointsTo}
 use Rattle.refcount_laws.proofs.Getting.{reached_begins}

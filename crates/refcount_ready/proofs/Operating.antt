@@ -1,14 +1,12 @@
 -- Each operation of a state of a run is ready.
-use Rattle.std.proofs.Common.{◌≡◌, ◌⊎◌, inl, inr, ⊎_elim, ◌<◌, ◌≤◌, ℕ, zero, suc, ◌+◌, ◌-◌, pos, Bool, true, false, ◌&&◌, ◌||◌, ◌==◌, List, [], ◌∷◌, ◌++◌, length, Option, Some, None, refl, sym, ap, ◌∙◌, subst, arith}
-use Rattle.std.specs.Prelude.{slice_get, slice_index_or, Result, Ok, Err, nat_lt, is_some, is_none, not}
-use Rattle.csub_tree.specs.State.{Value, Unset, Word, Null, Ptr, Static, Block, Core}
-use Rattle.csub_tree.specs.Layout.{Shape, shape_at, shape_over, base_of, place, begins_with}
+use Rattle.std.proofs.Common.{◌≡◌, ⊎_elim, ◌<◌, ℕ, zero, suc, ◌+◌, ◌-◌, true, false, ◌&&◌, ◌==◌, List, [], ◌∷◌, ◌++◌, length, Option, Some, None, refl, sym, ap, ◌∙◌, subst, arith}
+use Rattle.std.specs.Prelude.{slice_get, is_some}
+use Rattle.csub_tree.specs.State.{Value, Ptr, Core}
+use Rattle.csub_tree.specs.Layout.{shape_at, shape_over, base_of, place, begins_with}
 use Rattle.csub_tree.specs.Operation.{is_unset}
-use Rattle.csub_tree.specs.Statement.{read, operand, reached}
+use Rattle.csub_tree.specs.Statement.{read, operand}
 use Rattle.csub_tree.specs.declared.tree.COperand.{COperand}
-use Rattle.csub_tree.specs.declared.tree.COperand.TheVariants.{Var, Const}
 use Rattle.ll_code.specs.Machine.{shapes_of}
-use Rattle.ll_code.specs.State.{Frame}
 use Rattle.ll_code.specs.Typed as typed
 use Rattle.ll_code.specs.Typed.{IsWellTyped, takes, has_given, given_takes, all_given, all_taken, field_of, own_field, items_of, has_type, begins, operation_ok, call_ok}
 use Rattle.ll_code.specs.declared.program.LlType.{LlType}
@@ -16,47 +14,43 @@ use Rattle.ll_code.specs.declared.program.LlType.TheVariants as type
 use Rattle.ll_code.specs.declared.program.LlStruct.{LlStruct}
 use Rattle.ll_code.specs.declared.program.LlOp.{LlOp}
 use Rattle.ll_code.specs.declared.program.LlOp.TheVariants as op
-use Rattle.ll_code.specs.declared.program.LlExit.{LlExit}
 use Rattle.ll_code.specs.declared.program.LlGraph.{LlGraph}
 use Rattle.ll_code.specs.declared.program.LlProgram.{LlProgram}
-use Rattle.ll_held.proofs.Keeping.{or_left, or_right, same_number}
-use Rattle.ll_laws.specs.Fits.{Fits, AllFit, CoreFits, exception}
+use Rattle.ll_held.proofs.Keeping.{or_right}
+use Rattle.ll_laws.specs.Fits.{Fits, CoreFits, exception}
 use Rattle.ll_laws.specs.Fields.{fields_at, fields_from}
 use Rattle.ll_laws.proofs.Cells.{Laid, all_laid}
 use Rattle.ll_laws.proofs.Operations.{any_pointer}
 use Rattle.ll_laws.proofs.Values.{and_left, and_right, is_same, is_less, has_type_is}
-use Rattle.ll_live.specs.Live.{among, reads, set_by, live, variables_of, variables_in}
+use Rattle.ll_live.specs.Live.{among, reads, variables_of, variables_in}
 use Rattle.ll_points.specs.Agrees.{Slots, Agrees, op_agrees, graphs_agree}
 use Rattle.ll_points.specs.Points.{Leads, AllLead, MemoryLeads, SlotsLead}
 use Rattle.ll_points.proofs.Shapes.{begins_so}
-use Rattle.refcount_transform.specs.Plan.{Plan, plan_of, is_counted, made_by, root_of, base_at, fields_of, field_number, referred, reference_to, reference_given, field_referred, items_referred, place_of, place_behind, no_slots}
+use Rattle.refcount_transform.specs.Plan.{plan_of, is_counted, root_of, field_number, referred, reference_to, reference_given, field_referred, items_referred, place_of, place_behind, no_slots}
 use Rattle.refcount_transform.specs.Changes.{around_of, var_referred, operand_referred}
-use Rattle.refcount_laws.specs.Before.{MayStand, SetsUnread, MayTakeField, MayTakeItem}
-use Rattle.refcount_laws.specs.Ghost.{Ghost, one, hit}
+use Rattle.refcount_laws.specs.Before.{MayStand, MayTakeField, MayTakeItem}
+use Rattle.refcount_laws.specs.Ghost.{Ghost, one}
 use Rattle.refcount_laws.specs.Leaves.{AllPoint}
 use Rattle.refcount_laws.specs.Made.{counts_of, place_in, all_lead}
 use Rattle.refcount_laws.specs.Matches.{AllRoots, PointsTo}
-use Rattle.refcount_laws.specs.Owned.{Roomy, hits_by}
-use Rattle.refcount_laws.specs.Ready.{Ready, InBlock, MayBeGiven, KeepsNumber, MayMake, MayFill, MayTakeSlot}
+use Rattle.refcount_laws.specs.Owned.{Roomy}
+use Rattle.refcount_laws.specs.Ready.{MayBeGiven, KeepsNumber, MayMake, MayTakeSlot}
 use Rattle.refcount_laws.specs.Slots.{SlotLeads}
-use Rattle.refcount_laws.specs.Touched.{block_in}
-use Rattle.refcount_laws.specs.Whole.{Call, ReadyBy, beside, waits_own}
+use Rattle.refcount_laws.specs.Whole.{ReadyBy}
 use Rattle.refcount_laws.proofs.Numbers.{Based}
 use Rattle.refcount_laws.proofs.Places.{reference_marked}
-use Rattle.refcount_laws.proofs.Shapes.{Begins, Itself, ByBase, begins_by, HasBase, shape_is}
+use Rattle.refcount_laws.proofs.Shapes.{Begins, Itself, ByBase, begins_by, shape_is}
 use Rattle.refcount_laws.proofs.Spread.{begin, own_at, begin_is}
 use Rattle.refcount_typed.specs.Leads.{LeadsToRoots}
 use Rattle.refcount_typed.specs.Numbered.{HasNumbers}
-use Rattle.refcount_typed.proofs.Calls.{lead_at}
 use Rattle.refcount_typed.proofs.Fields.{reference_is, given_root}
 use Rattle.refcount_typed.proofs.Numbering.{number_first_is}
-use Rattle.refcount_typed.proofs.Roots.{inside}
 use Rattle.refcount_checks.specs.Countable.{most, is_number, call_countable, result_of, is_countable}
 use Rattle.refcount_ready.specs.Along.{WritesBlocks, MakesShort}
 use Rattle.refcount_ready.proofs.Tests.{Stands, op_test, unread, all_roots, op_lead_test}
-use Rattle.refcount_ready.proofs.Pointers.{Sound, AreCounted, begins_counted, counted_refers, points, sound_points}
-use Rattle.refcount_ready.proofs.Slots.{Found, slots_found_or_not, slots_not_found}
-use Rattle.refcount_ready.proofs.Keeps.{CoreKeeps, SetIn, NumberNext, AtKeeps}
+use Rattle.refcount_ready.proofs.Pointers.{Sound, begins_counted, counted_refers, points, sound_points}
+use Rattle.refcount_ready.proofs.Slots.{slots_found_or_not, slots_not_found}
+use Rattle.refcount_ready.proofs.Keeps.{CoreKeeps, NumberNext}
 use Rattle.refcount_ready.proofs.Doing.{field_is, items_is}
 use Rattle.refcount_ready.proofs.Stepping.{based, made_by_it, slots_set, free_disagrees, raise_disagrees}
 use Rattle.refcount_ready.proofs.Operands.{among_first, among_second, may_stand, operand_is_sound, operand_points, field_sound, item_sound}

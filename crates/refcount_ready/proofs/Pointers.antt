@@ -1,7 +1,7 @@
 -- Values that fit and lead where their type says point there once they are set; and what a value refers to is counted.
-use Rattle.std.proofs.Common.{◌≡◌, ◌<◌, ℕ, zero, suc, ◌+◌, Bool, true, false, ◌||◌, List, [], ◌∷◌, length, Option, Some, None, refl, sym, ap, ◌∙◌, subst, arith}
+use Rattle.std.proofs.Common.{◌≡◌, ◌<◌, ℕ, zero, suc, Bool, true, false, List, [], ◌∷◌, length, Option, Some, None, refl, sym, ap, ◌∙◌, subst, arith}
 use Rattle.std.specs.Prelude.{slice_get, slice_index_or}
-use Rattle.csub_tree.specs.State.{Value, Unset, Word, Byte, Flag, Fun, Null, Ptr, Static, Block, Core}
+use Rattle.csub_tree.specs.State.{Value, Unset, Word, Byte, Flag, Fun, Null, Ptr, Static, Block}
 use Rattle.csub_tree.specs.Layout.{begins_with}
 use Rattle.csub_tree.specs.Operation.{is_unset}
 use Rattle.csub_tree.specs.Statement.{read, operand}
@@ -11,21 +11,20 @@ use Rattle.csub_tree.specs.declared.tree.COperand.{COperand}
 use Rattle.csub_tree.specs.declared.tree.COperand.TheVariants.{Var, Const}
 use Rattle.csub_tree.specs.declared.tree.CStatic.{CStatic}
 use Rattle.ll_code.specs.Machine.{shapes_of}
-use Rattle.ll_code.specs.Typed.{IsWellTyped, takes, is_of_any, is_cast, begins}
+use Rattle.ll_code.specs.Typed.{IsWellTyped, takes, is_of_any, is_cast}
 use Rattle.csub_tree.specs.Checked.{kind_of}
 use Rattle.ll_code.specs.declared.program.LlType.{LlType}
 use Rattle.ll_code.specs.declared.program.LlType.TheVariants as type
-use Rattle.ll_code.specs.declared.program.LlStruct.{LlStruct}
 use Rattle.ll_code.specs.declared.program.LlProgram.{LlProgram}
 use Rattle.ll_laws.specs.Fits.{Fits, AllFit}
-use Rattle.ll_laws.proofs.Values.{and_left, and_right, is_same, is_less, has_type_is, operand_fits, constant_fits}
+use Rattle.ll_laws.proofs.Values.{and_left, and_right, is_same, has_type_is, operand_fits}
 use Rattle.ll_points.specs.Points.{Leads, LeadsBy, AllLead, StaticsStand}
-use Rattle.refcount_transform.specs.Plan.{plan_of, is_counted, is_marked, where_marked, referred, reference_to, reference_given}
-use Rattle.refcount_transform.specs.Changes.{around_of, var_referred, operand_referred}
+use Rattle.refcount_transform.specs.Plan.{plan_of, is_counted, where_marked, reference_to, reference_given}
+use Rattle.refcount_transform.specs.Changes.{around_of, var_referred}
 use Rattle.refcount_laws.specs.Matches.{PointsTo, Pointing}
 use Rattle.refcount_laws.proofs.Numbers.{Based}
 use Rattle.refcount_laws.proofs.Places.{counted_base, earlier}
-use Rattle.refcount_laws.proofs.Shapes.{Begins, Itself, ByBase, begins_by, HasBase}
+use Rattle.refcount_laws.proofs.Shapes.{Begins, Itself, ByBase, begins_by}
 use Rattle.refcount_laws.proofs.Standing.{StructAt}
 use Rattle.refcount_typed.proofs.Fields.{reference_is, given_is}
 use Rattle.ll_points.proofs.Shapes.{begins_so}

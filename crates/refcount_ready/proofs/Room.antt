@@ -1,34 +1,32 @@
 -- Counts have room where few references stand in what is held: the references of a block stand at different places, and what is owned
 -- stands in the roots.
-use Rattle.std.proofs.Common.{◌≡◌, ◌≢◌, ◌⊎◌, inl, inr, ⊎_elim, ◌<◌, ◌≤◌, ℕ, zero, suc, ◌+◌, ◌-◌, Bool, true, false, ◌&&◌, ◌||◌, ◌==◌, List, [], ◌∷◌, ◌++◌, length, map, Option, Some, None, refl, sym, ap, ◌∙◌, subst, arith}
-use Rattle.std.specs.Prelude.{◌^◌, slice_get, slice_set, slice_index_or, cond, is_some, not}
+use Rattle.std.proofs.Common.{◌≡◌, inl, inr, ◌<◌, ◌≤◌, ℕ, zero, suc, ◌+◌, Bool, true, false, ◌&&◌, ◌||◌, List, [], ◌∷◌, ◌++◌, length, map, Option, Some, None, refl, sym, ap, ◌∙◌, subst, arith}
+use Rattle.std.specs.Prelude.{slice_get, slice_set, cond, is_some, not}
 use Rattle.csub_tree.specs.State.{Value, Unset, Word, Byte, Flag, Fun, Null, Ptr, Static, Block, Core}
 use Rattle.csub_tree.specs.Layout.{shape_at}
 use Rattle.csub_tree.specs.Statement.{read}
 use Rattle.ll_code.specs.Machine.{shapes_of}
-use Rattle.ll_code.specs.State.{Frame, State, Calling, At, Returning}
+use Rattle.ll_code.specs.State.{Frame, Calling, At, Returning}
 use Rattle.ll_code.specs.Typed as typed
 use Rattle.ll_code.specs.declared.program.LlType.{LlType}
 use Rattle.ll_code.specs.declared.program.LlStruct.{LlStruct}
 use Rattle.ll_code.specs.declared.program.LlOp.{LlOp}
 use Rattle.ll_code.specs.declared.program.LlExit.{LlExit}
-use Rattle.ll_code.specs.declared.program.LlGraph.{LlGraph}
 use Rattle.ll_code.specs.declared.program.LlProgram.{LlProgram}
-use Rattle.ll_held.specs.Held.{times, references as references_of, is_reference, is_block, cells, cells_at, IsBelow}
-use Rattle.ll_held.specs.Roots.{kept, slots, waits_for, waiting_roots, read_by, under_way, roots}
-use Rattle.ll_held.proofs.Keeping.{references_append, in_first, in_second, head_in, tail_in, or_left, or_right}
-use Rattle.ll_live.specs.Live.{among, reads, sets, set_by, live}
+use Rattle.ll_held.specs.Held.{times, references as references_of, is_reference, cells, cells_at, IsBelow}
+use Rattle.ll_held.specs.Roots.{kept, slots, waits_for, waiting_roots, read_by, roots}
+use Rattle.ll_held.proofs.Keeping.{references_append, in_first, in_second, head_in, tail_in}
+use Rattle.ll_live.specs.Live.{among, reads, sets, live}
 use Rattle.refcount_transform.specs.declared.plan.Held.{Held}
-use Rattle.refcount_transform.specs.Plan.{Plan, plan_of, is_counted, base_at, referred, fields_of, fields_given, field_number, held_if, held_from, own_held, of_base, held_within, held_of}
+use Rattle.refcount_transform.specs.Plan.{Plan, plan_of, is_counted, base_at, referred, fields_of, fields_given, field_number, held_if, held_from, own_held, of_base, held_within}
 use Rattle.refcount_transform.specs.Changes.{Around, around_of, var_referred}
 use Rattle.refcount_transform.specs.Counted.{counted}
 use Rattle.refcount_laws.specs.Graphs.{Reference, Counts}
-use Rattle.refcount_laws.specs.Ghost.{Ghost, Fixed, Alone, F, Slot, S, fixed_at, IsFixed, count, bare_at, occurs, hit, one, inner, references, field_references, item_references, Apart, IsCounted}
+use Rattle.refcount_laws.specs.Ghost.{Ghost, Fixed, Alone, F, Slot, fixed_at, IsFixed, count, bare_at, occurs, hit, one, inner, references, field_references, item_references, Apart, IsCounted}
 use Rattle.refcount_laws.specs.Made.{counts_of, reference_of, place_in}
 use Rattle.refcount_laws.specs.Matches.{Near, AllNear, NearBlock, NearMemory}
 use Rattle.refcount_laws.specs.Owned.{owns, owned, hits_by, Roomy, HasRoomBy}
 use Rattle.refcount_laws.specs.Leaves.{given_to}
-use Rattle.refcount_laws.specs.Slots.{slot_hits}
 use Rattle.refcount_laws.specs.Touched.{block_in}
 use Rattle.refcount_laws.specs.Whole.{Call, Waits, AllWait, slots_own, waits_own, beside}
 use Rattle.refcount_laws.specs.Reach.{Mirrors, Owns}
@@ -36,7 +34,7 @@ use Rattle.refcount_laws.proofs.Numbers.{Based}
 use Rattle.refcount_laws.proofs.Spread.{Low, High, own_at, begin, begin_is, held_high}
 use Rattle.refcount_laws.proofs.Leftover.{edges_of}
 use Rattle.refcount_laws.proofs.Reaching.{has_room}
-use Rattle.refcount_laws.proofs.Cells.{set_here, set_other}
+use Rattle.refcount_laws.proofs.Cells.{set_other}
 use Rattle.refcount_laws.proofs.Standing.{StructAt, marked_there}
 use Rattle.refcount_laws.proofs.Places.{earlier, counted_base}
 use Rattle.refcount_checks.specs.Countable.{most}

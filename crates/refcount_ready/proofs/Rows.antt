@@ -1,13 +1,12 @@
 -- A program that makes a list of three links in a loop, each by a call that returns it; and tests that arrays pass, or do not.
-use Rattle.std.proofs.Common.{◌≡◌, ◌<◌, ℕ, zero, suc, pos, true, false, Bool, ◌||◌, List, [], ◌∷◌, length, Option, Some, None, refl, sym, ap, ◌∙◌, codes, arith}
+use Rattle.std.proofs.Common.{◌≡◌, pos, true, false, List, [], ◌∷◌, Some, None, refl, codes}
 use Rattle.std.specs.Int.{int_wrap}
 use Rattle.rpy_base.specs.declared.outcome.Outcome.TheVariants.{Returned}
 use Rattle.csub_tree.specs.declared.tree.CBinary.TheVariants as binary
 use Rattle.csub_tree.specs.declared.tree.CConst.TheVariants as constant
 use Rattle.csub_tree.specs.declared.tree.COperand.TheVariants.{Var, Const}
 use Rattle.ll_code.specs.Machine.{shapes_from}
-use Rattle.ll_code.specs.Meaning.{Meant, LMeans, Came, run, within}
-use Rattle.ll_code.specs.Machine.{start}
+use Rattle.ll_code.specs.Meaning.{Meant, LMeans, Came, run}
 use Rattle.ll_code.specs.Typed.{IsWellTyped, begins_within}
 use Rattle.ll_code.specs.declared.program.LlStage.TheVariants as stage
 use Rattle.ll_code.specs.declared.program.LlType.TheVariants as type

@@ -1,5 +1,5 @@
 -- What the exception slots refer to: what the first operation that sets them says, and all say the same.
-use Rattle.std.proofs.Common.{◌≡◌, ◌⊎◌, inl, inr, ⊎_elim, ℕ, zero, suc, Bool, true, false, ◌&&◌, List, [], ◌∷◌, length, Option, Some, None, refl, sym, ap, ◌∙◌, subst}
+use Rattle.std.proofs.Common.{◌≡◌, ◌⊎◌, inl, inr, ℕ, zero, suc, true, List, [], ◌∷◌, length, Option, Some, None, refl, sym, ap, ◌∙◌, subst}
 use Rattle.std.specs.Prelude.{slice_get}
 use Rattle.ll_code.specs.declared.program.LlType.{LlType}
 use Rattle.ll_code.specs.declared.program.LlType.TheVariants as type
@@ -12,7 +12,6 @@ use Rattle.ll_laws.proofs.Values.{and_left, and_right, has_type_is}
 use Rattle.ll_points.specs.Agrees.{op_agrees, ops_agree, blocks_agree, graphs_agree}
 use Rattle.refcount_transform.specs.declared.slots.Slots.{Slots}
 use Rattle.refcount_transform.specs.Plan.{plan_of, root_of, reference_to, reference_given, set_by_ops, or_found, set_by_blocks, no_slots, or_slots, slots_of}
-use Rattle.refcount_transform.specs.Changes.{around_of, var_referred}
 use Rattle.refcount_laws.specs.Matches.{AllRoots}
 use Rattle.refcount_ready.proofs.Tests.{Stands}
 

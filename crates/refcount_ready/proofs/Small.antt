@@ -1,22 +1,22 @@
 -- A test of a run that ends: each of its states is small, and writes no reference into a static.
-use Rattle.std.proofs.Common.{◌≡◌, ◌⊎◌, inl, inr, ◌<◌, ◌≤◌, ◌^◌, ℕ, zero, suc, ◌+◌, ℤ, pos, negsuc, Bool, true, false, ◌&&◌, ◌||◌, ◌==◌, List, [], ◌∷◌, ◌++◌, length, Option, Some, None, refl, sym, ap, ◌∙◌, subst, arith}
-use Rattle.std.specs.Prelude.{slice_set, slice_index_or, cond, not, nat_lt, is_none}
-use Rattle.csub_tree.specs.State.{Value, Unset, Word, Byte, Flag, Fun, Null, Ptr, Static, Block, Core, Event}
+use Rattle.std.proofs.Common.{◌≡◌, ◌<◌, ◌≤◌, ◌^◌, ℕ, zero, suc, ◌+◌, pos, Bool, true, false, ◌&&◌, ◌==◌, List, [], ◌∷◌, ◌++◌, Option, Some, None, refl, sym, ap, ◌∙◌, subst, arith}
+use Rattle.std.specs.Prelude.{slice_set, not, nat_lt}
+use Rattle.csub_tree.specs.State.{Value, Word, Static, Block, Core, Event}
 use Rattle.csub_tree.specs.Statement.{read, operand}
 use Rattle.ll_code.specs.Machine.{step, start}
-use Rattle.ll_code.specs.Meaning.{Ran, Ended, Unfinished, run, follow}
-use Rattle.ll_code.specs.State.{Frame, State, Calling, At, Returning, Throwing, Next, Goes, Puts, Tells, Ends, Sticks}
+use Rattle.ll_code.specs.Meaning.{Unfinished, run, follow}
+use Rattle.ll_code.specs.State.{State, Calling, At, Returning, Throwing, Next, Goes, Puts, Tells, Ends, Sticks}
 use Rattle.ll_code.specs.declared.program.LlOp.{LlOp}
 use Rattle.ll_code.specs.declared.program.LlOp.TheVariants as op
 use Rattle.ll_code.specs.declared.program.LlProgram.{LlProgram}
-use Rattle.ll_held.specs.Held.{references, cells, cells_at, is_new, are_distinct, AllHeld, references_in, IsBelow}
+use Rattle.ll_held.specs.Held.{references, cells, cells_at, is_new, are_distinct, references_in, IsBelow}
 use Rattle.ll_held.specs.Roots.{roots, core_of}
 use Rattle.ll_laws.proofs.Values.{and_left, and_right, is_less}
 use Rattle.refcount_transform.specs.Plan.{plan_of, field_referred, items_referred}
 use Rattle.refcount_laws.specs.Ready.{InBlock}
 use Rattle.refcount_laws.proofs.Cells.{set_other}
 use Rattle.refcount_checks.specs.Countable.{most}
-use Rattle.refcount_ready.specs.Along.{EachState, MakesShort, MakesShortNext, IsSmall, WritesBlocks, LeavesStatics}
+use Rattle.refcount_ready.specs.Along.{MakesShort, MakesShortNext, IsSmall, WritesBlocks, LeavesStatics}
 use Rattle.refcount_ready.specs.Programs.{RunsSmall}
 
 -- ---- all references that stand in blocks

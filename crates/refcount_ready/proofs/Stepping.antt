@@ -1,19 +1,18 @@
 -- Each step of a program keeps what is asked of states.
-use Rattle.std.proofs.Common.{◌≡◌, ◌⊎◌, inl, inr, ⊎_elim, ◌<◌, ◌≤◌, ℕ, zero, suc, ◌+◌, ◌-◌, ℤ, pos, negsuc, Bool, true, false, ◌&&◌, ◌||◌, ◌==◌, List, [], ◌∷◌, ◌++◌, length, map, replicate, Option, Some, None, refl, sym, ap, ◌∙◌, subst, arith}
-use Rattle.std.specs.Prelude.{slice_get, slice_set, slice_index_or, cond, not, nat_lt, is_none, Result, Ok, Err}
-use Rattle.csub_tree.specs.State.{Value, Unset, Word, Null, Ptr, Static, Block, Core, After, Onward, Puts as PutsByte, Told, Over, Stuck}
-use Rattle.csub_tree.specs.Layout.{static_block}
+use Rattle.std.proofs.Common.{◌≡◌, ◌<◌, ℕ, zero, suc, ◌-◌, ℤ, Bool, true, false, ◌&&◌, ◌||◌, ◌==◌, List, [], ◌∷◌, ◌++◌, length, map, replicate, Option, Some, None, refl, sym, ap, ◌∙◌, subst, arith}
+use Rattle.std.specs.Prelude.{slice_get, slice_set, cond, not, is_none, Result, Ok, Err}
+use Rattle.csub_tree.specs.State.{Value, Unset, Block, Core, After, Onward, Puts as PutsByte, Told, Over, Stuck}
 use Rattle.csub_tree.specs.Operation.{is_unset, word_of, flag_of}
 use Rattle.csub_tree.specs.Statement as st
 use Rattle.csub_tree.specs.Statement.{read, operand, operands, any_unset, taken_by, fun_of, same_result, same_types, reached, on_block}
 use Rattle.rpy_base.specs.declared.outcome.Outcome.TheVariants.{Returned}
 use Rattle.csub_tree.specs.declared.stuck.StuckReason.{StuckReason}
-use Rattle.csub_tree.specs.declared.stuck.StuckReason.TheVariants.{Outside, Signature, Unset as IsUnset}
+use Rattle.csub_tree.specs.declared.stuck.StuckReason.TheVariants.{Signature, Unset as IsUnset}
 use Rattle.csub_tree.specs.declared.tree.COperand.{COperand}
 use Rattle.csub_tree.specs.declared.tree.CType.{CType}
 use Rattle.csub_tree.specs.declared.tree.CType.TheVariants as c
-use Rattle.ll_code.specs.Machine.{does, goes_on, shapes_of, set_all, block_in, begins, jump, branch, waiting, resumed, called, called_as, called_value, enters, entered, returned, given, operates, gives_back, type_in, leaves, step, c_result, c_type, param_types}
-use Rattle.ll_code.specs.State.{Frame, State, Calling, At, Returning, Throwing, Next, Goes, Puts, Tells, Ends, Sticks}
+use Rattle.ll_code.specs.Machine.{does, goes_on, shapes_of, set_all, block_in, begins, jump, branch, waiting, resumed, called, called_as, called_value, enters, entered, returned, operates, gives_back, type_in, leaves, step, c_result, c_type, param_types}
+use Rattle.ll_code.specs.State.{Frame, State, Calling, At, Returning, Throwing, Next, Goes, Sticks}
 use Rattle.ll_code.specs.Typed.{IsWellTyped, given_takes, all_given, all_taken, takes, field_of, items_of, result_ok, operation_ok, operations_ok, exit_ok, link_ok, return_ok, graph_ok, graphs_ok, block_ok, params_ok, is_kind, is_void, call_ok}
 use Rattle.ll_code.specs.declared.program.LlType.{LlType}
 use Rattle.ll_code.specs.declared.program.LlType.TheVariants as type
@@ -29,27 +28,26 @@ use Rattle.ll_code.specs.declared.program.LlProgram.{LlProgram}
 use Rattle.ll_held.specs.Places.{PlacedAt, IsPlaced}
 use Rattle.ll_held.specs.Quiet.{ReadsInputs}
 use Rattle.ll_held.specs.Roots.{under_way, read_by, waits_for}
-use Rattle.ll_held.proofs.Keeping.{or_left, or_right, same_number}
+use Rattle.ll_held.proofs.Keeping.{or_right, same_number}
 use Rattle.ll_held.proofs.Placing.{under_is}
-use Rattle.ll_laws.specs.Fits.{Fits, AllFit, CoreFits}
-use Rattle.ll_laws.specs.States.{StateFits, CallingFits, AtFits, LeavesFits}
+use Rattle.ll_laws.specs.Fits.{CoreFits}
+use Rattle.ll_laws.specs.States.{StateFits}
 use Rattle.ll_laws.proofs.Values.{and_left, and_right, is_same, is_less, has_type_is}
 use Rattle.ll_live.specs.Live.{among, reads, set_by, sets, live}
-use Rattle.ll_points.specs.Agrees.{Slots, op_agrees, ops_agree, exit_agrees, graphs_agree, Agrees}
-use Rattle.ll_points.specs.Points.{StateLeads, CallingLeads, AtLeads, ReturningLeads}
-use Rattle.refcount_transform.specs.Plan.{plan_of, is_counted, made_by, root, has_root, graphs_make, reference_to, reference_given}
+use Rattle.ll_points.specs.Agrees.{Slots, op_agrees, exit_agrees, graphs_agree, Agrees}
+use Rattle.ll_points.specs.Points.{StateLeads, AtLeads}
+use Rattle.refcount_transform.specs.Plan.{plan_of, is_counted, made_by, root, has_root, reference_given}
 use Rattle.refcount_transform.specs.Changes.{around_of, var_referred}
-use Rattle.refcount_laws.specs.Before.{NoBlocksIn}
 use Rattle.refcount_laws.proofs.Cells.{set_here, set_other}
 use Rattle.refcount_laws.proofs.Numbers.{Based, all_based}
 use Rattle.refcount_typed.specs.Leads.{LeadsToRoots}
 use Rattle.refcount_typed.proofs.Roots.{made_counted, inside}
-use Rattle.refcount_checks.specs.Countable.{result_of, call_countable, calls_countable, op_countable, takes_params, all_among, numbers_follow, is_countable}
+use Rattle.refcount_checks.specs.Countable.{result_of, call_countable, takes_params, all_among, numbers_follow, is_countable}
 use Rattle.refcount_ready.specs.Along.{WritesBlocks, LeavesStatics}
 use Rattle.refcount_ready.proofs.Tests.{Stands, stands_placed, graph_test, op_test, all_roots, graph_good, stands_made, numbers_first, numbers_behind}
 use Rattle.refcount_ready.proofs.Pointers.{Sound, operand_sound}
 use Rattle.refcount_ready.proofs.Slots.{Found, slots_found}
-use Rattle.refcount_ready.proofs.Keeps.{MemoryKeeps, CoreKeeps, SetIn, FrameKeeps, FramesKeep, CallingKeeps, AtKeeps, ReturningKeeps, StateKeeps, NextKeeps}
+use Rattle.refcount_ready.proofs.Keeps.{CoreKeeps, SetIn, FramesKeep, CallingKeeps, AtKeeps, ReturningKeeps, StateKeeps, NextKeeps}
 use Rattle.refcount_ready.proofs.Lists.{each_set, read_first, inputs_set, length_operands, given_count, all_are, params_below, same_given}
 use Rattle.refcount_ready.proofs.Filling.{Filled, AfterFilled, does_filled, number_next, number_first}
 use Rattle.refcount_ready.proofs.Doing.{Done, AfterDone, Known, does_done}

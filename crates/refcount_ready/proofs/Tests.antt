@@ -1,18 +1,16 @@
 -- What the tests of a program say of its graphs, blocks and operations.
-use Rattle.std.proofs.Common.{◌≡◌, ◌<◌, ℕ, zero, suc, ◌-◌, Bool, true, false, ◌&&◌, ◌||◌, ◌==◌, List, [], ◌∷◌, length, drop, Option, Some, None, refl, sym, ap, ◌∙◌, subst, arith}
-use Rattle.std.specs.Prelude.{slice_get, not, is_some, is_none, nat_lt}
-use Rattle.csub_tree.specs.declared.tree.COperand.{COperand}
+use Rattle.std.proofs.Common.{◌≡◌, ◌<◌, ℕ, zero, suc, ◌-◌, Bool, true, false, ◌&&◌, List, [], ◌∷◌, length, drop, Option, Some, None, refl, sym, ap, ◌∙◌, subst}
+use Rattle.std.specs.Prelude.{slice_get, not, is_some}
 use Rattle.ll_code.specs.Machine.{block_in}
 use Rattle.ll_code.specs.State.{Frame}
 use Rattle.ll_code.specs.declared.program.LlType.{LlType}
 use Rattle.ll_code.specs.declared.program.LlStruct.{LlStruct}
 use Rattle.ll_code.specs.declared.program.LlOp.{LlOp}
-use Rattle.ll_code.specs.declared.program.LlOp.TheVariants as op
 use Rattle.ll_code.specs.declared.program.LlExit.{LlExit}
 use Rattle.ll_code.specs.declared.program.LlBlock.{LlBlock}
 use Rattle.ll_code.specs.declared.program.LlGraph.{LlGraph}
 use Rattle.ll_code.specs.declared.program.LlProgram.{LlProgram}
-use Rattle.ll_code.specs.Typed.{IsWellTyped, graph_ok, graphs_ok, block_ok, blocks_ok}
+use Rattle.ll_code.specs.Typed.{graph_ok, graphs_ok}
 use Rattle.ll_laws.proofs.Values.{and_left, and_right, is_less}
 use Rattle.ll_held.specs.Places.{PlacedAt}
 use Rattle.ll_held.specs.Roots.{operation_in, under_way}
@@ -20,9 +18,8 @@ use Rattle.ll_held.proofs.Keeping.{or_left, or_right}
 use Rattle.ll_live.specs.Live.{among, reads, set_by}
 use Rattle.refcount_transform.specs.Plan.{Plan, plan_of, root_of, referred, reference_given, has_root, made_by, ops_make, blocks_make, graphs_make}
 use Rattle.refcount_transform.specs.Changes.{around_of, var_referred}
-use Rattle.refcount_laws.specs.Made.{all_lead, is_root_given}
 use Rattle.refcount_laws.specs.Matches.{AllRoots}
-use Rattle.refcount_laws.specs.Leaves.{are_apart, InputsAreApart}
+use Rattle.refcount_laws.specs.Leaves.{InputsAreApart}
 use Rattle.refcount_typed.specs.Leads.{LeadsToRoots, graph_leads, graphs_lead, ops_lead, blocks_lead, op_leads}
 use Rattle.refcount_typed.proofs.Calls.{lead_at}
 use Rattle.refcount_typed.proofs.Fields.{given_root}

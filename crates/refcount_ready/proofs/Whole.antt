@@ -1,7 +1,7 @@
 -- Each state of a run is ready.
-use Rattle.std.proofs.Common.{◌≡◌, ◌⊎◌, inl, inr, ◌<◌, ◌≤◌, ℕ, zero, suc, ◌+◌, Bool, true, false, ◌&&◌, ◌||◌, List, [], ◌∷◌, ◌++◌, length, map, take, drop, Option, Some, None, refl, sym, ap, ◌∙◌, subst, arith}
-use Rattle.std.specs.Prelude.{slice_get, slice_index_or}
-use Rattle.csub_tree.specs.State.{Value, Unset, Null, Ptr, Block, Core, Event}
+use Rattle.std.proofs.Common.{◌≡◌, ◌<◌, ℕ, zero, suc, ◌+◌, true, List, [], ◌∷◌, ◌++◌, length, map, take, drop, Option, Some, None, refl, sym, ap, ◌∙◌, subst, arith}
+use Rattle.std.specs.Prelude.{slice_get}
+use Rattle.csub_tree.specs.State.{Value, Ptr, Block, Core, Event}
 use Rattle.csub_tree.specs.Layout.{shape_at, constant, joined, cell_constants, static_values, static_block}
 use Rattle.csub_tree.specs.Statement.{read}
 use Rattle.csub_tree.specs.declared.tree.CConst.{CConst}
@@ -16,34 +16,32 @@ use Rattle.ll_code.specs.declared.program.LlExit.{LlExit}
 use Rattle.ll_code.specs.declared.program.LlGraph.{LlGraph}
 use Rattle.ll_code.specs.declared.program.LlProgram.{LlProgram}
 use Rattle.ll_held.specs.Held.{IsBelow}
-use Rattle.ll_held.specs.Places.{PlacedAt, IsPlaced}
+use Rattle.ll_held.specs.Places.{IsPlaced}
 use Rattle.ll_held.specs.Quiet.{ReadsInputs}
-use Rattle.ll_held.specs.Roots.{roots, core_of}
+use Rattle.ll_held.specs.Roots.{roots}
 use Rattle.ll_held.proofs.Keeping.{constant_apart, or_left}
 use Rattle.ll_held.proofs.Placing.{whole_run_placed}
 use Rattle.ll_laws.specs.Fits.{AllFit, CoreFits}
-use Rattle.ll_laws.specs.States.{StateFits, RanFits, FramesFit, CallingFits, AtFits, LeavesFits}
+use Rattle.ll_laws.specs.States.{StateFits, RanFits, FramesFit, CallingFits}
 use Rattle.ll_laws.proofs.Runs.{whole_run_fits}
 use Rattle.ll_laws.proofs.Values.{and_left, and_right}
 use Rattle.ll_live.specs.Live.{among, reads, live}
-use Rattle.ll_points.specs.Agrees.{Slots, Agrees, op_agrees, exit_agrees}
-use Rattle.ll_points.specs.Points.{AllLead, StateLeads, RanLeads, FramesLead, MemoryLeads, CallingLeads, AtLeads, ReturningLeads}
+use Rattle.ll_points.specs.Agrees.{Slots, Agrees, op_agrees}
+use Rattle.ll_points.specs.Points.{AllLead, StateLeads, RanLeads, FramesLead}
 use Rattle.ll_points.proofs.Runs.{whole_run_leads}
 use Rattle.refcount_transform.specs.Plan.{plan_of}
 use Rattle.refcount_transform.specs.Changes.{around_of}
-use Rattle.refcount_transform.specs.Counted.{counted}
-use Rattle.refcount_laws.specs.Ghost.{Ghost, one, hit, IsCounted}
-use Rattle.refcount_laws.specs.Made.{counts_of}
+use Rattle.refcount_laws.specs.Ghost.{Ghost, one, hit}
 use Rattle.refcount_laws.specs.Owned.{owned, hits_by, Roomy}
 use Rattle.refcount_laws.specs.Run.{IsReady, ReadyNext, ReadyAlong}
-use Rattle.refcount_laws.specs.Whole.{Call, Waits, AllWait, BothAt, BothCalling, BothReturning, StandsFor, ReadyAt, ReadyFor, ReadyToGoOn, beside, slots_own, waits_own}
+use Rattle.refcount_laws.specs.Whole.{Call, AllWait, BothAt, ReadyAt, ReadyFor, ReadyToGoOn, beside}
 use Rattle.refcount_typed.specs.Leads.{LeadsToRoots}
 use Rattle.refcount_typed.specs.Numbered.{HasNumbers}
 use Rattle.refcount_checks.specs.Countable.{most, is_countable}
-use Rattle.refcount_ready.specs.Along.{EachState, IsSmall, LeavesStatics, MakesShortNext}
+use Rattle.refcount_ready.specs.Along.{EachState, IsSmall, LeavesStatics}
 use Rattle.refcount_ready.proofs.Tests.{stands_placed, all_roots}
 use Rattle.refcount_ready.proofs.Pointers.{pointing}
-use Rattle.refcount_ready.proofs.Keeps.{MemoryKeeps, CoreKeeps, FramesKeep, FrameKeeps, CallingKeeps, AtKeeps, ReturningKeeps, StateKeeps, NextKeeps}
+use Rattle.refcount_ready.proofs.Keeps.{CoreKeeps, FramesKeep, FrameKeeps, CallingKeeps, AtKeeps, ReturningKeeps, StateKeeps, NextKeeps}
 use Rattle.refcount_ready.proofs.Stepping.{based, step_keeps}
 use Rattle.refcount_ready.proofs.Operating.{one_same, op_ready}
 use Rattle.refcount_ready.proofs.Leaving.{leave_ready, enter_ready, go_on_ready}
@@ -76,7 +74,7 @@ statics_apart p (static ∷ statics) zero block e =
     (none_taken (shape_at (shapes_of p.structs) static.kind).size (static_values static) (none_in (joined (map cell_constants static.cells))), none_dropped (shape_at (shapes_of p.structs) static.kind).size (static_values static) (none_in (joined (map cell_constants static.cells))))
 statics_apart p (static ∷ statics) (suc s) block e = statics_apart p statics s block e
 
-start_keeps : (p : LlProgram) → IsWellTyped p → (steps : ℕ) → StateKeeps p (start p steps)
+pub start_keeps : (p : LlProgram) → IsWellTyped p → (steps : ℕ) → StateKeeps p (start p steps)
 start_keeps p ok steps = by (slice_get p.graphs p.entry) refl (and_right _ _ ok)
   where
     by : (o : Option LlGraph) → slice_get p.graphs p.entry ≡ o → begins_run o ≡ true → StateKeeps p (start p steps)

@@ -1,0 +1,11 @@
+pub mod Agreeing
+pub mod Escapes
+pub mod Filled
+pub mod Leading
+pub mod Made
+pub mod Passes
+pub mod Placed
+pub mod Reading
+pub mod Rows
+pub mod Setting
+pub mod Whole
