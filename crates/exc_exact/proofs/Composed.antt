@@ -40,7 +40,9 @@ use Rattle.exc_counted.proofs.Standing.{ComesFor, comes_along, state_apart}
 use Rattle.ll_events.specs.Told.{often, TellOf, EndsAt, IsLast}
 use Rattle.ll_events.proofs.Telling.{run_ends, ending_tells, last_told, return_is_last}
 use Rattle.refcount_exact.proofs.Endings.{still_held, none_held, returned_none, raised_none}
-use Rattle.exc_exact.specs.Ends.{FileHolds, FileEmpty}
+use Rattle.refcount_exact.specs.Exact.{ComesExact}
+use Rattle.refcount_exact.proofs.Counts.{comes_exact}
+use Rattle.exc_exact.specs.Ends.{FileHolds, FileEmpty, CountsExactly}
 
 -- no block goes twice
 tells_once : (blocks : List (Option Block)) (made : List (ℕ × ℕ × ℕ)) (gone : List ℕ) → TellOf blocks made gone → (b : ℕ) → often b gone ≤ 1
@@ -81,6 +83,15 @@ module _ (p : LlProgram) (has : HasFile p) (args : List (List ℕ)) (steps : ℕ
       by : (b : Bool) → graphs_calm p.graphs ≡ b → Stood s text events
       by true calm = record { taken = k; state = s; comes = same_run calm k ∙ e; less = (same_holds p (explicit_same p calm) s).held }
       by false raises = from raises (comes_along p has.typed has.raw raises allows.closed args steps allows.ready k s text events e)
+
+  pub counts_exactly : (k : ℕ) (s : State) (text : List ℕ) (events : List Event) → run p args k (start p steps) [] [] ≡ Unfinished s text events → CountsExactly p args steps text
+  counts_exactly k s text events e = by (stood k s text events e)
+    where
+      from : (j : ℕ) (x : State) → ComesExact (explicit p) args steps j x text → CountsExactly p args steps text
+      from j x w = record { taken = w.along.taken; state = w.along.state; events = w.along.events; runs = w.along.runs; exact = w.exact }
+
+      by : Stood s text events → CountsExactly p args steps text
+      by w = from w.taken w.state (comes_exact (explicit p) has.can.counts args steps well.small w.taken w.state text events w.comes)
 
   -- ---- the end
 

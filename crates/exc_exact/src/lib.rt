@@ -3,4 +3,7 @@
 
 mod laws;
 
-pub use laws::{raised_files_leave_nothing, returned_files_leave_nothing, what_files_leave_is_held};
+pub use laws::{
+    counts_are_exact, raised_files_leave_nothing, returned_files_leave_nothing,
+    what_files_leave_is_held,
+};
