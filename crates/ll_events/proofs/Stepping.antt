@@ -23,7 +23,7 @@ use Rattle.ll_code.specs.declared.program.LlBlock.{LlBlock}
 use Rattle.ll_code.specs.declared.program.LlGraph.{LlGraph}
 use Rattle.ll_code.specs.declared.program.LlProgram.{LlProgram}
 use Rattle.ll_held.specs.Roots.{core_of}
-use Rattle.ll_events.specs.Told.{Marks, mark, told, IsThere, InOrder, IsLast}
+use Rattle.ll_events.specs.Told.{Marks, mark, told, IsThere, InOrder, EndsHere}
 use Rattle.ll_events.proofs.Orders.{mark_at, length_kept, length_map}
 
 abbrev pub marks_of : Core → Marks
@@ -33,16 +33,21 @@ marks_of core = map mark core.blocks
 abbrev pub Hears : Marks → Event → Marks → Type 0
 Hears old event marks = InOrder old (event ∷ []) × (told old (event ∷ []) ≡ marks)
 
-abbrev pub NotReturned : Outcome → Type 0
-NotReturned (Returned n) = ⊥
-NotReturned other = Unit {0}
-
 abbrev pub AfterTells : Core → After → Type 0
 AfterTells old (Onward core) = marks_of old ≡ marks_of core
 AfterTells old (PutsByte byte core) = marks_of old ≡ marks_of core
 AfterTells old (Told event core) = Hears (marks_of old) event (marks_of core)
-AfterTells old (Over outcome core) = (core.blocks ≡ old.blocks) × NotReturned outcome
+AfterTells old (Over outcome core) = ⊥
 AfterTells old (Stuck reason) = Unit {0}
+
+-- only a payment may end the run
+abbrev pub AfterKeeps : Core → After → Type 0
+AfterKeeps old (Over outcome core) = core.blocks ≡ old.blocks
+AfterKeeps old after = AfterTells old after
+
+abbrev pub OpTells : LlOp → Core → After → Type 0
+OpTells (op.Step x) old after = AfterKeeps old after
+OpTells other old after = AfterTells old after
 
 -- ---- lists of blocks
 
@@ -135,9 +140,17 @@ module _ (core : Core) where
       one (Some block) e = ((((block.kind, length block.fields + length block.items), mark_at core.blocks n ∙ ap mark e), tt), mark_set core.blocks n None)
   free_tells w = tt
 
-  pay_tells : (i : ℤ) → AfterTells core (st.pay_steps core i)
-  pay_tells (pos cost) = choice (nat_le cost core.steps) (Onward (record core { at = core.at + 1; steps = core.steps - cost })) (Over _ core) refl (refl, tt)
+  paid : (b : Bool) (next : Core) (outcome : Outcome) → marks_of core ≡ marks_of next → AfterKeeps core (cond b (Onward next) (Over outcome core))
+  paid true next outcome e = e
+  paid false next outcome e = refl
+
+  pay_tells : (i : ℤ) → AfterKeeps core (st.pay_steps core i)
+  pay_tells (pos cost) = paid (nat_le cost core.steps) (record core { at = core.at + 1; steps = core.steps - cost }) _ refl
   pay_tells (negsuc cost) = tt
+
+  pay_option : (o : Option ℤ) → AfterKeeps core (st.on (st.pay_steps core) o)
+  pay_option None = tt
+  pay_option (Some i) = pay_tells i
 
   in_range_tells : (a : ℕ) (o : Option ℕ) → AfterTells core (st.in_range core a o)
   in_range_tells a None = tt
@@ -148,7 +161,7 @@ module _ (core : Core) where
   put_tells (negsuc n) = tt
 
   module _ (p : LlProgram) (args : List (List ℕ)) where
-    pub does_tells : (o : LlOp) → AfterTells core (does p args core o)
+    pub does_tells : (o : LlOp) → OpTells o core (does p args core o)
     does_tells (op.Set a x) = set_tells a (operand core.vars x)
     does_tells (op.Unary a o x) = answered_tells a (unary_of o (operand core.vars x))
     does_tells (op.Binary a o x y) = answered_tells a (binary_of o (operand core.vars x) (operand core.vars y))
@@ -163,7 +176,7 @@ module _ (core : Core) where
     does_tells (op.New a m n) = new_tells (shapes_of p.structs) a n 0
     does_tells (op.NewArray a m n x) = with_option _ (new_items_tells (shapes_of p.structs) a n) (word_of (operand core.vars x))
     does_tells (op.Free a) = free_tells (read core.vars a)
-    does_tells (op.Step x) = with_option _ pay_tells (word_of (operand core.vars x))
+    does_tells (op.Step x) = pay_option (word_of (operand core.vars x))
     does_tells (op.ExcType a n) = refl
     does_tells (op.ExcValue a n) = refl
     does_tells (op.ExcSet a b) = choice (is_unset (read core.vars a) || is_unset (read core.vars b)) (Stuck IsUnset) _ tt refl
@@ -182,8 +195,29 @@ abbrev pub NextTells : Core → Next → Type 0
 NextTells old (Goes s) = marks_of old ≡ marks_of (core_of s)
 NextTells old (Puts byte s) = marks_of old ≡ marks_of (core_of s)
 NextTells old (Tells event s) = Hears (marks_of old) event (marks_of (core_of s))
-NextTells old (Ends outcome core) = (core.blocks ≡ old.blocks) × NotReturned outcome
+NextTells old (Ends outcome core) = ⊥
 NextTells old (Sticks reason) = Unit {0}
+
+abbrev pub NextKeeps : Core → Next → Type 0
+NextKeeps old (Ends outcome core) = core.blocks ≡ old.blocks
+NextKeeps old next = NextTells old next
+
+weaker : (old : Core) (next : Next) → NextTells old next → NextKeeps old next
+weaker old (Goes s) h = h
+weaker old (Puts byte s) h = h
+weaker old (Tells event s) h = h
+weaker old (Ends outcome core) h = absurd h
+weaker old (Sticks reason) h = tt
+
+-- where the run may end
+abbrev pub OpNext : LlOp → Core → Next → Type 0
+OpNext (op.Step x) old next = NextKeeps old next
+OpNext other old next = NextTells old next
+
+abbrev pub ExitNext : LlExit → Core → Next → Type 0
+ExitNext (exit.Fail number) old next = NextKeeps old next
+ExitNext (exit.Raised a) old next = NextKeeps old next
+ExitNext other old next = NextTells old next
 
 either : (old : Core) (b : Bool) (x y : Next) → NextTells old x → NextTells old y → NextTells old (cond b x y)
 either old true x y h k = h
@@ -195,6 +229,13 @@ goes_tells core ops e frames (PutsByte byte next) h = h
 goes_tells core ops e frames (Told event next) h = h
 goes_tells core ops e frames (Over outcome next) h = h
 goes_tells core ops e frames (Stuck reason) h = tt
+
+goes_keeps : (core : Core) (ops : List LlOp) (e : LlExit) (frames : List Frame) (after : After) → AfterKeeps core after → NextKeeps core (goes_on (At ops e frames) after)
+goes_keeps core ops e frames (Onward next) h = h
+goes_keeps core ops e frames (PutsByte byte next) h = h
+goes_keeps core ops e frames (Told event next) h = h
+goes_keeps core ops e frames (Over outcome next) h = h
+goes_keeps core ops e frames (Stuck reason) h = tt
 
 module _ (p : LlProgram) (args : List (List ℕ)) where
   begins_tells : (frames : List Frame) (core : Core) (to : ℕ) (values : List Value) (o : Option LlBlock) → NextTells core (begins frames core to values o)
@@ -244,35 +285,35 @@ module _ (p : LlProgram) (args : List (List ℕ)) where
       one None = tt
       one (Some block) = refl
 
-  stays_tells : (o : LlOp) (ops : List LlOp) (e : LlExit) (frames : List Frame) (core : Core) → NextTells core (goes_on (At ops e frames) (does p args core o))
-  stays_tells o ops e frames core = goes_tells core ops e frames (does p args core o) (does_tells core p args o)
+  stays_tells : (o : LlOp) (ops : List LlOp) (e : LlExit) (frames : List Frame) (core : Core) → AfterTells core (does p args core o) → NextTells core (goes_on (At ops e frames) (does p args core o))
+  stays_tells o ops e frames core h = goes_tells core ops e frames (does p args core o) h
 
-  operates_tells : (o : LlOp) (ops : List LlOp) (e : LlExit) (frames : List Frame) (core : Core) → NextTells core (operates p args o ops e frames core)
+  operates_tells : (o : LlOp) (ops : List LlOp) (e : LlExit) (frames : List Frame) (core : Core) → OpNext o core (operates p args o ops e frames core)
   operates_tells (op.Call into f xs) ops e frames core = called_tells f (operands core.vars xs) (waiting core into ops e ∷ frames) core
   operates_tells (op.CallFn into result params b xs) ops e frames core =
       either core (is_unset (read core.vars b) || any_unset (operands core.vars xs)) (Sticks IsUnset) _ tt (called_value_tells (c_result result) _ (fun_of (read core.vars b)) (operands core.vars xs) (waiting core into ops e ∷ frames) core)
   operates_tells (op.Raise a) ops e frames core = given_tells core (read core.vars a) (λ value. caught p value ops e frames core) (caught_tells (read core.vars a) ops e frames core)
-  operates_tells (op.Set a x) ops e frames core = stays_tells (op.Set a x) ops e frames core
-  operates_tells (op.Unary a o x) ops e frames core = stays_tells (op.Unary a o x) ops e frames core
-  operates_tells (op.Binary a o x y) ops e frames core = stays_tells (op.Binary a o x y) ops e frames core
-  operates_tells (op.GetField a n b k) ops e frames core = stays_tells (op.GetField a n b k) ops e frames core
-  operates_tells (op.SetField n b k x) ops e frames core = stays_tells (op.SetField n b k x) ops e frames core
-  operates_tells (op.GetItem a n b i) ops e frames core = stays_tells (op.GetItem a n b i) ops e frames core
-  operates_tells (op.SetItem n b i x) ops e frames core = stays_tells (op.SetItem n b i x) ops e frames core
-  operates_tells (op.New a m n) ops e frames core = stays_tells (op.New a m n) ops e frames core
-  operates_tells (op.NewArray a m n x) ops e frames core = stays_tells (op.NewArray a m n x) ops e frames core
-  operates_tells (op.Free a) ops e frames core = stays_tells (op.Free a) ops e frames core
-  operates_tells (op.Step x) ops e frames core = stays_tells (op.Step x) ops e frames core
-  operates_tells (op.ExcType a n) ops e frames core = stays_tells (op.ExcType a n) ops e frames core
-  operates_tells (op.ExcValue a n) ops e frames core = stays_tells (op.ExcValue a n) ops e frames core
-  operates_tells (op.ExcSet a b) ops e frames core = stays_tells (op.ExcSet a b) ops e frames core
-  operates_tells op.ExcClear ops e frames core = stays_tells op.ExcClear ops e frames core
-  operates_tells (op.Argc a) ops e frames core = stays_tells (op.Argc a) ops e frames core
-  operates_tells (op.ArgLen a x) ops e frames core = stays_tells (op.ArgLen a x) ops e frames core
-  operates_tells (op.Arg a x y) ops e frames core = stays_tells (op.Arg a x y) ops e frames core
-  operates_tells (op.Put x) ops e frames core = stays_tells (op.Put x) ops e frames core
+  operates_tells (op.Set a x) ops e frames core = stays_tells (op.Set a x) ops e frames core (does_tells core p args (op.Set a x))
+  operates_tells (op.Unary a o x) ops e frames core = stays_tells (op.Unary a o x) ops e frames core (does_tells core p args (op.Unary a o x))
+  operates_tells (op.Binary a o x y) ops e frames core = stays_tells (op.Binary a o x y) ops e frames core (does_tells core p args (op.Binary a o x y))
+  operates_tells (op.GetField a n b k) ops e frames core = stays_tells (op.GetField a n b k) ops e frames core (does_tells core p args (op.GetField a n b k))
+  operates_tells (op.SetField n b k x) ops e frames core = stays_tells (op.SetField n b k x) ops e frames core (does_tells core p args (op.SetField n b k x))
+  operates_tells (op.GetItem a n b i) ops e frames core = stays_tells (op.GetItem a n b i) ops e frames core (does_tells core p args (op.GetItem a n b i))
+  operates_tells (op.SetItem n b i x) ops e frames core = stays_tells (op.SetItem n b i x) ops e frames core (does_tells core p args (op.SetItem n b i x))
+  operates_tells (op.New a m n) ops e frames core = stays_tells (op.New a m n) ops e frames core (does_tells core p args (op.New a m n))
+  operates_tells (op.NewArray a m n x) ops e frames core = stays_tells (op.NewArray a m n x) ops e frames core (does_tells core p args (op.NewArray a m n x))
+  operates_tells (op.Free a) ops e frames core = stays_tells (op.Free a) ops e frames core (does_tells core p args (op.Free a))
+  operates_tells (op.Step x) ops e frames core = goes_keeps core ops e frames (does p args core (op.Step x)) (does_tells core p args (op.Step x))
+  operates_tells (op.ExcType a n) ops e frames core = stays_tells (op.ExcType a n) ops e frames core (does_tells core p args (op.ExcType a n))
+  operates_tells (op.ExcValue a n) ops e frames core = stays_tells (op.ExcValue a n) ops e frames core (does_tells core p args (op.ExcValue a n))
+  operates_tells (op.ExcSet a b) ops e frames core = stays_tells (op.ExcSet a b) ops e frames core (does_tells core p args (op.ExcSet a b))
+  operates_tells op.ExcClear ops e frames core = stays_tells op.ExcClear ops e frames core (does_tells core p args op.ExcClear)
+  operates_tells (op.Argc a) ops e frames core = stays_tells (op.Argc a) ops e frames core (does_tells core p args (op.Argc a))
+  operates_tells (op.ArgLen a x) ops e frames core = stays_tells (op.ArgLen a x) ops e frames core (does_tells core p args (op.ArgLen a x))
+  operates_tells (op.Arg a x y) ops e frames core = stays_tells (op.Arg a x y) ops e frames core (does_tells core p args (op.Arg a x y))
+  operates_tells (op.Put x) ops e frames core = stays_tells (op.Put x) ops e frames core (does_tells core p args (op.Put x))
 
-  leaves_tells : (e : LlExit) (frames : List Frame) (core : Core) → NextTells core (leaves p e frames core)
+  leaves_tells : (e : LlExit) (frames : List Frame) (core : Core) → ExitNext e core (leaves p e frames core)
   leaves_tells (exit.Goto link) frames core = jump_tells frames core link
   leaves_tells (exit.If a there elsewhere) frames core = branch_tells frames core there elsewhere (flag_of (read core.vars a))
   leaves_tells (exit.OnRaise a by without) frames core = jump_tells frames core without
@@ -281,20 +322,20 @@ module _ (p : LlProgram) (args : List (List ℕ)) where
   leaves_tells (exit.Raise a) frames core = given_tells core (read core.vars a) (λ value. Goes (Throwing value frames core)) refl
   leaves_tells (exit.Fail number) frames core = one (fail_name_of number)
     where
-      one : (o : Option _) → NextTells core (goes_on (At [] (exit.Fail number) frames) (st.fail core o))
+      one : (o : Option _) → NextKeeps core (goes_on (At [] (exit.Fail number) frames) (st.fail core o))
       one None = tt
-      one (Some name) = (refl, tt)
+      one (Some name) = refl
   leaves_tells (exit.Raised a) frames core = by (type_in (slice_get p.graphs core.function) a)
     where
-      named : (o : Option (List ℕ)) → NextTells core (goes_on (At [] (exit.Raised a) frames) (st.raised_as core o))
+      named : (o : Option (List ℕ)) → NextKeeps core (goes_on (At [] (exit.Raised a) frames) (st.raised_as core o))
       named None = tt
-      named (Some name) = (refl, tt)
+      named (Some name) = refl
 
-      found : (r : Result Block StuckReason) → NextTells core (goes_on (At [] (exit.Raised a) frames) (on_block (λ block. st.raised_as core (st.bytes_of block.items)) r))
+      found : (r : Result Block StuckReason) → NextKeeps core (goes_on (At [] (exit.Raised a) frames) (on_block (λ block. st.raised_as core (st.bytes_of block.items)) r))
       found (Ok block) = named (st.bytes_of block.items)
       found (Err reason) = tt
 
-      by : (o : Option CType) → NextTells core (goes_on (At [] (exit.Raised a) frames) (st.raised core (shapes_of p.structs) o (read core.vars a)))
+      by : (o : Option CType) → NextKeeps core (goes_on (At [] (exit.Raised a) frames) (st.raised core (shapes_of p.structs) o (read core.vars a)))
       by (Some (c.Ptr n)) = found (reached core (shapes_of p.structs) n (read core.vars a))
       by None = tt
       by (Some c.Signed) = tt
@@ -306,48 +347,50 @@ module _ (p : LlProgram) (args : List (List ℕ)) where
   thrown_tells value [] core = tt
   thrown_tells value (frame ∷ frames) core = caught_tells value frame.ops frame.exit frames (resumed frame core)
 
-  -- ---- the last return
+  -- ---- all steps
 
-  abbrev pub NextKeeps : Core → Next → Type 0
-  NextKeeps old (Ends outcome core) = core.blocks ≡ old.blocks
-  NextKeeps old next = NextTells old next
-
-  weaker : (old : Core) (next : Next) → NextTells old next → NextKeeps old next
-  weaker old (Goes s) h = h
-  weaker old (Puts byte s) h = h
-  weaker old (Tells event s) h = h
-  weaker old (Ends outcome core) h = h.0
-  weaker old (Sticks reason) h = tt
-
-  returned_tells : (value : Value) (frames : List Frame) (core : Core) → NextKeeps core (returned value frames core)
-  returned_tells value [] core = one (word_of value)
+  returned_keeps : (value : Value) (core : Core) → NextKeeps core (returned value [] core)
+  returned_keeps value core = one (word_of value)
     where
       one : (o : Option ℤ) → NextKeeps core (goes_on (Returning value []) (st.on (λ n. Over (Returned n) (record core { vars = [] })) o))
       one None = tt
       one (Some n) = refl
-  returned_tells value (frame ∷ frames) core = refl
+
+  weak_op : (o : LlOp) (old : Core) (next : Next) → OpNext o old next → NextKeeps old next
+  weak_op (op.Step x) old next h = h
+  weak_op other old next h = weaker old next h
+
+  weak_exit : (e : LlExit) (old : Core) (next : Next) → ExitNext e old next → NextKeeps old next
+  weak_exit (exit.Fail number) old next h = h
+  weak_exit (exit.Raised a) old next h = h
+  weak_exit other old next h = weaker old next h
 
   pub step_tells : (s : State) → NextKeeps (core_of s) (step p args s)
   step_tells (Calling f values frames core) = weaker core _ (entered_tells f values frames core (slice_get p.graphs f))
-  step_tells (At [] e frames core) = weaker core _ (leaves_tells e frames core)
-  step_tells (At (o ∷ ops) e frames core) = weaker core _ (operates_tells o ops e frames core)
-  step_tells (Returning value frames core) = returned_tells value frames core
+  step_tells (At [] e frames core) = weak_exit e core _ (leaves_tells e frames core)
+  step_tells (At (o ∷ ops) e frames core) = weak_op o core _ (operates_tells o ops e frames core)
+  step_tells (Returning value [] core) = returned_keeps value core
+  step_tells (Returning value (frame ∷ frames) core) = refl
   step_tells (Throwing value frames core) = weaker core _ (thrown_tells value frames core)
 
-  no_return : (old : Core) (n : ℤ) (end : Core) (next : Next) → NextTells old next → next ≡ Ends (Returned n) end → ⊥
-  no_return old n end next h e = (subst (NextTells old) e h).1
+  -- ---- where a run ends
 
-  pub returns_last : (s : State) (n : ℤ) (end : Core) → step p args s ≡ Ends (Returned n) end → IsLast n s
-  returns_last (Calling f values frames core) n end e = absurd (no_return core n end _ (entered_tells f values frames core (slice_get p.graphs f)) e)
-  returns_last (At [] x frames core) n end e = absurd (no_return core n end _ (leaves_tells x frames core) e)
-  returns_last (At (o ∷ ops) x frames core) n end e = absurd (no_return core n end _ (operates_tells o ops x frames core) e)
-  returns_last (Throwing value frames core) n end e = absurd (no_return core n end _ (thrown_tells value frames core) e)
-  returns_last (Returning value (frame ∷ frames) core) n end e = absurd (cc)
-  returns_last (Returning (Word z) [] core) n end e = (let f : z ≡ n = cc in ap Word f)
-  returns_last (Returning Unset [] core) n end e = absurd (cc)
-  returns_last (Returning (Byte z) [] core) n end e = absurd (cc)
-  returns_last (Returning (Flag z) [] core) n end e = absurd (cc)
-  returns_last (Returning (Fun z) [] core) n end e = absurd (cc)
-  returns_last (Returning Null [] core) n end e = absurd (cc)
-  returns_last (Returning (Ptr z) [] core) n end e = absurd (cc)
-  returns_last (Returning (Static z) [] core) n end e = absurd (cc)
+  goes_on_here : (old : Core) (outcome : Outcome) (end : Core) (next : Next) → NextTells old next → next ≡ Ends outcome end → ⊥
+  goes_on_here old outcome end next h e = subst (NextTells old) e h
+
+  op_ends : (o : LlOp) (ops : List LlOp) (x : LlExit) (frames : List Frame) (core : Core) (outcome : Outcome) (end : Core) (next : Next) → OpNext o core next → next ≡ Ends outcome end → EndsHere (At (o ∷ ops) x frames core)
+  op_ends (op.Step y) ops x frames core outcome end next h e = tt
+  op_ends other ops x frames core outcome end next h e = absurd (goes_on_here core outcome end next h e)
+
+  exit_ends : (x : LlExit) (frames : List Frame) (core : Core) (outcome : Outcome) (end : Core) (next : Next) → ExitNext x core next → next ≡ Ends outcome end → EndsHere (At [] x frames core)
+  exit_ends (exit.Fail number) frames core outcome end next h e = tt
+  exit_ends (exit.Raised a) frames core outcome end next h e = tt
+  exit_ends other frames core outcome end next h e = absurd (goes_on_here core outcome end next h e)
+
+  pub ends_here : (s : State) (outcome : Outcome) (end : Core) → step p args s ≡ Ends outcome end → EndsHere s
+  ends_here (Calling f values frames core) outcome end e = absurd (goes_on_here core outcome end _ (entered_tells f values frames core (slice_get p.graphs f)) e)
+  ends_here (At [] x frames core) outcome end e = exit_ends x frames core outcome end _ (leaves_tells x frames core) e
+  ends_here (At (o ∷ ops) x frames core) outcome end e = op_ends o ops x frames core outcome end _ (operates_tells o ops x frames core) e
+  ends_here (Returning value [] core) outcome end e = tt
+  ends_here (Returning value (frame ∷ frames) core) outcome end e = absurd (cc)
+  ends_here (Throwing value frames core) outcome end e = absurd (goes_on_here core outcome end _ (thrown_tells value frames core) e)

@@ -1,16 +1,25 @@
 -- Along a run the events tell memory; and a run that ends has a state at which it does.
-use Rattle.std.proofs.Common.{◌≡◌, ℕ, zero, suc, ◌+◌, ◌≤◌, ◌<◌, ◌-◌, ◌⊎◌, inl, inr, ⊎_elim, ℤ, List, [], ◌∷◌, ◌++◌, map, Option, Some, None, refl, sym, ap, ◌∙◌, subst, arith}
-use Rattle.rpy_base.specs.declared.outcome.Outcome.TheVariants.{Returned}
-use Rattle.csub_tree.specs.State.{Core, Event, Made, Freed}
+use Rattle.std.proofs.Common.{◌≡◌, ℕ, zero, suc, ◌+◌, ◌≤◌, ◌<◌, ◌-◌, ◌⊎◌, inl, inr, ⊎_elim, ℤ, pos, negsuc, Bool, true, false, Result, Ok, Err, List, [], ◌∷◌, ◌++◌, map, Option, Some, None, refl, sym, ap, ◌∙◌, subst, arith}
+use Rattle.rpy_base.specs.declared.outcome.Outcome.{Outcome}
+use Rattle.rpy_base.specs.declared.outcome.Outcome.TheVariants.{Returned, Running}
+use Rattle.csub_tree.specs.State.{Value, Unset, Word, Byte, Flag, Fun, Null, Ptr, Static, Block, Core, Event, Made, Freed, Onward, Over}
+use Rattle.csub_tree.specs.Operation.{word_of}
+use Rattle.csub_tree.specs.Statement.{read, operand, on, pay_steps, fail, fail_name_of, raised, raised_as, reached, on_block, bytes_of}
+use Rattle.csub_tree.specs.declared.stuck.StuckReason.{StuckReason}
+use Rattle.csub_tree.specs.declared.tree.CType.{CType}
+use Rattle.csub_tree.specs.declared.tree.CType.TheVariants as c
+use Rattle.std.specs.Prelude.{slice_get, nat_le, cond}
+use Rattle.ll_code.specs.declared.program.LlOp.TheVariants as op
+use Rattle.ll_code.specs.declared.program.LlExit.TheVariants as exit
 use Rattle.csub_tree.specs.Meaning.{made_in, gone_in}
-use Rattle.ll_code.specs.State.{State, Next, Goes, Puts, Tells, Ends, Sticks}
-use Rattle.ll_code.specs.Machine.{step, start}
-use Rattle.ll_code.specs.Meaning.{Ran, Ended, Unfinished, Ending, Came, StuckFor, Meant, LMeans, follow, run, meant_by, within}
+use Rattle.ll_code.specs.State.{State, At, Returning, Next, Goes, Puts, Tells, Ends, Sticks}
+use Rattle.ll_code.specs.Machine.{step, start, goes_on, shapes_of, type_in}
+use Rattle.ll_code.specs.Meaning.{Ran, Ended, Unfinished, Ending, Came, StuckFor, Meant, LMeans, follow, run, meant_by, within, comes}
 use Rattle.ll_code.specs.declared.program.LlProgram.{LlProgram}
 use Rattle.ll_held.specs.Roots.{core_of}
-use Rattle.ll_events.specs.Told.{mark, told, InOrder, TellOf, EndsAt, IsLast, AddsTo}
+use Rattle.ll_events.specs.Told.{mark, told, InOrder, TellOf, EndsAt, EndsHere, IsLast, AddsTo}
 use Rattle.ll_events.proofs.Orders.{told_both, order_both, events_tell}
-use Rattle.ll_events.proofs.Stepping.{marks_of, Hears, NextKeeps, step_tells, returns_last}
+use Rattle.ll_events.proofs.Stepping.{marks_of, Hears, NextKeeps, step_tells, ends_here}
 
 pub record Told (events : List Event) (s : State) : Type 0 where
   pub order : InOrder [] events
@@ -27,7 +36,7 @@ module _ (p : LlProgram) (args : List (List ℕ)) where
     memory = told_both [] events (event ∷ []) ∙ ap (λ m. told m (event ∷ [])) w.memory ∙ e;
   }
 
-  on_next : (k : ℕ) → ((s : State) (text : List ℕ) (events : List Event) → Told events s → RanTells (run p args k s text events)) → (text : List ℕ) (events : List Event) (s : State) → Told events s → (next : Next) → NextKeeps p args (core_of s) next
+  on_next : (k : ℕ) → ((s : State) (text : List ℕ) (events : List Event) → Told events s → RanTells (run p args k s text events)) → (text : List ℕ) (events : List Event) (s : State) → Told events s → (next : Next) → NextKeeps (core_of s) next
       → RanTells (follow (run p args k) text events next)
   on_next k go text events s w (Goes t) h = go t text events (record { order = w.order; memory = w.memory ∙ h })
   on_next k go text events s w (Puts byte t) h = go t (text ++ byte ∷ []) events (record { order = w.order; memory = w.memory ∙ h })
@@ -135,16 +144,63 @@ module _ (p : LlProgram) (args : List (List ℕ)) where
       subst (λ l. TellOf (core_of s).blocks l m.gone) told.0 (subst (TellOf (core_of s).blocks (made_in w.events)) told.1 (whole_run_tells steps w.taken s w.text w.events w.comes))
 
   pub ends_unchanged : (s : State) (outcome : _) (core : Core) → step p args s ≡ Ends outcome core → core.blocks ≡ (core_of s).blocks
-  ends_unchanged s outcome core e = subst (NextKeeps p args (core_of s)) e (step_tells p args s)
+  ends_unchanged s outcome core e = subst (NextKeeps (core_of s)) e (step_tells p args s)
 
   -- ---- a run that returns
+
+  by_word : (n : ℤ) (value : Value) (core end : Core) → step p args (Returning value [] core) ≡ Ends (Returned n) end → value ≡ Word n
+  by_word n (Word z) core end e = (let f : z ≡ n = cc in ap Word f)
+  by_word n Unset core end e = absurd (cc)
+  by_word n (Byte z) core end e = absurd (cc)
+  by_word n (Flag z) core end e = absurd (cc)
+  by_word n (Fun z) core end e = absurd (cc)
+  by_word n Null core end e = absurd (cc)
+  by_word n (Ptr z) core end e = absurd (cc)
+  by_word n (Static z) core end e = absurd (cc)
+
+  paid_is : (core : Core) (o : Option ℤ) (n : ℤ) (end : Core) (go : Core → State) → goes_on go (on (pay_steps core) o) ≡ Ends (Returned n) end → ⊥
+  paid_is core None n end go e = cc
+  paid_is core (Some (negsuc z)) n end go e = cc
+  paid_is core (Some (pos z)) n end go e = by (nat_le z core.steps) e
+    where
+      by : (b : Bool) → goes_on go (cond b (Onward (record core { at = core.at + 1; steps = core.steps - z })) (Over Running core)) ≡ Ends (Returned n) end → ⊥
+      by true e = cc
+      by false e = cc
+
+  failed_is : (core : Core) (o : Option _) (n : ℤ) (end : Core) (go : Core → State) → goes_on go (fail core o) ≡ Ends (Returned n) end → ⊥
+  failed_is core None n end go e = cc
+  failed_is core (Some name) n end go e = cc
+
+  raised_is : (core : Core) (a n : ℤ) (end : Core) (go : Core → State) (t : Option CType) (value : Value) → goes_on go (raised core (shapes_of p.structs) t value) ≡ Ends (Returned n) end → ⊥
+  raised_is core a n end go (Some (c.Ptr m)) value e = by (reached core (shapes_of p.structs) m value) e
+    where
+      named : (o : Option (List ℕ)) → goes_on go (raised_as core o) ≡ Ends (Returned n) end → ⊥
+      named None e = cc
+      named (Some name) e = cc
+
+      by : (r : Result Block StuckReason) → goes_on go (on_block (λ block. raised_as core (bytes_of block.items)) r) ≡ Ends (Returned n) end → ⊥
+      by (Ok block) e = named (bytes_of block.items) e
+      by (Err reason) e = cc
+  raised_is core a n end go None value e = cc
+  raised_is core a n end go (Some c.Signed) value e = cc
+  raised_is core a n end go (Some c.Char) value e = cc
+  raised_is core a n end go (Some c.Bool) value e = cc
+  raised_is core a n end go (Some c.Fn) value e = cc
+
+  last_by : (n : ℤ) (s : State) (end : Core) → step p args s ≡ Ends (Returned n) end → EndsHere s → IsLast n s
+  last_by n (Returning value [] core) end e h = by_word n value core end e
+  last_by n (At (op.Step x ∷ ops) y frames core) end e h = absurd (paid_is core (word_of (operand core.vars x)) n end (At ops y frames) e)
+  last_by n (At [] (exit.Fail number) frames core) end e h = absurd (failed_is core (fail_name_of number) n end (At [] (exit.Fail number) frames) e)
+  last_by n (At [] (exit.Raised a) frames core) end e h = absurd (raised_is core (pos a) n end (At [] (exit.Raised a) frames) (type_in (slice_get p.graphs core.function) a) (read core.vars a) e)
+  last_by n other end e h = absurd (h)
 
   last_return : (steps : ℕ) (n : ℤ) (s : State) (text : List ℕ) (events : List Event) (m : Meant) → m.ending ≡ Came (Returned n) → (next : Next) → step p args s ≡ next → meant_by steps (follow (run p args 0) text events next) ≡ Some m → IsLast n s
   unfolding run
   last_return steps n s text events m f (Goes t) g e = absurd (cc)
   last_return steps n s text events m f (Puts byte t) g e = absurd (cc)
   last_return steps n s text events m f (Tells event t) g e = absurd (cc)
-  last_return steps n s text events m f (Ends outcome core) g e = (let a : Came outcome ≡ m.ending = cc in let b : Came outcome ≡ Came (Returned n) = a ∙ f in let c : outcome ≡ Returned n = cc in returns_last p args s n core (g ∙ ap (λ o. Ends o core) c))
+  last_return steps n s text events m f (Ends outcome core) g e =
+      (let a : Came outcome ≡ m.ending = cc in let b : Came outcome ≡ Came (Returned n) = a ∙ f in let c : outcome ≡ Returned n = cc in let d : step p args s ≡ Ends (Returned n) core = g ∙ ap (λ o. Ends o core) c in last_by n s core d (ends_here p args s (Returned n) core d))
   last_return steps n s text events m f (Sticks reason) g e = absurd (let a : StuckFor reason ≡ m.ending = cc in let b : StuckFor reason ≡ Came (Returned n) = a ∙ f in cc)
 
   pub return_is_last : (steps : ℕ) (n : ℤ) (s : State) (m : Meant) → EndsAt p args steps s m → m.ending ≡ Came (Returned n) → IsLast n s
@@ -222,3 +278,41 @@ module _ (p : LlProgram) (args : List (List ℕ)) where
         more_made = sym told.0 ∙ ap made_in more.is ∙ made_both events more.more;
         more_gone = sym told.1 ∙ ap gone_in more.is ∙ gone_both events more.more;
       }
+
+  -- ---- the last step
+
+  pub record LastStep (s : State) : Type 0 where
+    pub outcome : Outcome
+    pub end : Core
+    pub is : step p args s ≡ Ends outcome end
+
+  step_of : (steps : ℕ) (s : State) (text : List ℕ) (events : List Event) (m : Meant) → comes m.ending → (next : Next) → step p args s ≡ next → meant_by steps (follow (run p args 0) text events next) ≡ Some m → LastStep s
+  unfolding run
+  step_of steps s text events m f (Goes t) g e = absurd (cc)
+  step_of steps s text events m f (Puts byte t) g e = absurd (cc)
+  step_of steps s text events m f (Tells event t) g e = absurd (cc)
+  step_of steps s text events m f (Ends outcome core) g e = record { outcome = outcome; end = core; is = g }
+  step_of steps s text events m f (Sticks reason) g e = absurd (let a : m.ending ≡ StuckFor reason = cc in subst comes a f)
+
+  pub last_step_is : (steps : ℕ) (s : State) (m : Meant) → EndsAt p args steps s m → comes m.ending → LastStep s
+  last_step_is steps s m w f =
+      step_of steps s w.text w.events m f (step p args s) refl
+      (ap (meant_by steps) (sym (from_last s w.text w.events) ∙ sym (run_on w.taken 1 (suc w.taken) (start p steps) [] [] s w.text w.events w.comes (let e : suc w.taken ≡ w.taken + 1 = omega arith in e))) ∙ w.ends)
+
+  -- a run that comes to a state which halts ends there
+  abbrev pub Halts : Next → Type 0
+  Halts (Ends outcome core) = Unit {0}
+  Halts (Sticks reason) = Unit {0}
+  Halts other = ⊥
+
+  halts_so : (steps : ℕ) (text : List ℕ) (events : List Event) (next : Next) → Halts next → (m : Meant) × (meant_by steps (follow (run p args 0) text events next) ≡ Some m)
+  halts_so steps text events (Ends outcome core) h = (_, refl)
+  halts_so steps text events (Sticks reason) h = (_, refl)
+  halts_so steps text events (Goes s) h = absurd h
+  halts_so steps text events (Puts byte s) h = absurd h
+  halts_so steps text events (Tells event s) h = absurd h
+
+  pub halts_at : (steps k : ℕ) (s : State) (text : List ℕ) (events : List Event) → run p args k (start p steps) [] [] ≡ Unfinished s text events → Halts (step p args s) → (m : Meant) × (within p args steps (suc k) ≡ Some m)
+  halts_at steps k s text events e h =
+      let w : (m : Meant) × (meant_by steps (follow (run p args 0) text events (step p args s)) ≡ Some m) = halts_so steps text events (step p args s) h in
+      (w.0, ap (meant_by steps) (run_on k 1 (suc k) (start p steps) [] [] s text events e (let e : suc k ≡ k + 1 = omega arith in e) ∙ from_last s text events) ∙ w.1)

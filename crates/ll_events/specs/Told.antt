@@ -2,7 +2,9 @@
 use Rattle.std.specs.Prelude.{◌≡◌, ◌<◌, ◌≤◌, ℕ, ℤ, suc, ◌+◌, ◌==◌, cond, List, [], ◌∷◌, ◌++◌, length, map, slice_get, slice_set, slice_index_or, Option, Some, None}
 use Rattle.csub_tree.specs.State.{Value, Word, Block, Event, Made, Freed}
 use Rattle.csub_tree.specs.Meaning.{made_in, gone_in}
-use Rattle.ll_code.specs.State.{State, Returning}
+use Rattle.ll_code.specs.State.{State, At, Returning}
+use Rattle.ll_code.specs.declared.program.LlOp.TheVariants as op
+use Rattle.ll_code.specs.declared.program.LlExit.TheVariants as exit
 use Rattle.ll_code.specs.Machine.{start}
 use Rattle.ll_code.specs.Meaning.{Meant, Unfinished, run, within}
 use Rattle.ll_code.specs.declared.program.LlProgram.{LlProgram}
@@ -56,6 +58,14 @@ pub record EndsAt (p : LlProgram) (args : List (List ℕ)) (steps : ℕ) (s : St
   pub events : List Event
   pub comes : run p args taken (start p steps) [] [] ≡ Unfinished s text events
   pub ends : within p args steps (suc taken) ≡ Some m
+
+-- a run ends where the first graph gives a word, at a payment, at a failure, and where an exception leaves the program
+abbrev pub EndsHere : State → Type 0
+EndsHere (At (op.Step x ∷ ops) exit frames core) = Unit {0}
+EndsHere (At [] (exit.Fail number) frames core) = Unit {0}
+EndsHere (At [] (exit.Raised a) frames core) = Unit {0}
+EndsHere (Returning value [] core) = Unit {0}
+EndsHere other = ⊥
 
 -- the first graph gives this word
 abbrev pub IsLast : ℤ → State → Type 0

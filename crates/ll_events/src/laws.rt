@@ -9,7 +9,7 @@ ghost use Rattle.ll_code.specs.Meaning.{Came, Meant, LMeans, Unfinished, run};
 ghost use Rattle.ll_code.specs.State.{State, Ends};
 ghost use Rattle.ll_code.specs.declared.program.LlProgram.{LlProgram};
 ghost use Rattle.ll_held.specs.Roots.{core_of};
-ghost use Rattle.ll_events.specs.Told.{mark, told, InOrder, TellOf, EndsAt, IsLast, AddsTo};
+ghost use Rattle.ll_events.specs.Told.{mark, told, InOrder, TellOf, EndsAt, EndsHere, IsLast, AddsTo};
 
 /// At each state of a run, of any program, the events tell the memory. Blocks are made with the numbers
 /// 0, 1, 2 and on, as many as there are; only a block that is there goes. So a block is gone exactly
@@ -29,10 +29,12 @@ pub fn runs_end_at_a_state()
 {}
 
 /// Where a run ends, what it means by the blocks made and those gone is exactly which blocks are there
-/// in the state at which it ends; and the step that ends a run changes no block.
+/// in the state at which it ends. The step that ends a run changes no block: the first graph returns, a
+/// payment is too much, the program fails, or an exception leaves it.
 pub fn endings_tell_the_memory()
     ensures blocks { (p : LlProgram) (args : List (List ℕ)) (steps : ℕ) (s : State) (m : Meant) → EndsAt p args steps s m → TellOf (core_of s).blocks m.made m.gone }
     ensures unchanged { (p : LlProgram) (args : List (List ℕ)) (s : State) (outcome : Outcome) (core : Core) → step p args s ≡ Ends outcome core → core.blocks ≡ (core_of s).blocks }
+    ensures places { (p : LlProgram) (args : List (List ℕ)) (s : State) (outcome : Outcome) (core : Core) → step p args s ≡ Ends outcome core → EndsHere s }
 {}
 
 /// A run that returns ends where its first graph gives the word.

@@ -5,5 +5,6 @@
 mod laws;
 
 pub use laws::{
-    raised_runs_leave_nothing, returned_runs_leave_nothing, what_is_left_is_held,
+    counts_are_exact, raised_runs_leave_nothing, returned_runs_count_exactly,
+    returned_runs_leave_nothing, what_is_left_is_held,
 };
