@@ -161,9 +161,10 @@ still_by false false y f e = ap not (f refl)
 
 pub go_on : (p : Whole) (a b : Assignment) (g : ℕ) → Grows a b → (os : List Op) → AllGo p a g os → AllGo p b g os
 go_on p a b g h [] go = tt
-go_on p a b g h (o ∷ os) go =
-    (still_by (rule.is_narrowing o.op) (is_nothing (rule.value p a g o.result)) (is_nothing (rule.value p b g o.result)) (h.values (p.places.variable g o.result)) go.0,
-    go_on p a b g h os go.1)
+go_on p a b g h (o ∷ os) go = (
+  still_by (rule.is_narrowing o.op) (is_nothing (rule.value p a g o.result)) (is_nothing (rule.value p b g o.result)) (h.values (p.places.variable g o.result)) go.0,
+  go_on p a b g h os go.1,
+)
 
 pub go_one : (p : Whole) (a : Assignment) (g : ℕ) (os : List Op) (o : Op) → AllGo p a g os → rule.goes_on p a g o ≡ true → AllGo p a g (os ++ o ∷ [])
 go_one p a g [] o go e = (e, tt)
