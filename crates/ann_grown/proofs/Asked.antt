@@ -1,15 +1,14 @@
 -- Parts of all that the graphs ask.
-use Rattle.std.proofs.Common.{◌≡◌, ◌+◌, ◌<◌, ℕ, zero, suc, Bool, true, false, List, [], ◌∷◌, ◌++◌, length, get_or, drop, take, Option, Some, None, refl, sym, ap, ◌∙◌, subst, arith}
+use Rattle.std.proofs.Common.{◌≡◌, ◌+◌, ℕ, zero, suc, Bool, true, false, List, [], ◌∷◌, ◌++◌, get_or, drop, take, Some, refl, sym, ap, ◌∙◌, subst, arith}
 use Rattle.std.specs.Prelude.{slice_get, is_some, unwrap_or, not, ◌||◌}
 use Rattle.std.proofs.lemmas.List.{take-append-drop, append-nil}
 use Rattle.rpy_tree.specs.declared.program.ClassInfo.{ClassInfo}
 use Rattle.rpy_tree.specs.declared.program.Site.{Site}
 use Rattle.flow_graph.specs.declared.graph.Op.{Op}
-use Rattle.flow_graph.specs.declared.graph.Exit.{Exit}
 use Rattle.flow_graph.specs.declared.graph.Block.{Block}
 use Rattle.flow_graph.specs.declared.graph.Graph.{Graph}
 use Rattle.ann_lattice.specs.Kind.{is_nothing}
-use Rattle.ann_lattice.specs.Assign.{Assignment, at, mark, Need, Holds}
+use Rattle.ann_lattice.specs.Assign.{Assignment, mark, Need, Holds}
 use Rattle.ann_laws.proofs.Pairs.{no}
 use Rattle.ann_rules.specs.Program.{Whole, Callee}
 use Rattle.ann_rules.specs.Asks.{when}
