@@ -1,15 +1,14 @@
 -- Parts of all that the graphs ask.
-use Rattle.std.proofs.Common.{◌≡◌, ◌+◌, ◌<◌, ℕ, zero, suc, Bool, true, false, List, [], ◌∷◌, ◌++◌, length, get_or, drop, take, Option, Some, None, refl, sym, ap, ◌∙◌, subst, arith}
+use Rattle.std.proofs.Common.{◌≡◌, ◌+◌, ℕ, zero, suc, Bool, true, false, List, [], ◌∷◌, ◌++◌, get_or, drop, take, Some, refl, sym, ap, ◌∙◌, subst, arith}
 use Rattle.std.specs.Prelude.{slice_get, is_some, unwrap_or, not, ◌||◌}
 use Rattle.std.proofs.lemmas.List.{take-append-drop, append-nil}
 use Rattle.rpy_tree.specs.declared.program.ClassInfo.{ClassInfo}
 use Rattle.rpy_tree.specs.declared.program.Site.{Site}
 use Rattle.flow_graph.specs.declared.graph.Op.{Op}
-use Rattle.flow_graph.specs.declared.graph.Exit.{Exit}
 use Rattle.flow_graph.specs.declared.graph.Block.{Block}
 use Rattle.flow_graph.specs.declared.graph.Graph.{Graph}
 use Rattle.ann_lattice.specs.Kind.{is_nothing}
-use Rattle.ann_lattice.specs.Assign.{Assignment, at, mark, Need, Holds}
+use Rattle.ann_lattice.specs.Assign.{Assignment, mark, Need, Holds}
 use Rattle.ann_laws.proofs.Pairs.{no}
 use Rattle.ann_rules.specs.Program.{Whole, Callee}
 use Rattle.ann_rules.specs.Asks.{when}
@@ -161,9 +160,10 @@ still_by false false y f e = ap not (f refl)
 
 pub go_on : (p : Whole) (a b : Assignment) (g : ℕ) → Grows a b → (os : List Op) → AllGo p a g os → AllGo p b g os
 go_on p a b g h [] go = tt
-go_on p a b g h (o ∷ os) go =
-    (still_by (rule.is_narrowing o.op) (is_nothing (rule.value p a g o.result)) (is_nothing (rule.value p b g o.result)) (h.values (p.places.variable g o.result)) go.0,
-    go_on p a b g h os go.1)
+go_on p a b g h (o ∷ os) go = (
+  still_by (rule.is_narrowing o.op) (is_nothing (rule.value p a g o.result)) (is_nothing (rule.value p b g o.result)) (h.values (p.places.variable g o.result)) go.0,
+  go_on p a b g h os go.1,
+)
 
 pub go_one : (p : Whole) (a : Assignment) (g : ℕ) (os : List Op) (o : Op) → AllGo p a g os → rule.goes_on p a g o ≡ true → AllGo p a g (os ++ o ∷ [])
 go_one p a g [] o go e = (e, tt)

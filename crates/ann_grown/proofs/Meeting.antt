@@ -1,15 +1,14 @@
 -- One need after the other is met.
-use Rattle.std.proofs.Common.{◌≡◌, ◌<◌, ℕ, zero, suc, Bool, true, false, List, [], ◌∷◌, ◌++◌, length, get_or, set, refl, sym, ap, ◌∙◌, subst, ◌⊎◌, inl, inr, ◌≢◌, arith}
+use Rattle.std.proofs.Common.{◌≡◌, ◌<◌, ℕ, Bool, true, false, List, [], ◌∷◌, length, get_or, set, refl, sym, ap, ◌∙◌, subst, ◌⊎◌, inl, inr, ◌≢◌, arith}
 use Rattle.std.specs.Prelude.{nat_lt, if◌then◌else◌}
 use Rattle.std.proofs.lemmas.List.{length-set, get_or-set_same, get_or-set_other}
 use Rattle.std.proofs.lemmas.Bool.{ltb-true}
 use Rattle.rpy_tree.specs.declared.program.ClassInfo.{ClassInfo}
 use Rattle.ann_lattice.specs.Shape.{Shape, Nothing}
-use Rattle.ann_lattice.specs.Order.{Below}
 use Rattle.ann_lattice.specs.Join.{join, is_clash, classes_after}
 use Rattle.ann_lattice.specs.Kind.{is_nothing}
 use Rattle.ann_lattice.specs.Laws.{IsTree}
-use Rattle.ann_lattice.specs.Assign.{Assignment, at, mark, Less, Need, Up, Set, Holds, raised, raise, meet, Rules, Grown, begin, step, Free, Closed, Fits, IsTable, Monotone, IsLeast}
+use Rattle.ann_lattice.specs.Assign.{Assignment, at, mark, Less, Need, Up, Set, Holds, raised, raise, meet, Rules, begin, step, Free, Fits, IsTable, Monotone}
 use Rattle.ann_lattice.proofs.Grows.{grown_is_least}
 use Rattle.ann_lattice.proofs.Tables.{meet_table}
 use Rattle.ann_lattice.proofs.Joined.{is_join}
@@ -17,8 +16,6 @@ use Rattle.ann_laws.proofs.Calls.{above_clash}
 use Rattle.ann_laws.proofs.Equal.{reached_above}
 use Rattle.ann_laws.proofs.Pairs.{no}
 use Rattle.ann_rules.specs.Program.{Whole}
-use Rattle.ann_rules.specs.Rules.{rules}
-use Rattle.ann_rules.specs.Hold.{AllHold}
 use Rattle.ann_grown.specs.Partial.{Basis, IsPartial, NoneFree, Due, Grows, Meets, Keeps}
 
 same_number : (c d : ℕ) → (c ≡ d) ⊎ (c ≢ d)

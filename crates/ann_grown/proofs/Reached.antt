@@ -1,14 +1,14 @@
 -- A reached block is gone through, operation by operation.
-use Rattle.std.proofs.Common.{◌≡◌, ◌+◌, ℕ, zero, suc, Bool, true, false, List, [], ◌∷◌, ◌++◌, length, drop, take, Some, refl, sym, ap, ◌∙◌, subst}
+use Rattle.std.proofs.Common.{◌≡◌, ℕ, true, List, [], ◌∷◌, ◌++◌, drop, take, Some}
 use Rattle.std.specs.Prelude.{slice_get}
 use Rattle.flow_graph.specs.declared.graph.Op.{Op}
 use Rattle.flow_graph.specs.declared.graph.Block.{Block}
 use Rattle.flow_graph.specs.declared.graph.Graph.{Graph}
-use Rattle.ann_lattice.specs.Assign.{Assignment, Need, mark}
+use Rattle.ann_lattice.specs.Assign.{Assignment}
 use Rattle.ann_rules.specs.Program.{Whole, Callee}
 use Rattle.ann_rules.specs.Rules as rule
 use Rattle.rpy_tree.specs.declared.program.Site.{Site}
-use Rattle.ann_grown.specs.Partial.{Basis, IsPartial, Due, Grows, Meets, Keeps, AllGo, IsReached, HasReached, Reaches}
+use Rattle.ann_grown.specs.Partial.{Meets, Keeps, IsReached, Reaches}
 use Rattle.ann_grown.proofs.Asked.{due_entry, due_start, due_site, due_ties, due_exceptions, due_op, due_exit, go_on, go_one}
 
 -- ---- parts

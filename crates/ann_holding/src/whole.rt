@@ -12,13 +12,7 @@ use rpy_base::NoMem;
 use rpy_tree::{FunId, Site, SiteId};
 use std::alloc::Global;
 
-fn ties_hold(
-    alloc: Global,
-    p: &Plan,
-    s: &State,
-    g: usize,
-    graph: &Graph,
-) -> Result<bool, NoMem>
+fn ties_hold(alloc: Global, p: &Plan, s: &State, g: usize, graph: &Graph) -> Result<bool, NoMem>
     ensures { IfOk result (λ holds. holds ≡ spec.ties_hold (whole p.now) (assignment s.now) g graph.now) }
 {
     let mut asks = Asks::new(alloc);
@@ -26,13 +20,7 @@ fn ties_hold(
     Ok(all_met(p, s, asks.items.as_slice()))
 }
 
-fn graph_holds(
-    alloc: Global,
-    p: &Plan,
-    s: &State,
-    g: usize,
-    graph: &Graph,
-) -> Result<bool, NoMem>
+fn graph_holds(alloc: Global, p: &Plan, s: &State, g: usize, graph: &Graph) -> Result<bool, NoMem>
     ensures { IfOk result (λ holds. holds ≡ spec.graph_holds (whole p.now) (assignment s.now) g graph.now) }
 {
     if !blocks_hold(alloc, p, s, g, graph, graph.blocks.as_slice())? {
@@ -41,12 +29,7 @@ fn graph_holds(
     ties_hold(alloc, p, s, g, graph)
 }
 
-fn graphs_hold(
-    alloc: Global,
-    p: &Plan,
-    s: &State,
-    graphs: &[Graph],
-) -> Result<bool, NoMem>
+fn graphs_hold(alloc: Global, p: &Plan, s: &State, graphs: &[Graph]) -> Result<bool, NoMem>
     ensures { IfOk result (λ holds. holds ≡ spec.graphs_hold (whole p.now) (assignment s.now) 0 graphs.now) }
 {
     for (g, graph) in graphs.iter().enumerate() {
@@ -69,13 +52,7 @@ fn narrow(number: usize) -> Result<u32, NoMem>
     }
 }
 
-fn start_holds(
-    alloc: Global,
-    p: &Plan,
-    s: &State,
-    f: FunId,
-    callee: &Callee,
-) -> Result<bool, NoMem>
+fn start_holds(alloc: Global, p: &Plan, s: &State, f: FunId, callee: &Callee) -> Result<bool, NoMem>
     ensures { IfOk result (λ holds. holds ≡ spec.start_holds (whole p.now) (assignment s.now) f callee.now) }
 {
     let mut asks = Asks::new(alloc);
@@ -83,12 +60,7 @@ fn start_holds(
     Ok(all_met(p, s, asks.items.as_slice()))
 }
 
-fn starts_hold(
-    alloc: Global,
-    p: &Plan,
-    s: &State,
-    callees: &[Callee],
-) -> Result<bool, NoMem>
+fn starts_hold(alloc: Global, p: &Plan, s: &State, callees: &[Callee]) -> Result<bool, NoMem>
     ensures { IfOk result (λ holds. holds ≡ spec.starts_hold (whole p.now) (assignment s.now) 0 callees.now) }
 {
     for (f, callee) in callees.iter().enumerate() {
@@ -113,12 +85,7 @@ fn site_holds(
     Ok(all_met(p, s, asks.items.as_slice()))
 }
 
-fn sites_hold(
-    alloc: Global,
-    p: &Plan,
-    s: &State,
-    sites: &[Site],
-) -> Result<bool, NoMem>
+fn sites_hold(alloc: Global, p: &Plan, s: &State, sites: &[Site]) -> Result<bool, NoMem>
     ensures { IfOk result (λ holds. holds ≡ spec.sites_hold (whole p.now) (assignment s.now) 0 sites.now) }
 {
     for (number, site) in sites.iter().enumerate() {

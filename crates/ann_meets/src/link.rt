@@ -96,14 +96,7 @@ fn is_below_cell(p: &Plan, s: &State, from: usize, to: usize) -> bool
 }
 
 // Whether all that goes on to an input is there.
-fn is_passed(
-    p: &Plan,
-    s: &State,
-    g: usize,
-    caught: Option<ClassId>,
-    v: VarId,
-    input: VarId,
-) -> bool
+fn is_passed(p: &Plan, s: &State, g: usize, caught: Option<ClassId>, v: VarId, input: VarId) -> bool
     ensures { result ≡ unmet.is_passed (spec.whole p.now) (spec.assignment s.now) g caught v input }
 {
     let to = p.variable(g, input);

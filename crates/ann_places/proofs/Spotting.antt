@@ -94,8 +94,10 @@ module _ (p : Whole) (spot : ℕ → Bool) (n : ℕ) where
   ops_spots g most count [] le there sub = tt
   ops_spots g most count (o ∷ os) le there sub =
       let rest : max most (o.result + 1) ≤ past_ops os (max most (o.result + 1)) = past_ops_least os (max most (o.result + 1)) in (
-        (sub (p.places.variable g o.result) (or_left (p.places.variable g o.result == p.places.variable g o.result) (among (p.places.variable g o.result) (op_cells p g os)) (same (p.places.variable g o.result))),
-            there o.result (omega (arith, le, rest))),
+        (
+          sub (p.places.variable g o.result) (or_left (p.places.variable g o.result == p.places.variable g o.result) (among (p.places.variable g o.result) (op_cells p g os)) (same (p.places.variable g o.result))),
+          there o.result (omega (arith, le, rest)),
+        ),
         ops_spots g (max most (o.result + 1)) count os le there (λ c e. sub c (or_right (p.places.variable g o.result == c) (among c (op_cells p g os)) e)),
       )
 

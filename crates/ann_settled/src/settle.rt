@@ -104,12 +104,7 @@ fn judge(alloc: Global, planned: &Planned, s: &State) -> Result<Verdict, NoMem>
 }
 
 // Grows until nothing waits, and writes each element with the least sites.
-fn grow(
-    alloc: Global,
-    planned: &Planned,
-    s: &mut State,
-    work: &mut Work,
-) -> Result<(), NoMem>
+fn grow(alloc: Global, planned: &Planned, s: &mut State, work: &mut Work) -> Result<(), NoMem>
     ensures { OnOk result (spec.Keeps planned.now s.old s.new) }
 {
     sweep(alloc, &planned.plan, s, work)?;
@@ -157,11 +152,7 @@ fn read_out(alloc: Global, planned: &Planned, s: State) -> Result<Annotation, No
 
 /// The least annotation that is closed under all that the graphs of a planned program ask and free of
 /// conflict. Or there is none.
-pub fn close(
-    alloc: Global,
-    program: &Program,
-    planned: &Planned,
-) -> Result<Annotation, Unsettled>
+pub fn close(alloc: Global, program: &Program, planned: &Planned) -> Result<Annotation, Unsettled>
     ensures { spec.Closes program.now planned.now result }
 {
     let s = settle(alloc, program, planned)?;

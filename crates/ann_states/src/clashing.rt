@@ -47,7 +47,11 @@ fn is_in_conflict(s: &State, cell: usize) -> bool
 fn in_clash(s: &State, cell: usize) -> Option<usize>
     ensures { result ≡ spec.in_clash (assignment s.now) cell }
 {
-    if is_in_conflict(s, cell) { Some(cell) } else { None }
+    if is_in_conflict(s, cell) {
+        Some(cell)
+    } else {
+        None
+    }
 }
 
 fn row_clash(s: &State, row: &[usize]) -> Option<usize>

@@ -43,13 +43,7 @@ fn pass_starts(alloc: Global, p: &Plan, s: &mut State, work: &mut Work) -> Resul
 
 // ---- blocks
 
-fn read_ops(
-    p: &Plan,
-    s: &State,
-    work: &mut Work,
-    place: Place,
-    ops: &[Op],
-) -> Result<(), NoMem> {
+fn read_ops(p: &Plan, s: &State, work: &mut Work, place: Place, ops: &[Op]) -> Result<(), NoMem> {
     for op in ops {
         read_op(work, p, s, place, op)?;
     }

@@ -21,13 +21,7 @@ fn read_site(
     work.readers.add(p.key(leader), place)
 }
 
-fn read_operand(
-    work: &mut Work,
-    p: &Plan,
-    s: &State,
-    place: Place,
-    v: VarId,
-) -> Result<(), NoMem> {
+fn read_operand(work: &mut Work, p: &Plan, s: &State, place: Place, v: VarId) -> Result<(), NoMem> {
     match s.cells.get(p.variable(place.graph, v)) {
         Some(Element::List(site, _)) => read_site(work, p, s, place, *site),
         Some(Element::Dict(site, _)) => read_site(work, p, s, place, *site),
@@ -169,13 +163,7 @@ fn read_attribute(
 // ---- operations
 
 /// What an operation reads.
-pub fn read_op(
-    work: &mut Work,
-    p: &Plan,
-    s: &State,
-    place: Place,
-    op: &Op,
-) -> Result<(), NoMem> {
+pub fn read_op(work: &mut Work, p: &Plan, s: &State, place: Place, op: &Op) -> Result<(), NoMem> {
     let args = op.args.as_slice();
     match &op.op {
         RowOp::Copy => Ok(()),

@@ -153,7 +153,11 @@ fn concern_functions(work: &mut Work, p: &Plan) {
     for (function, row) in p.places.params.as_slice().iter().enumerate() {
         let number = number_of(function);
         concern_params(work, number, row.as_slice());
-        put(&mut work.of_marks, p.reached(number), Concern::Start(number));
+        put(
+            &mut work.of_marks,
+            p.reached(number),
+            Concern::Start(number),
+        );
     }
 }
 
@@ -165,7 +169,11 @@ fn concern_classes(work: &mut Work, p: &Plan) {
 
 fn concern_sites(work: &mut Work, p: &Plan) {
     for (site, number) in p.places.loaded.as_slice().iter().enumerate() {
-        put(&mut work.of_marks, *number, Concern::Contents(number_of(site)));
+        put(
+            &mut work.of_marks,
+            *number,
+            Concern::Contents(number_of(site)),
+        );
     }
 }
 
@@ -261,7 +269,11 @@ impl Work {
             [.., last] => *last == function,
             _ => false,
         };
-        if again { Ok(()) } else { self.starts.push(function) }
+        if again {
+            Ok(())
+        } else {
+            self.starts.push(function)
+        }
     }
 
     fn wake_readers(&mut self, p: &Plan, cell: usize) {

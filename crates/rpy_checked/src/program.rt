@@ -1,10 +1,14 @@
 // The checks of a program: annotation and types.
-ghost use Rattle.std.specs.Prelude.{IfOk};
+ghost use Rattle.std.specs.Prelude.{◌≡◌, IfOk};
 ghost use Rattle.flow_graph.specs.Whole.{Covers};
+ghost use Rattle.rpy_checked.specs.Settles as spec;
 
 use crate::fault::{CheckFault, TypeKind};
-use ann_element::{Annotation, Element, Sites, Spot};
+use ann_element::{Annotation, Element, Sites, Spot, SpotKind};
 use ann_fixpoint::{AnnFault, annotate, spot_word};
+use ann_layout::{Planned, plan_of};
+use ann_needs::Plan;
+use ann_settled::{Unsettled, close};
 use ann_text::put_element;
 use class_desc::Classes;
 use flow_graph::Graphs;
@@ -69,7 +73,9 @@ fn conflict_words(
     Ok(text)
 }
 
-fn conflicting(alloc: Global, program: &Program, spot: &Spot, operands: &[Element]) -> CheckFault {
+fn conflicting(alloc: Global, program: &Program, spot: &Spot, operands: &[Element]) -> CheckFault
+    ensures { spec.IsUnsettled result }
+{
     match conflict_words(alloc, program, spot, operands) {
         Err(NoMem) => CheckFault::NoMem,
         Ok(words) => CheckFault::Conflict(
@@ -80,7 +86,9 @@ fn conflicting(alloc: Global, program: &Program, spot: &Spot, operands: &[Elemen
     }
 }
 
-fn unannotated(alloc: Global, program: &Program, fault: AnnFault) -> CheckFault {
+fn unannotated(alloc: Global, program: &Program, fault: AnnFault) -> CheckFault
+    ensures { spec.IsUnsettled result }
+{
     match fault {
         AnnFault::NoMem => CheckFault::NoMem,
         AnnFault::Conflict(spot, operands) => {
@@ -91,11 +99,15 @@ fn unannotated(alloc: Global, program: &Program, fault: AnnFault) -> CheckFault 
 
 // ---- types
 
-fn typed_at(program: &Program, node: NodeId, kind: TypeKind) -> CheckFault {
+fn typed_at(program: &Program, node: NodeId, kind: TypeKind) -> CheckFault
+    ensures { spec.IsUntyped result }
+{
     CheckFault::Typing(file_of(program, node), program.node_line(node), kind)
 }
 
-fn untyped(program: &Program, fault: TypeFault) -> CheckFault {
+fn untyped(program: &Program, fault: TypeFault) -> CheckFault
+    ensures { spec.IsUntyped result }
+{
     match fault {
         TypeFault::ConstantModified(node) => typed_at(program, node, TypeKind::ConstantModified),
         TypeFault::MaybeUnbound(node) => typed_at(program, node, TypeKind::MaybeUnbound),
@@ -105,32 +117,86 @@ fn untyped(program: &Program, fault: TypeFault) -> CheckFault {
     }
 }
 
-fn annotated(
+// ---- the whole
+
+// The conflict that is shown where there is no annotation, by growing once more in an order of its own.
+fn shown(alloc: Global, program: &Program, plan: &Plan, node: NodeId) -> CheckFault
+    ensures { spec.IsUnsettled result }
+{
+    match annotate(alloc, program, &plan.graphs, &plan.classes) {
+        Ok(_) => {
+            let spot = Spot {
+                node,
+                kind: SpotKind::Node,
+            };
+            conflicting(alloc, program, &spot, &[])
+        }
+        Err(fault) => unannotated(alloc, program, fault),
+    }
+}
+
+fn annotated(alloc: Global, program: &Program, planned: &Planned) -> Result<Annotation, CheckFault>
+    ensures { spec.Annotates program.now planned.now result }
+{
+    match close(alloc, program, planned) {
+        Ok(annotation) => Ok(annotation),
+        Err(Unsettled::NoMem) => Err(CheckFault::NoMem),
+        Err(Unsettled::Conflict(node)) => Err(shown(alloc, program, &planned.plan, node)),
+    }
+}
+
+fn typed(
     alloc: Global,
     program: &Program,
-    graphs: &Graphs,
-    classes: &Classes,
-) -> Result<Annotation, CheckFault> {
-    match annotate(alloc, program, graphs, classes) {
-        Ok(annotation) => Ok(annotation),
-        Err(fault) => Err(unannotated(alloc, program, fault)),
+    plan: &Plan,
+    annotation: &Annotation,
+) -> Result<(), CheckFault>
+    ensures { spec.IsTyping result }
+{
+    match typing(alloc, program, &plan.graphs, annotation, &plan.classes) {
+        Ok(()) => Ok(()),
+        Err(fault) => Err(untyped(program, fault)),
+    }
+}
+
+fn checked_of(planned: Planned, annotation: Annotation) -> Checked
+    ensures { result ≡ spec.checked planned annotation }
+{
+    let Planned {
+        plan,
+        cells: _,
+        marks: _,
+    } = planned;
+    let Plan {
+        classes,
+        callees: _,
+        sites: _,
+        graphs,
+        entry: _,
+        literals: _,
+        places: _,
+    } = plan;
+    Checked {
+        graphs,
+        classes,
+        annotation,
     }
 }
 
 /// The graphs, the classes and the least annotation of a program that has types; else the first cause of
 /// its refusal: a conflict, or the least fault of types.
 pub fn check(alloc: Global, program: &Program) -> Result<Checked, CheckFault>
-    ensures { IfOk result (λ checked. Covers program.now checked.graphs) }
+    ensures covers { IfOk result (λ checked. Covers program.now checked.graphs) }
+    ensures least { spec.Settles program.now result }
 {
     let graphs = flow(alloc, program)?;
     let classes = Classes::new(alloc, program)?;
-    let annotation = annotated(alloc, program, &graphs, &classes)?;
-    match typing(alloc, program, &graphs, &annotation, &classes) {
-        Ok(()) => Ok(Checked {
-            graphs,
-            classes,
-            annotation,
-        }),
-        Err(fault) => Err(untyped(program, fault)),
+    let planned = plan_of(alloc, program, graphs, classes)?;
+    match annotated(alloc, program, &planned) {
+        Err(fault) => Err(fault),
+        Ok(annotation) => match typed(alloc, program, &planned.plan, &annotation) {
+            Err(fault) => Err(fault),
+            Ok(()) => Ok(checked_of(planned, annotation)),
+        },
     }
 }

@@ -7,4 +7,4 @@ pub returns : goal.returns
 returns c =
     ap (λ es. record { cells = map shape es; marks = c.args.s.now.marks; same = c.join.new.same }) c.set.ensures
     ∙ raised_is c.args.classes.now.classes c.args.s.now.cells c.args.s.now.marks c.args.s.now.same c.join.new.same c.args.cell c.in-Some.old.now
-        c.in_ok-joined-in-Some.joined (shape c.args.e.now) c.in-Some.ensures.within c.in-Some.ensures.value c.in_ok-joined-in-Some.ensures.joined c.in_ok-joined-in-Some.ensures.classes
+    c.in_ok-joined-in-Some.joined (shape c.args.e.now) c.in-Some.ensures.within c.in-Some.ensures.value c.in_ok-joined-in-Some.ensures.joined c.in_ok-joined-in-Some.ensures.classes
