@@ -72,7 +72,11 @@ fn op_raisable(
     ensures { IfOk result (λ yes. yes ≡ tests.op_raisable root types.now op.now rest.now exit.now) }
 {
     let reads = handler_reads(alloc, rest, exit)?;
-    Ok(raises_alike(root, types, op) && !uses_slots(op) && sets_none_of(set_by(op), reads.as_slice()))
+    Ok(
+        raises_alike(root, types, op)
+            && !uses_slots(op)
+            && sets_none_of(set_by(op), reads.as_slice()),
+    )
 }
 
 fn ops_raisable(

@@ -1,8 +1,8 @@
 -- What the passes make is the file of a program that passed the tests.
-use Rattle.std.proofs.Common.{◌≡◌, Bool, true, false, Ok, Err, refl, sym, ap, ◌∙◌, subst}
-use Rattle.std.specs.Prelude.{◌&&◌, Result, IfOk}
+use Rattle.std.proofs.Common.{◌≡◌, Ok, Err, refl, sym, ap, ◌∙◌, subst}
+use Rattle.std.specs.Prelude.{Result, IfOk}
 use Rattle.csub_tree.specs.declared.tree.CFile.{CFile}
-use Rattle.ll_code.specs.Typed.{IsWellTyped, well_typed}
+use Rattle.ll_code.specs.Typed.{IsWellTyped}
 use Rattle.ll_code.specs.declared.program.LlStage.TheVariants as stage
 use Rattle.ll_code.specs.declared.program.LlProgram.{LlProgram}
 use Rattle.exc_transform.specs.Pieces.{explicit}
@@ -13,7 +13,6 @@ use Rattle.refcount_ready.specs.Programs.{CanBeCounted}
 use Rattle.ll_compiled.specs.Compiled.{compiled, CanBeCompiled}
 use Rattle.ll_compiled.proofs.Whole.{keeps_rules}
 use Rattle.exc_laws.proofs.WellTyped.{explicit_typed}
-use Rattle.exc_ready.specs.Raisable.{is_raisable}
 use Rattle.exc_counted.specs.Along.{HasFile}
 use Rattle.exc_counted.proofs.Composed.{same_runs}
 use Rattle.ll_file.specs.File.{CanRaise, IsFile}
@@ -39,10 +38,3 @@ is_file p has = record { has = has; is = refl; checked = keeps_rules (explicit p
 pub file_made : {E : Type 0} (p made given : LlProgram) (r : Result CFile E) → CanRaise p → made ≡ explicit p → made.stage ≡ stage.Explicit → Passes made → given ≡ counted made → IfOk r (λ file. file ≡ lowered given) → IfOk r (IsFile p)
 file_made p made given (Err e) can is explicit_is passed counts h = tt
 file_made p made given (Ok file) can is explicit_is passed counts h = subst (IsFile p) (sym (h ∙ ap lowered counts ∙ ap (λ q. lowered (counted q)) is)) (is_file p (has_file p can made is explicit_is passed))
-
--- the tests of the program itself
-pub raises : (p : LlProgram) (raw typed raisable : Bool) → (raw ≡ true → p.stage ≡ stage.Raw) → typed ≡ well_typed p → raisable ≡ is_raisable p → (raw && typed && raisable) ≡ true → CanRaise p
-raises p true true true a b c e = record { raw = a refl; typed = sym b; raisable = sym c }
-raises p true true false a b c e = absurd (cc)
-raises p true false raisable a b c e = absurd (cc)
-raises p false typed raisable a b c e = absurd (cc)

@@ -23,3 +23,7 @@ pub record IsFile (program : LlProgram) (file : CFile) : Type 0 where
   pub is : file ≡ compiled (explicit program)
   pub checked : IsChecked file
   pub runs : (args : List (List ℕ)) (steps : ℕ) → RunsWell program args steps → SameRuns program file args steps
+
+-- of some low-level program
+abbrev pub IsOfSome : CFile → Type 0
+IsOfSome file = (program : LlProgram) × IsFile program file
