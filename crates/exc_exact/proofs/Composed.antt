@@ -1,15 +1,15 @@
 -- From a program with exceptions to its file: what is not gone at the end is held, and where nothing is held all is gone.
-use Rattle.std.proofs.Common.{◌≡◌, ◌⊎◌, inl, inr, ⊎_elim, ◌<◌, ◌≤◌, ℕ, ℤ, zero, suc, ◌+◌, Bool, true, false, List, [], ◌∷◌, length, map, Option, Some, None, refl, sym, ap, ◌∙◌, subst, arith}
+use Rattle.std.proofs.Common.{◌≡◌, ◌⊎◌, inl, inr, ⊎_elim, ◌<◌, ◌≤◌, ℕ, ℤ, zero, suc, Bool, true, false, List, [], length, Option, Some, None, refl, sym, ap, ◌∙◌, subst, arith}
 use Rattle.std.specs.Prelude.{slice_get, slice_index_or}
 use Rattle.rpy_base.specs.declared.outcome.Outcome.TheVariants.{Returned}
 use Rattle.csub_tree.specs.Meaning as c
 use Rattle.csub_tree.specs.Meaning.{made_in, gone_in}
-use Rattle.csub_tree.specs.State.{Value, Word, Null, Static, Block, Core, Event}
+use Rattle.csub_tree.specs.State.{Null, Static, Block, Core, Event}
 use Rattle.csub_tree.specs.Statement.{read}
 use Rattle.ll_code.specs.Machine.{start}
 use Rattle.ll_code.specs.Meaning as l
 use Rattle.ll_code.specs.Meaning.{Unfinished, Came, run}
-use Rattle.ll_code.specs.State.{Frame, State, Calling, At, Returning, Throwing}
+use Rattle.ll_code.specs.State.{State, At, Returning}
 use Rattle.ll_code.specs.Typed.{IsWellTyped}
 use Rattle.ll_code.specs.declared.program.LlExit.TheVariants as exit
 use Rattle.ll_code.specs.declared.program.LlProgram.{LlProgram}
@@ -21,7 +21,6 @@ use Rattle.exc_transform.specs.Explicit.{graphs_calm}
 use Rattle.exc_transform.specs.Pieces.{explicit}
 use Rattle.exc_transform.proofs.Without.{explicit_same}
 use Rattle.exc_laws.specs.Alike.{Allows}
-use Rattle.exc_laws.specs.Stands.{Stands}
 use Rattle.exc_laws.proofs.Roots.{stands_held}
 use Rattle.exc_laws.proofs.Holds.{beside_blocks, same_holds}
 use Rattle.exc_laws.proofs.Whole.{means_forth}
@@ -34,7 +33,7 @@ use Rattle.refcount_transform.specs.Counted.{counted}
 use Rattle.refcount_typed.proofs.Whole.{counted_typed}
 use Rattle.refcount_laws.specs.Means.{SameMeaning}
 use Rattle.refcount_ready.proofs.Composed.{means_the_same}
-use Rattle.ll_compiled.specs.Compiled.{compiled, MeansAlike}
+use Rattle.ll_compiled.specs.Compiled.{compiled}
 use Rattle.exc_counted.specs.Along.{HasFile, RunsWell}
 use Rattle.exc_counted.proofs.Standing.{ComesFor, comes_along, state_apart}
 use Rattle.ll_events.specs.Told.{often, TellOf, EndsAt, IsLast}
