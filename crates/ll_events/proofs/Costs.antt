@@ -1,15 +1,15 @@
 -- Only a payment changes the steps that are left.
-use Rattle.std.proofs.Common.{◌≡◌, ◌≤◌, ℕ, zero, suc, ◌+◌, ◌-◌, Bool, true, false, List, [], ◌∷◌, ◌++◌, length, map, replicate, Option, Some, None, Result, Ok, Err, refl, sym, ap, ◌∙◌, subst, arith, ℤ, pos, negsuc}
+use Rattle.std.proofs.Common.{◌≡◌, ◌≤◌, ℕ, ◌+◌, ◌-◌, Bool, true, false, List, [], ◌∷◌, length, Option, Some, None, Result, Ok, Err, refl, arith, ℤ, pos, negsuc}
 use Rattle.std.specs.Prelude.{slice_get, slice_set, slice_index_or, cond, nat_lt, nat_le, ◌||◌, ◌&&◌}
 use Rattle.rpy_base.specs.declared.outcome.Outcome.{Outcome}
 use Rattle.rpy_base.specs.declared.outcome.Outcome.TheVariants.{Returned}
-use Rattle.csub_tree.specs.State.{Value, Unset, Ptr, Static, Block, Core, After, Onward, Puts as PutsByte, Told, Over, Stuck, Event}
-use Rattle.csub_tree.specs.Layout.{Shape, shape_at, begins_with, place}
+use Rattle.csub_tree.specs.State.{Value, Unset, Ptr, Static, Block, Core, After, Onward, Puts as PutsByte, Told, Over, Stuck}
+use Rattle.csub_tree.specs.Layout.{Shape, shape_at, place}
 use Rattle.csub_tree.specs.Operation.{Answer, is_unset, word_of, unary_of, binary_of, flag_of}
 use Rattle.csub_tree.specs.Statement as st
 use Rattle.csub_tree.specs.Statement.{read, operand, operands, any_unset, block_at, as_struct, reached, on_block, fun_of, same_result, same_types, fail_name_of}
 use Rattle.csub_tree.specs.declared.stuck.StuckReason.{StuckReason}
-use Rattle.csub_tree.specs.declared.stuck.StuckReason.TheVariants.{Unset as IsUnset, Signature, Outside, Kind}
+use Rattle.csub_tree.specs.declared.stuck.StuckReason.TheVariants.{Unset as IsUnset, Signature, Outside}
 use Rattle.csub_tree.specs.declared.tree.CType.{CType}
 use Rattle.csub_tree.specs.declared.tree.CType.TheVariants as c
 use Rattle.ll_code.specs.State.{Frame, State, Calling, At, Returning, Throwing, Next, Goes, Puts, Tells, Ends, Sticks}

@@ -1,13 +1,12 @@
 -- Where the counted program pays, it stands for a state of the program that does.
-use Rattle.std.proofs.Common.{◌≡◌, ◌⊎◌, inl, inr, ⊎_elim, ◌<◌, ◌≤◌, ℕ, ℤ, pos, negsuc, zero, suc, ◌+◌, ◌-◌, Bool, true, false, List, [], ◌∷◌, ◌++◌, map, Option, Some, None, refl, sym, ap, ◌∙◌, subst, arith}
+use Rattle.std.proofs.Common.{◌≡◌, ◌⊎◌, ⊎_elim, ◌<◌, ◌≤◌, ℕ, ℤ, pos, negsuc, zero, suc, ◌+◌, ◌-◌, Bool, true, false, List, [], ◌∷◌, ◌++◌, map, Option, Some, None, refl, sym, ap, ◌∙◌, subst, arith}
 use Rattle.std.specs.Prelude.{nat_le, cond}
-use Rattle.rpy_base.specs.declared.outcome.Outcome.{Outcome}
 use Rattle.rpy_base.specs.declared.outcome.Outcome.TheVariants.{Running}
 use Rattle.csub_tree.specs.Operation.{word_of}
-use Rattle.csub_tree.specs.State.{Value, Word, Block, Core, Event, Made, Freed, Onward, Over}
+use Rattle.csub_tree.specs.State.{Block, Core, Event, Made, Freed, Onward, Over}
 use Rattle.csub_tree.specs.Statement.{operand, on, pay_steps}
 use Rattle.ll_code.specs.Machine.{step, start, goes_on}
-use Rattle.ll_code.specs.Meaning.{Ran, Ended, Unfinished, StuckFor, Meant, LMeans, run, follow, meant_by, within, comes}
+use Rattle.ll_code.specs.Meaning.{Unfinished, Meant, LMeans, run, follow, meant_by, comes}
 use Rattle.ll_code.specs.State.{Frame, State, Calling, At, Returning, Throwing, Next, Goes, Puts, Tells, Ends, Sticks}
 use Rattle.ll_code.specs.declared.program.LlOp.{LlOp}
 use Rattle.ll_code.specs.declared.program.LlOp.TheVariants as op
@@ -16,11 +15,10 @@ use Rattle.ll_code.specs.declared.program.LlProgram.{LlProgram}
 use Rattle.ll_held.specs.Roots.{core_of}
 use Rattle.ll_laws.specs.States.{RanFits}
 use Rattle.ll_laws.proofs.Runs.{whole_run_fits}
-use Rattle.ll_laws.proofs.Values.{and_left, is_less}
+use Rattle.ll_laws.proofs.Values.{and_left}
 use Rattle.ll_points.specs.Agrees.{slots_of}
 use Rattle.ll_points.specs.Points.{RanLeads}
 use Rattle.ll_points.proofs.Runs.{whole_run_leads}
-use Rattle.ll_events.specs.Told.{EndsHere}
 use Rattle.ll_events.proofs.Costs as costs
 use Rattle.ll_events.proofs.Stepping.{ends_here}
 use Rattle.ll_events.proofs.Telling.{run_on, Halts}
