@@ -1,15 +1,15 @@
 -- From a program with exceptions to its file: what is not gone at the end is held, and where nothing is held all is gone.
-use Rattle.std.proofs.Common.{◌≡◌, ◌⊎◌, inl, inr, ⊎_elim, ◌<◌, ◌≤◌, ℕ, ℤ, zero, suc, ◌+◌, Bool, true, false, List, [], ◌∷◌, length, map, Option, Some, None, refl, sym, ap, ◌∙◌, subst, arith}
+use Rattle.std.proofs.Common.{◌≡◌, ◌⊎◌, inl, inr, ⊎_elim, ◌<◌, ◌≤◌, ℕ, ℤ, zero, suc, Bool, true, false, List, [], length, Option, Some, None, refl, sym, ap, ◌∙◌, subst, arith}
 use Rattle.std.specs.Prelude.{slice_get, slice_index_or}
 use Rattle.rpy_base.specs.declared.outcome.Outcome.TheVariants.{Returned}
 use Rattle.csub_tree.specs.Meaning as c
 use Rattle.csub_tree.specs.Meaning.{made_in, gone_in}
-use Rattle.csub_tree.specs.State.{Value, Word, Null, Static, Block, Core, Event}
+use Rattle.csub_tree.specs.State.{Null, Static, Block, Core, Event}
 use Rattle.csub_tree.specs.Statement.{read}
 use Rattle.ll_code.specs.Machine.{start}
 use Rattle.ll_code.specs.Meaning as l
 use Rattle.ll_code.specs.Meaning.{Unfinished, Came, run}
-use Rattle.ll_code.specs.State.{Frame, State, Calling, At, Returning, Throwing}
+use Rattle.ll_code.specs.State.{State, At, Returning}
 use Rattle.ll_code.specs.Typed.{IsWellTyped}
 use Rattle.ll_code.specs.declared.program.LlExit.TheVariants as exit
 use Rattle.ll_code.specs.declared.program.LlProgram.{LlProgram}
@@ -21,10 +21,9 @@ use Rattle.exc_transform.specs.Explicit.{graphs_calm}
 use Rattle.exc_transform.specs.Pieces.{explicit}
 use Rattle.exc_transform.proofs.Without.{explicit_same}
 use Rattle.exc_laws.specs.Alike.{Allows}
-use Rattle.exc_laws.specs.Stands.{Stands}
 use Rattle.exc_laws.proofs.Roots.{stands_held}
 use Rattle.exc_laws.proofs.Holds.{beside_blocks, same_holds}
-use Rattle.exc_laws.proofs.Whole.{means_forth}
+use Rattle.exc_laws.proofs.Whole.{means_forth, means_back}
 use Rattle.exc_laws.proofs.Without.{run_same}
 use Rattle.exc_ready.proofs.Leading.{state_clear}
 use Rattle.exc_ready.proofs.Whole.{allowed}
@@ -34,13 +33,15 @@ use Rattle.refcount_transform.specs.Counted.{counted}
 use Rattle.refcount_typed.proofs.Whole.{counted_typed}
 use Rattle.refcount_laws.specs.Means.{SameMeaning}
 use Rattle.refcount_ready.proofs.Composed.{means_the_same}
-use Rattle.ll_compiled.specs.Compiled.{compiled, MeansAlike}
+use Rattle.ll_compiled.specs.Compiled.{compiled}
 use Rattle.exc_counted.specs.Along.{HasFile, RunsWell}
 use Rattle.exc_counted.proofs.Standing.{ComesFor, comes_along, state_apart}
 use Rattle.ll_events.specs.Told.{often, TellOf, EndsAt, IsLast}
 use Rattle.ll_events.proofs.Telling.{run_ends, ending_tells, last_told, return_is_last}
 use Rattle.refcount_exact.proofs.Endings.{still_held, none_held, returned_none, raised_none}
-use Rattle.refcount_exact.specs.Exact.{ComesExact}
+use Rattle.refcount_exact.specs.Exact.{IsExact, ComesExact}
+use Rattle.refcount_exact.specs.Payments.{Pays, StandsExact}
+use Rattle.refcount_exact.proofs.Payments.{payments_counted}
 use Rattle.refcount_exact.proofs.Counts.{comes_exact}
 use Rattle.exc_exact.specs.Ends.{FileHolds, FileEmpty, CountsExactly}
 
@@ -92,6 +93,12 @@ module _ (p : LlProgram) (has : HasFile p) (args : List (List ℕ)) (steps : ℕ
 
       by : Stood s text events → CountsExactly p args steps text
       by w = from w.taken w.state (comes_exact (explicit p) has.can.counts args steps well.small w.taken w.state text events w.comes)
+
+  pub payments_exact : ((m : l.Meant) → l.LMeans p args steps m → l.comes m.ending) → (j : ℕ) (t : State) (text : List ℕ) (events : List Event) → run (counted (explicit p)) args j (start (counted (explicit p)) steps) [] [] ≡ Unfinished t text events → Pays t → IsExact t
+  payments_exact free j t text events e pays = by (payments_counted (explicit p) has.can.counts args steps well.small (λ m h. free m (means_back p has.typed has.raw args steps allows m h)) j t text events e pays)
+    where
+      by : StandsExact (explicit p) args steps t → IsExact t
+      by w = w.exact
 
   -- ---- the end
 

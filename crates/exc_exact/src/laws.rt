@@ -4,13 +4,17 @@ ghost use Rattle.rpy_base.specs.declared.outcome.Outcome.TheVariants.{Returned};
 ghost use Rattle.csub_tree.specs.State.{Static, Core, Event};
 ghost use Rattle.csub_tree.specs.Statement.{read};
 ghost use Rattle.ll_code.specs.Machine.{start};
-ghost use Rattle.ll_code.specs.Meaning.{Came, Meant, Unfinished, run, comes};
+ghost use Rattle.ll_code.specs.Meaning.{Came, Meant, LMeans, Unfinished, run, comes};
 ghost use Rattle.ll_code.specs.State.{State, At};
 ghost use Rattle.ll_code.specs.declared.program.LlExit.TheVariants as exit;
 ghost use Rattle.ll_code.specs.declared.program.LlProgram.{LlProgram};
 ghost use Rattle.ll_held.specs.Held.{Reaches};
 ghost use Rattle.ll_held.specs.Roots.{core_of};
 ghost use Rattle.ll_events.specs.Told.{EndsAt};
+ghost use Rattle.exc_transform.specs.Pieces.{explicit};
+ghost use Rattle.refcount_transform.specs.Counted.{counted};
+ghost use Rattle.refcount_exact.specs.Exact.{IsExact};
+ghost use Rattle.refcount_exact.specs.Payments.{Pays};
 ghost use Rattle.exc_counted.specs.Along.{HasFile, RunsWell};
 ghost use Rattle.exc_exact.specs.Ends.{FileHolds, FileEmpty, CountsExactly};
 
@@ -36,4 +40,10 @@ pub fn raised_files_leave_nothing()
 /// with the same output, in which each count is exact.
 pub fn counts_are_exact()
     ensures { (p : LlProgram) → HasFile p → (args : List (List ℕ)) (steps : ℕ) → RunsWell p args steps → (k : ℕ) (s : State) (text : List ℕ) (events : List Event) → run p args k (start p steps) [] [] ≡ Unfinished s text events → CountsExactly p args steps text }
+{}
+
+/// Where the program is never stuck there, the counts are exact wherever the counted program pays for
+/// steps, one or more at a time.
+pub fn payments_are_counted()
+    ensures { (p : LlProgram) → HasFile p → (args : List (List ℕ)) (steps : ℕ) → RunsWell p args steps → ((m : Meant) → LMeans p args steps m → comes m.ending) → (j : ℕ) (t : State) (text : List ℕ) (events : List Event) → run (counted (explicit p)) args j (start (counted (explicit p)) steps) [] [] ≡ Unfinished t text events → Pays t → IsExact t }
 {}

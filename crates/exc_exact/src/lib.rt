@@ -4,6 +4,6 @@
 mod laws;
 
 pub use laws::{
-    counts_are_exact, raised_files_leave_nothing, returned_files_leave_nothing,
-    what_files_leave_is_held,
+    counts_are_exact, payments_are_counted, raised_files_leave_nothing,
+    returned_files_leave_nothing, what_files_leave_is_held,
 };

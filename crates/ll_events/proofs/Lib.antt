@@ -1,3 +1,4 @@
+pub mod Costs
 pub mod Orders
 pub mod Rows
 pub mod Stepping

@@ -1,10 +1,10 @@
 -- What follows of events that are in order.
-use Rattle.std.proofs.Common.{◌≡◌, ◌⊎◌, inl, inr, ⊎_elim, ◌<◌, ◌≤◌, ℕ, zero, suc, ◌+◌, Bool, true, false, ◌==◌, List, [], ◌∷◌, ◌++◌, length, map, Option, Some, None, refl, sym, ap, ◌∙◌, subst, arith}
+use Rattle.std.proofs.Common.{◌≡◌, ◌⊎◌, inl, inr, ⊎_elim, ◌<◌, ◌≤◌, ℕ, zero, suc, ◌+◌, Bool, true, false, ◌==◌, List, [], ◌∷◌, ◌++◌, length, map, Option, Some, None, refl, sym, ap, ◌∙◌, arith}
 use Rattle.std.specs.Prelude.{slice_get, slice_set, slice_index_or, cond}
 use Rattle.std.proofs.lemmas.Bool.Decides.{nat_tests}
 use Rattle.csub_tree.specs.State.{Block, Event, Made, Freed}
 use Rattle.csub_tree.specs.Meaning.{made_in, gone_in}
-use Rattle.ll_events.specs.Told.{often, Marks, mark, told, IsThere, InOrder, TellOf}
+use Rattle.ll_events.specs.Told.{often, Marks, mark, told, InOrder, TellOf}
 
 -- ---- lists
 

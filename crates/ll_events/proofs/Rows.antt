@@ -1,8 +1,8 @@
 -- Rows: two blocks are made and the first goes; and what is in no order.
-use Rattle.std.proofs.Common.{◌≡◌, ℕ, List, [], ◌∷◌, Some, None, refl, arith}
+use Rattle.std.proofs.Common.{◌≡◌, List, [], ◌∷◌, Some, None, refl, arith}
 use Rattle.csub_tree.specs.State.{Event, Made, Freed}
 use Rattle.csub_tree.specs.Meaning.{made_in, gone_in}
-use Rattle.ll_events.specs.Told.{often, told, InOrder}
+use Rattle.ll_events.specs.Told.{told, InOrder}
 
 abbrev two : List Event
 two = Made 0 3 5 ∷ Made 1 4 2 ∷ Freed 0 ∷ []

@@ -3,7 +3,7 @@ use Rattle.std.proofs.Common.{◌≡◌, ℕ, zero, suc, ◌+◌, ◌-◌, Bool,
 use Rattle.std.specs.Prelude.{slice_get, slice_set, slice_index_or, cond, nat_lt, nat_le, ◌||◌, ◌&&◌}
 use Rattle.rpy_base.specs.declared.outcome.Outcome.{Outcome}
 use Rattle.rpy_base.specs.declared.outcome.Outcome.TheVariants.{Returned}
-use Rattle.csub_tree.specs.State.{Value, Unset, Word, Byte, Flag, Fun, Null, Ptr, Static, Block, Core, After, Onward, Puts as PutsByte, Told, Over, Stuck, Event, Made, Freed}
+use Rattle.csub_tree.specs.State.{Value, Unset, Ptr, Static, Block, Core, After, Onward, Puts as PutsByte, Told, Over, Stuck, Event}
 use Rattle.csub_tree.specs.Layout.{Shape, shape_at, begins_with, place}
 use Rattle.csub_tree.specs.Operation.{Answer, is_unset, word_of, unary_of, binary_of, flag_of}
 use Rattle.csub_tree.specs.Statement as st
@@ -23,7 +23,7 @@ use Rattle.ll_code.specs.declared.program.LlBlock.{LlBlock}
 use Rattle.ll_code.specs.declared.program.LlGraph.{LlGraph}
 use Rattle.ll_code.specs.declared.program.LlProgram.{LlProgram}
 use Rattle.ll_held.specs.Roots.{core_of}
-use Rattle.ll_events.specs.Told.{Marks, mark, told, IsThere, InOrder, EndsHere}
+use Rattle.ll_events.specs.Told.{Marks, mark, told, InOrder, EndsHere}
 use Rattle.ll_events.proofs.Orders.{mark_at, length_kept, length_map}
 
 abbrev pub marks_of : Core → Marks

@@ -1,5 +1,5 @@
 -- Along a run the events tell memory; and a run that ends has a state at which it does.
-use Rattle.std.proofs.Common.{◌≡◌, ℕ, zero, suc, ◌+◌, ◌≤◌, ◌<◌, ◌-◌, ◌⊎◌, inl, inr, ⊎_elim, ℤ, pos, negsuc, Bool, true, false, Result, Ok, Err, List, [], ◌∷◌, ◌++◌, map, Option, Some, None, refl, sym, ap, ◌∙◌, subst, arith}
+use Rattle.std.proofs.Common.{◌≡◌, ℕ, zero, suc, ◌+◌, ◌≤◌, ◌<◌, ◌-◌, ◌⊎◌, ⊎_elim, ℤ, pos, negsuc, Bool, true, false, Result, Ok, Err, List, [], ◌∷◌, ◌++◌, Option, Some, None, refl, sym, ap, ◌∙◌, subst, arith}
 use Rattle.rpy_base.specs.declared.outcome.Outcome.{Outcome}
 use Rattle.rpy_base.specs.declared.outcome.Outcome.TheVariants.{Returned, Running}
 use Rattle.csub_tree.specs.State.{Value, Unset, Word, Byte, Flag, Fun, Null, Ptr, Static, Block, Core, Event, Made, Freed, Onward, Over}
@@ -17,7 +17,7 @@ use Rattle.ll_code.specs.Machine.{step, start, goes_on, shapes_of, type_in}
 use Rattle.ll_code.specs.Meaning.{Ran, Ended, Unfinished, Ending, Came, StuckFor, Meant, LMeans, follow, run, meant_by, within, comes}
 use Rattle.ll_code.specs.declared.program.LlProgram.{LlProgram}
 use Rattle.ll_held.specs.Roots.{core_of}
-use Rattle.ll_events.specs.Told.{mark, told, InOrder, TellOf, EndsAt, EndsHere, IsLast, AddsTo}
+use Rattle.ll_events.specs.Told.{told, InOrder, TellOf, EndsAt, EndsHere, IsLast, AddsTo}
 use Rattle.ll_events.proofs.Orders.{told_both, order_both, events_tell}
 use Rattle.ll_events.proofs.Stepping.{marks_of, Hears, NextKeeps, step_tells, ends_here}
 

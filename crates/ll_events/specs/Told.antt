@@ -1,6 +1,6 @@
 -- What events tell of memory: which blocks were made, and which of them are gone.
-use Rattle.std.specs.Prelude.{◌≡◌, ◌<◌, ◌≤◌, ℕ, ℤ, suc, ◌+◌, ◌==◌, cond, List, [], ◌∷◌, ◌++◌, length, map, slice_get, slice_set, slice_index_or, Option, Some, None}
-use Rattle.csub_tree.specs.State.{Value, Word, Block, Event, Made, Freed}
+use Rattle.std.specs.Prelude.{◌≡◌, ◌<◌, ◌≤◌, ℕ, ℤ, suc, ◌+◌, ◌==◌, cond, List, [], ◌∷◌, ◌++◌, length, slice_get, slice_set, slice_index_or, Option, Some, None}
+use Rattle.csub_tree.specs.State.{Word, Block, Event, Made, Freed}
 use Rattle.csub_tree.specs.Meaning.{made_in, gone_in}
 use Rattle.ll_code.specs.State.{State, At, Returning}
 use Rattle.ll_code.specs.declared.program.LlOp.TheVariants as op

@@ -1,12 +1,10 @@
 -- In a state that stands for one of the program each count is exact.
-use Rattle.std.proofs.Common.{◌≡◌, ◌<◌, ◌≤◌, ℕ, zero, suc, ◌+◌, pos, Bool, true, false, List, [], ◌∷◌, ◌++◌, Option, Some, None, refl, sym, ap, ◌∙◌, subst, arith}
+use Rattle.std.proofs.Common.{◌≡◌, ◌<◌, ◌≤◌, ℕ, zero, suc, ◌+◌, pos, Bool, true, List, [], ◌∷◌, Option, Some, sym, ap, ◌∙◌, subst, arith}
 use Rattle.csub_tree.specs.State.{Value, Word, Ptr, Block, Core, Event}
 use Rattle.csub_tree.specs.Statement.{read}
 use Rattle.ll_code.specs.Machine.{start}
 use Rattle.ll_code.specs.Meaning.{Unfinished, run}
 use Rattle.ll_code.specs.State.{Frame, State, Calling, At, Returning, Throwing}
-use Rattle.ll_code.specs.declared.program.LlOp.{LlOp}
-use Rattle.ll_code.specs.declared.program.LlExit.{LlExit}
 use Rattle.ll_code.specs.declared.program.LlProgram.{LlProgram}
 use Rattle.ll_held.specs.Held.{times}
 use Rattle.ll_held.specs.Roots.{kept, slots, core_of}
@@ -26,10 +24,8 @@ use Rattle.refcount_laws.specs.Leaves.{given_to}
 use Rattle.refcount_laws.specs.Made.{counts_of}
 use Rattle.refcount_laws.specs.Matches.{Stands}
 use Rattle.refcount_laws.specs.Owned.{owns, owned, hits_by}
-use Rattle.refcount_laws.specs.Runs.{here}
-use Rattle.refcount_laws.specs.Slots.{slot_hits}
 use Rattle.refcount_laws.specs.Touched.{block_in}
-use Rattle.refcount_laws.specs.Whole.{Call, Waits, AllWait, StandsFor, slots_own, waits_own, beside}
+use Rattle.refcount_laws.specs.Whole.{Call, AllWait, StandsFor, slots_own, waits_own, beside}
 use Rattle.refcount_ready.specs.Programs.{CanBeCounted, RunsSmall, ComesAlong}
 use Rattle.refcount_ready.proofs.Composed.{comes_along}
 use Rattle.refcount_exact.specs.Exact.{in_blocks, inner, in_frames, outer, HasCount, IsExact, ComesExact}

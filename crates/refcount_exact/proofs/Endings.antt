@@ -4,14 +4,14 @@ use Rattle.std.specs.Prelude.{cond, slice_index_or, ◌==◌, ◌||◌}
 use Rattle.rpy_base.specs.declared.outcome.Outcome.TheVariants.{Returned}
 use Rattle.csub_tree.specs.Meaning.{made_in, gone_in}
 use Rattle.csub_tree.specs.Statement.{read}
-use Rattle.csub_tree.specs.State.{Value, Unset, Word, Byte, Flag, Fun, Null, Ptr, Static, Block, Core, Event}
+use Rattle.csub_tree.specs.State.{Value, Word, Null, Ptr, Static, Block, Core, Event}
 use Rattle.ll_code.specs.Machine.{start}
-use Rattle.ll_code.specs.Meaning.{Unfinished, Came, Meant, LMeans, run, within, comes}
-use Rattle.ll_code.specs.State.{Frame, State, Calling, At, Returning, Throwing}
+use Rattle.ll_code.specs.Meaning.{Unfinished, Came, Meant, run, within, comes}
+use Rattle.ll_code.specs.State.{Frame, State, At, Returning}
 use Rattle.ll_code.specs.declared.program.LlExit.TheVariants as exit
 use Rattle.ll_code.specs.declared.program.LlProgram.{LlProgram}
 use Rattle.ll_live.specs.Live.{live}
-use Rattle.ll_held.specs.Held.{times, is_block, Reaches, Held, Root, Cycle, From}
+use Rattle.ll_held.specs.Held.{times, Reaches, Held, Root, Cycle, From}
 use Rattle.ll_held.specs.Roots.{kept, roots, slots, core_of}
 use Rattle.ll_held.proofs.Keeping.{times_append, used_from, or_one}
 use Rattle.ll_laws.proofs.Values.{and_left, is_same}
@@ -22,7 +22,6 @@ use Rattle.refcount_transform.specs.Counted.{counted}
 use Rattle.refcount_laws.specs.Ghost.{Ghost}
 use Rattle.refcount_laws.specs.Means.{SameMeaning}
 use Rattle.refcount_laws.specs.Run.{RunStands, wider}
-use Rattle.refcount_laws.specs.Touched.{block_in}
 use Rattle.refcount_laws.specs.Whole.{Call, StandsFor}
 use Rattle.refcount_laws.proofs.Running.{run_stands}
 use Rattle.refcount_laws.proofs.Starting.{ghost, starts_stand}

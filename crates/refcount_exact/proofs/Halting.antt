@@ -1,27 +1,24 @@
 -- Where the program ends, the state of the counted program that stands for that one ends too, with its next step.
-use Rattle.std.proofs.Common.{◌≡◌, ℕ, ℤ, pos, negsuc, Bool, true, false, List, [], ◌∷◌, ◌++◌, length, Option, Some, None, Result, Ok, Err, refl, sym, ap, ◌∙◌, subst, ◌-◌, ◌+◌}
+use Rattle.std.proofs.Common.{◌≡◌, ℕ, ℤ, pos, negsuc, Bool, true, false, List, [], ◌∷◌, Option, Some, None, Result, Ok, Err, sym, ap, subst, ◌-◌, ◌+◌}
 use Rattle.std.specs.Prelude.{slice_get, nat_le, cond}
 use Rattle.rpy_base.specs.declared.outcome.Outcome.{Outcome}
 use Rattle.rpy_base.specs.declared.outcome.Outcome.TheVariants.{Running}
 use Rattle.csub_tree.specs.Layout.{Shape}
 use Rattle.csub_tree.specs.Operation.{word_of}
 use Rattle.csub_tree.specs.State.{Value, Block, Core, Onward, Over}
-use Rattle.csub_tree.specs.Statement.{read, operand, on, pay_steps, ended, fail, fail_name_of, raised, raised_as, reached, on_block, bytes_of}
+use Rattle.csub_tree.specs.Statement.{read, operand, on, pay_steps, fail, fail_name_of, raised, raised_as, reached, on_block, bytes_of}
 use Rattle.csub_tree.specs.declared.stuck.StuckReason.{StuckReason}
-use Rattle.csub_tree.specs.declared.tree.COperand.{COperand}
 use Rattle.csub_tree.specs.declared.tree.CType.{CType}
 use Rattle.csub_tree.specs.declared.tree.CType.TheVariants as c
-use Rattle.ll_code.specs.Machine.{step, goes_on, shapes_of, type_in, returned}
-use Rattle.ll_code.specs.State.{Frame, State, Calling, At, Returning, Throwing, Next, Goes, Puts, Tells, Ends, Sticks}
-use Rattle.ll_code.specs.declared.program.LlOp.{LlOp}
+use Rattle.ll_code.specs.Machine.{step, goes_on, shapes_of, type_in}
+use Rattle.ll_code.specs.State.{Frame, State, At, Returning, Next, Goes, Puts, Tells, Ends, Sticks}
 use Rattle.ll_code.specs.declared.program.LlOp.TheVariants as op
-use Rattle.ll_code.specs.declared.program.LlExit.{LlExit}
 use Rattle.ll_code.specs.declared.program.LlExit.TheVariants as exit
 use Rattle.ll_code.specs.declared.program.LlProgram.{LlProgram}
 use Rattle.refcount_transform.specs.Counted.{counted}
 use Rattle.refcount_laws.specs.Ghost.{Ghost, memory}
 use Rattle.refcount_laws.specs.Runs.{here as here_}
-use Rattle.refcount_laws.specs.Whole.{Call, AllWait, BothAt, BothReturning, StandsFor}
+use Rattle.refcount_laws.specs.Whole.{Call, AllWait, BothReturning, StandsFor}
 use Rattle.ll_events.specs.Told.{EndsHere}
 use Rattle.ll_events.proofs.Telling.{Halts}
 

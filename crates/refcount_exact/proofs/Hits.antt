@@ -1,6 +1,6 @@
 -- References that are counted are cells that hold the block, and each such cell where it stands at a place that is counted.
-use Rattle.std.proofs.Common.{◌≡◌, ◌⊎◌, inl, inr, ⊎_elim, ◌<◌, ◌≤◌, ℕ, zero, suc, ◌+◌, Bool, true, false, ◌==◌, List, [], ◌∷◌, ◌++◌, length, map, Option, Some, None, refl, sym, ap, ◌∙◌, subst, arith}
-use Rattle.std.specs.Prelude.{slice_set, slice_index_or, cond}
+use Rattle.std.proofs.Common.{◌≡◌, ◌⊎◌, inl, inr, ⊎_elim, ◌<◌, ◌≤◌, ℕ, zero, suc, ◌+◌, Bool, true, false, ◌==◌, List, [], ◌∷◌, Option, Some, None, refl, sym, ap, ◌∙◌, arith}
+use Rattle.std.specs.Prelude.{slice_set, cond}
 use Rattle.csub_tree.specs.State.{Value, Unset, Word, Byte, Flag, Fun, Null, Ptr, Static}
 use Rattle.csub_tree.specs.Statement.{read}
 use Rattle.ll_held.specs.Held.{times, is_block}
@@ -10,7 +10,7 @@ use Rattle.ll_laws.proofs.Values.{is_same}
 use Rattle.refcount_laws.specs.Graphs.{Reference}
 use Rattle.refcount_laws.specs.Ghost.{one, hit, occurs, field_references, Apart}
 use Rattle.refcount_laws.specs.Owned.{hits_by}
-use Rattle.refcount_laws.proofs.Cells.{set_here, set_other}
+use Rattle.refcount_laws.proofs.Cells.{set_other}
 
 one_is : (m n : ℕ) → 0 < one m n → m ≡ n
 one_is zero zero h = refl

@@ -1,12 +1,10 @@
 -- The references that are counted in blocks and slots are all that stand there.
-use Rattle.std.proofs.Common.{◌≡◌, ◌⊎◌, inl, inr, ◌<◌, ◌≤◌, ℕ, zero, suc, ◌+◌, Bool, true, false, List, [], ◌∷◌, ◌++◌, length, Option, Some, None, refl, sym, ap, ◌∙◌, subst, arith}
-use Rattle.std.specs.Prelude.{slice_get, slice_index_or}
-use Rattle.csub_tree.specs.Layout.{begins_with}
+use Rattle.std.proofs.Common.{◌≡◌, inl, inr, ◌<◌, ℕ, zero, suc, ◌+◌, Bool, true, false, List, [], ◌∷◌, ◌++◌, length, Option, Some, None, refl, sym, ap, ◌∙◌, subst, arith}
+use Rattle.std.specs.Prelude.{slice_get}
 use Rattle.csub_tree.specs.Operation.{is_unset}
 use Rattle.csub_tree.specs.State.{Value, Unset, Null, Ptr, Block, Core}
 use Rattle.csub_tree.specs.Statement.{read}
 use Rattle.ll_code.specs.Typed.{IsWellTyped, items_of}
-use Rattle.ll_code.specs.Machine.{shapes_of}
 use Rattle.ll_code.specs.declared.program.LlType.{LlType}
 use Rattle.ll_code.specs.declared.program.LlType.TheVariants as type
 use Rattle.ll_code.specs.declared.program.LlOp.{LlOp}
@@ -18,7 +16,7 @@ use Rattle.ll_held.specs.Held.{times, is_block, is_reference, cells}
 use Rattle.ll_held.specs.Roots.{slots}
 use Rattle.ll_held.proofs.Keeping.{times_append, block_is}
 use Rattle.ll_laws.specs.Fields.{fields_of}
-use Rattle.ll_laws.specs.Fits.{Fits, AllFit, BlockFits, MemoryFits}
+use Rattle.ll_laws.specs.Fits.{Fits, BlockFits, MemoryFits}
 use Rattle.ll_laws.proofs.Values.{and_left}
 use Rattle.ll_points.specs.Agrees as agrees
 use Rattle.ll_points.specs.Agrees.{Slots, Agrees, slots_of}
@@ -28,7 +26,7 @@ use Rattle.refcount_laws.specs.Graphs.{Counts}
 use Rattle.refcount_laws.specs.Ghost.{Ghost, Slot, S, no_slot, slot_at, count_of, count, bare, bare_at, shown, hit, occurs, references, field_references, item_references, held_by}
 use Rattle.refcount_laws.specs.Ghost as ghost_
 use Rattle.refcount_laws.specs.Made.{counts_of}
-use Rattle.refcount_laws.specs.Matches.{Near, AllNear, NearBlock, NearMemory}
+use Rattle.refcount_laws.specs.Matches.{Near, NearBlock, NearMemory}
 use Rattle.refcount_laws.specs.Owned.{hits_by}
 use Rattle.refcount_laws.specs.Slots.{slot_hits}
 use Rattle.refcount_laws.specs.Touched.{block_in}
@@ -36,7 +34,7 @@ use Rattle.refcount_laws.proofs.Numbers.{Based, all_based}
 use Rattle.refcount_typed.specs.Leads.{LeadsToRoots}
 use Rattle.refcount_ready.proofs.Pointers.{begins_counted, counted_refers, typed_at}
 use Rattle.refcount_ready.proofs.Slots.{Found, slots_found}
-use Rattle.refcount_ready.proofs.Tests.{Stands, all_roots}
+use Rattle.refcount_ready.proofs.Tests.{all_roots}
 use Rattle.refcount_exact.specs.Exact.{in_blocks}
 use Rattle.refcount_exact.proofs.Hits.{hit_block, hit_times, occurs_times, no_place, fields_exact}
 use Rattle.refcount_exact.proofs.Places.{all_distinct, each_place}

@@ -3,6 +3,7 @@ pub mod Endings
 pub mod Halting
 pub mod Hits
 pub mod Inner
+pub mod Payments
 pub mod Places
 pub mod Rows
 pub mod There

@@ -1,13 +1,12 @@
 -- Rows: a list of two links whose second is held twice, and once more by a variable; and a run that leaves nothing.
-use Rattle.std.proofs.Common.{◌≡◌, ◌≤◌, ℕ, zero, suc, ◌+◌, pos, List, [], ◌∷◌, Option, Some, None, refl, sym, ap, ◌∙◌, arith}
+use Rattle.std.proofs.Common.{◌≡◌, ◌≤◌, ℕ, zero, suc, pos, [], ◌∷◌, Some, None, refl, sym, arith}
 use Rattle.std.proofs.Common.{codes}
 use Rattle.std.specs.Int.{int_wrap}
 use Rattle.rpy_base.specs.declared.outcome.Outcome.TheVariants.{Returned}
-use Rattle.csub_tree.specs.State.{Value, Word, Fun, Null, Ptr, Block, Core, Made}
+use Rattle.csub_tree.specs.State.{Word, Fun, Null, Ptr, Block, Core, Made}
 use Rattle.csub_tree.specs.declared.tree.CConst.TheVariants as constant
 use Rattle.csub_tree.specs.declared.tree.COperand.TheVariants.{Var, Const}
-use Rattle.csub_tree.specs.Statement.{read}
-use Rattle.ll_code.specs.State.{Frame, State, At, Returning}
+use Rattle.ll_code.specs.State.{State, At, Returning}
 use Rattle.ll_code.specs.Machine.{shapes_from}
 use Rattle.ll_code.specs.Meaning.{Meant, LMeans, Came, run}
 use Rattle.ll_code.specs.Typed.{begins_within}
@@ -16,7 +15,6 @@ use Rattle.ll_code.specs.declared.program.LlType.TheVariants as type
 use Rattle.ll_code.specs.declared.program.LlOp.TheVariants as op
 use Rattle.ll_code.specs.declared.program.LlProgram.{LlProgram}
 use Rattle.ll_code.specs.declared.program.LlExit.TheVariants as exit
-use Rattle.ll_held.specs.Roots.{core_of}
 use Rattle.ll_held.specs.Held.{Refers, Reaches, Next, Then}
 use Rattle.ll_events.specs.Told.{EndsAt}
 use Rattle.refcount_transform.specs.Counted.{counted}

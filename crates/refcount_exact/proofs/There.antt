@@ -1,6 +1,6 @@
 -- A block that is there in a state which stands for one of the program is held there.
-use Rattle.std.proofs.Common.{◌≡◌, ◌<◌, ℕ, zero, suc, ◌+◌, List, Option, Some, None, sym, ap, ◌∙◌, arith}
-use Rattle.csub_tree.specs.State.{Value, Block}
+use Rattle.std.proofs.Common.{◌≡◌, ◌<◌, ℕ, zero, suc, ◌+◌, List, Option, Some, sym, ap, ◌∙◌, arith}
+use Rattle.csub_tree.specs.State.{Block}
 use Rattle.ll_code.specs.State.{Frame, State, Calling, At, Returning, Throwing}
 use Rattle.ll_code.specs.declared.program.LlProgram.{LlProgram}
 use Rattle.ll_live.specs.Live.{live}

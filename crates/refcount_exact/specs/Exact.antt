@@ -1,7 +1,7 @@
 -- When the counts of a state are exact: the first word of each block is the number of references to it from blocks and exception slots,
 -- and of those that frames own, which stand in their variables.
 use Rattle.std.specs.Prelude.{◌≡◌, ◌≤◌, ℕ, ◌+◌, pos, List, [], ◌∷◌, slice_index_or, Option, Some, None}
-use Rattle.csub_tree.specs.State.{Word, Block, Core, Event}
+use Rattle.csub_tree.specs.State.{Word, Block, Core}
 use Rattle.csub_tree.specs.Statement.{read}
 use Rattle.ll_code.specs.State.{Frame, State, Calling, At, Returning, Throwing}
 use Rattle.ll_code.specs.declared.program.LlProgram.{LlProgram}

@@ -4,14 +4,16 @@ ghost use Rattle.rpy_base.specs.declared.outcome.Outcome.TheVariants.{Returned};
 ghost use Rattle.csub_tree.specs.State.{Static, Core, Event};
 ghost use Rattle.csub_tree.specs.Statement.{read};
 ghost use Rattle.ll_code.specs.Machine.{start};
-ghost use Rattle.ll_code.specs.Meaning.{Came, Meant, Unfinished, run, comes};
+ghost use Rattle.ll_code.specs.Meaning.{Came, Meant, LMeans, Unfinished, run, comes};
 ghost use Rattle.ll_code.specs.State.{State, At};
 ghost use Rattle.ll_code.specs.declared.program.LlExit.TheVariants as exit;
 ghost use Rattle.ll_code.specs.declared.program.LlProgram.{LlProgram};
 ghost use Rattle.ll_held.specs.Roots.{core_of};
 ghost use Rattle.ll_events.specs.Told.{EndsAt};
+ghost use Rattle.refcount_transform.specs.Counted.{counted};
 ghost use Rattle.refcount_ready.specs.Programs.{CanBeCounted, RunsSmall};
 ghost use Rattle.refcount_exact.specs.Exact.{ComesExact};
+ghost use Rattle.refcount_exact.specs.Payments.{Pays, StandsExact};
 ghost use Rattle.refcount_exact.specs.Endings.{EndsHolding, ReturnsExact, EndsEmpty, IsClear};
 
 /// Where a run of a program that can be counted ends, the counted program ends the same way, in a state
@@ -45,4 +47,10 @@ pub fn raised_runs_leave_nothing()
 /// than that and the number of references in the variables of all frames.
 pub fn counts_are_exact()
     ensures { (p : LlProgram) → CanBeCounted p → (args : List (List ℕ)) (steps : ℕ) → RunsSmall p args steps → (k : ℕ) (s : State) (text : List ℕ) (events : List Event) → run p args k (start p steps) [] [] ≡ Unfinished s text events → ComesExact p args steps k s text }
+{}
+
+/// Where such a run is never stuck, the counted program pays for steps, one or more at a time, only in
+/// states that stand for one to which the program's run comes; and in each of them its counts are exact.
+pub fn payments_are_counted()
+    ensures { (p : LlProgram) → CanBeCounted p → (args : List (List ℕ)) (steps : ℕ) → RunsSmall p args steps → ((m : Meant) → LMeans p args steps m → comes m.ending) → (j : ℕ) (t : State) (text : List ℕ) (events : List Event) → run (counted p) args j (start (counted p) steps) [] [] ≡ Unfinished t text events → Pays t → StandsExact p args steps t }
 {}

@@ -5,6 +5,6 @@
 mod laws;
 
 pub use laws::{
-    counts_are_exact, raised_runs_leave_nothing, returned_runs_count_exactly,
+    counts_are_exact, payments_are_counted, raised_runs_leave_nothing, returned_runs_count_exactly,
     returned_runs_leave_nothing, what_is_left_is_held,
 };
