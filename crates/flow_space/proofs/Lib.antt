@@ -1,1 +1,3 @@
+-- Lemmas.
 pub mod Counted
+pub mod Parts

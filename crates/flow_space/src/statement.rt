@@ -456,12 +456,14 @@ fn tried_scope(
     let covers = covers_of(classes, clauses, scope.covers);
     match bare {
         Some(default) => Ok(Scope {
+            locals: scope.locals,
             hands,
             default,
             covers,
             tried: true,
         }),
         None => Ok(Scope {
+            locals: scope.locals,
             hands: copy_hands(hands, scope.hands.as_slice())?,
             default: scope.default,
             covers,
@@ -565,6 +567,7 @@ fn put_finally(
     let ret = put_returned(alloc, code, classes, scope, last, m, t)?;
     let default = put_raised(alloc, code, classes, scope, node, last, m, t)?;
     let inner = Scope {
+        locals: scope.locals,
         hands: Seq::new(alloc),
         default,
         covers: scope.covers,

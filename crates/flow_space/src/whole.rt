@@ -2,31 +2,22 @@
 ghost use Rattle.std.specs.Prelude.{◌≡◌, length, IfOk};
 ghost use Rattle.flow_graph.specs.Whole.{CountFrom, Covers as CoversAll};
 
-use crate::code::{Aim, Code, Scope, jump_and, jump_first, op_at};
+use crate::code::{Aim, Code, Scope, jump_and, jump_first, no_covers, op_at};
 use crate::places::narrow;
 use crate::statement::{Ways, put_block};
 use crate::{NEVER, RETURN};
 use flow_graph::{Graph, Graphs};
 use rpy_base::{NoMem, Seq};
-use rpy_meaning::{Covers, RowOp};
+use rpy_meaning::RowOp;
 use rpy_resolved::{Class, Function, Resolved, resolved};
 use rpy_tree::{FunId, Program};
 use std::alloc::Global;
-
-fn no_covers() -> Covers {
-    Covers {
-        index: false,
-        zero: false,
-        number: false,
-        attribute: false,
-    }
-}
 
 // The end of the body gives None.
 fn put_end(alloc: Global, code: &mut Code, function: &Function, m: usize) -> Result<u64, NoMem> {
     let of = op_at(function.node, false, RowOp::None);
     let jump = jump_and(alloc, RETURN, 0, m)?;
-    code.put_plain(alloc, no_covers(), of, m, jump)
+    code.put_plain(alloc, of, m, jump)
 }
 
 // Nothing goes on from here.
@@ -65,6 +56,7 @@ fn graph_of(
         },
     };
     let scope = Scope {
+        locals,
         hands: Seq::new(alloc),
         default: Aim {
             to: raising,
