@@ -1,3 +1,5 @@
 -- Lemmas.
 pub mod Counted
+pub mod Items
+pub mod Layers
 pub mod Parts

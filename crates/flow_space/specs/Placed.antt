@@ -1,5 +1,5 @@
 -- What appended blocks say of every graph that they end up in, whatever program it is of.
-use Rattle.std.specs.Prelude.{◌≡◌, ℕ, ◌+◌, ◌<◌, ◌≤◌, ◌⊎◌, Bool, true, false, cond, List, [], ◌∷◌, ◌++◌, length, slice_get, map, Option, Some, None}
+use Rattle.std.specs.Prelude.{◌≡◌, ℕ, ℤ, ◌+◌, ◌<◌, ◌≤◌, ◌⊎◌, Bool, true, false, cond, List, [], ◌∷◌, ◌++◌, length, slice_get, map, Option, Some, None}
 use Rattle.rpy_meaning.specs.declared.row.RowOp.{RowOp}
 use Rattle.rpy_meaning.specs.declared.row.RowOp.TheVariants as row
 use Rattle.rpy_meaning.specs.Tree as tree
@@ -14,7 +14,7 @@ use Rattle.flow_graph.specs.declared.graph.Block.{Block}
 use Rattle.flow_graph.specs.declared.graph.Graph.{Graph}
 use Rattle.flow_graph.specs.declared.graph.Graphs.{Graphs}
 use Rattle.flow_meaning.specs.Machine.{block_in}
-use Rattle.flow_stands.specs.Places.{Aim, Hand, Scope, Ways, Jump, Shape, range, first, first_and}
+use Rattle.flow_stands.specs.Places.{Aim, Hand, Scope, Ways, Jump, Shape, Fork, range, first, first_and, stored}
 use Rattle.flow_stands.specs.Stands as stands
 use Rattle.flow_stands.specs.Stands.{Branch, count}
 use Rattle.flow_space.specs.Trees.{program_of, expr_of, exprs_of, pairs_of, subject_of, target_of, targets_of, condition_of, stmt_of, block_of, clauses_of}
@@ -23,6 +23,9 @@ use Rattle.flow_space.specs.declared.code.Hand as code_hand
 use Rattle.flow_space.specs.declared.code.Jump as code_jump
 use Rattle.flow_space.specs.declared.code.Scope as code_scope
 use Rattle.flow_space.specs.declared.expression.Branch as code_branch
+use Rattle.flow_space.specs.declared.narrow.Kind.{Kind}
+use Rattle.flow_space.specs.declared.narrow.Kind.TheVariants as kind
+use Rattle.flow_space.specs.declared.narrow.Narrowing.{Narrowing}
 use Rattle.flow_space.specs.declared.statement.Ways as code_ways
 
 -- from the block with a number on, the graph of function f has these blocks
@@ -67,6 +70,23 @@ branch_of b = record { to = b.to; value = b.value }
 abbrev pub ways_of : code_ways.Ways → Ways
 ways_of t = record { norm = t.norm; brk = aim_of t.brk; cont = aim_of t.cont; ret = aim_of t.ret }
 
+-- ---- narrowings
+
+abbrev pub narrowing_op : Kind → RowOp
+narrowing_op kind.DropNone = row.DropNone
+narrowing_op kind.OnlyNone = row.OnlyNone
+narrowing_op kind.FalseNone = row.FalseNone
+narrowing_op (kind.Lower c) = row.Lower c
+narrowing_op (kind.NonNegative side) = row.NonNegative
+
+-- the local, and one of the places from m on before the value, or the value
+abbrev pub IsBeside : List ℕ → ℕ → ℕ → ℕ → Type 0
+IsBeside args i m value = (side : ℕ) × (args ≡ i ∷ side ∷ []) × (m ≤ side) × (side < value + 1)
+
+abbrev pub AreArgs : Kind → List ℕ → ℕ → ℕ → ℕ → Type 0
+AreArgs (kind.NonNegative side) args i m value = IsBeside args i m value
+AreArgs other args i m value = args ≡ i ∷ []
+
 -- ---- what stands
 
 abbrev pub ShapeAt : ℕ → ℕ → Shape → At
@@ -88,11 +108,35 @@ module _ (sc : code_scope.Scope) where
   abbrev pub ApplyAt : RowOp → List Expr → ℕ → ℕ → ℕ → At
   ApplyAt o es b m q = λ r gs f. stands.HasExpr (program_of r) gs false f sc.locals (scope_of sc) (tree.Apply o (exprs_of r.sites es)) b m q
 
+  -- `not` of a test as a value
+  abbrev pub NotAt : Expr → ℕ → ℕ → ℕ → At
+  NotAt a b m q = λ r gs f.
+      stands.NotAt (program_of r) gs false f sc.locals (scope_of sc) (stands.HasTest (program_of r) gs false f sc.locals (scope_of sc) (expr_of r.sites a)) b m q
+
+  -- `and` where the flag is true, else `or`
+  abbrev pub LogicAt : Bool → Expr → Expr → ℕ → ℕ → ℕ → At
+  LogicAt is_and a e b m q = λ r gs f.
+      stands.HasExpr (program_of r) gs false f sc.locals (scope_of sc) (cond is_and (tree.And (expr_of r.sites a) (expr_of r.sites e)) (tree.Or (expr_of r.sites a) (expr_of r.sites e))) b m q
+
+  abbrev pub DisplayAt : ℕ → List (Expr × Expr) → ℕ → ℕ → ℕ → At
+  DisplayAt site pairs b m q = λ r gs f. stands.HasExpr (program_of r) gs false f sc.locals (scope_of sc) (tree.Display site (pairs_of r.sites pairs)) b m q
+
+  abbrev pub ComprehensionAt : ℕ → Expr → Target → Subject → Option Expr → ℕ → ℕ → ℕ → At
+  ComprehensionAt site item target subject condition b m q = λ r gs f.
+      stands.HasExpr (program_of r) gs false f sc.locals (scope_of sc)
+      (tree.Comprehension site (expr_of r.sites item) (target_of r.sites target) (subject_of r.sites subject) (condition_of r.sites condition)) b m q
+
   abbrev pub TestAt : Expr → ℕ → ℕ → ℕ → ℕ → At
   TestAt e b m so other_way = λ r gs f. stands.HasTest (program_of r) gs false f sc.locals (scope_of sc) (expr_of r.sites e) b m so other_way
 
-  abbrev pub NegatedAt : List Expr → ℕ → ℕ → ℕ → ℕ → At
-  NegatedAt es b m so other_way = λ r gs f. stands.HasTest (program_of r) gs false f sc.locals (scope_of sc) (tree.Apply row.Not (exprs_of r.sites es)) b m so other_way
+  -- a block in which a local is narrowed, and the way to it
+  abbrev pub NarrowedAt : Narrowing → ℕ → ℕ → ℕ → Jump → At
+  NarrowedAt narrowing m value to jump = λ r gs f.
+      (b : ℕ) × (args : List ℕ)
+      × (narrowing.local < sc.locals)
+      × stands.Narrows (program_of r) gs false f sc.locals sc.covers (narrowing_op narrowing.kind) narrowing.local args m value
+      × stands.Acts (program_of r) gs false f sc.locals (scope_of sc) b (narrowing_op narrowing.kind) args (value + 1) (stored to m narrowing.local (value + 1))
+      × (jump ≡ first b (value + 1))
 
   abbrev pub WayAt : Expr → ℕ → ℕ → Branch → Jump → At
   WayAt e m value branch jump = λ r gs f. stands.Way (program_of r) gs false f sc.locals (scope_of sc) (expr_of r.sites e) m value branch jump
@@ -114,8 +158,43 @@ module _ (sc : code_scope.Scope) where
   abbrev pub PairsAt : List (Expr × Expr) → ℕ → ℕ → ℕ → At
   PairsAt pairs b m q = λ r gs f. stands.HasPairs (program_of r) gs false f sc.locals (scope_of sc) (pairs_of r.sites pairs) b m q
 
+  -- a pair is stored to the dict at m
+  abbrev pub PairAt : Expr × Expr → ℕ → ℕ → ℕ → At
+  PairAt pair b m next = λ r gs f.
+      (k l : ℕ)
+      × stands.HasExpr (program_of r) gs false f sc.locals (scope_of sc) (expr_of r.sites pair.0) b (m + 1) k
+      × stands.HasExpr (program_of r) gs false f sc.locals (scope_of sc) (expr_of r.sites pair.1) k (m + 1 + 1) l
+      × stands.Acts (program_of r) gs false f sc.locals (scope_of sc) l row.StoreIndex (m ∷ (m + 1) ∷ (m + 2) ∷ []) (m + 3) (first next (m + 1))
+
+  -- a turn of a walk, from the question for an item on
+  abbrev pub TurnAt : Option ℤ → ℕ → ℕ → ℕ → Jump → ℕ → At
+  TurnAt step over all turn after begin = λ r gs f.
+      (fork paid item : ℕ)
+      × stands.Acts (program_of r) gs false f sc.locals (scope_of sc) begin (row.HasItem step) (over ∷ (over + 1) ∷ []) all (first_and fork all all)
+      × stands.Is (program_of r) gs false f sc.locals fork (all + 1) (Fork all (first paid all) after)
+      × stands.Acts (program_of r) gs false f sc.locals (scope_of sc) paid row.Turn [] all (first item all)
+      × stands.Acts (program_of r) gs false f sc.locals (scope_of sc) item (row.Item step) (over ∷ (over + 1) ∷ []) all (first_and turn all all)
+
+  abbrev pub GatherAt : Expr → Option Expr → ℕ → ℕ → ℕ → ℕ → At
+  GatherAt item condition list m advance b = λ r gs f.
+      stands.GatherAt (program_of r) gs false f sc.locals (scope_of sc)
+      (stands.HasExpr (program_of r) gs false f sc.locals (scope_of sc) (expr_of r.sites item))
+      (stands.HasCondition (program_of r) gs false f sc.locals (scope_of sc) (condition_of r.sites condition)) list b m advance
+
   abbrev pub SubjectAt : Subject → ℕ → ℕ → ℕ → At
   SubjectAt subject b m q = λ r gs f. stands.HasSubject (program_of r) gs false f sc.locals (scope_of sc) (subject_of r.sites subject) b m q
 
   abbrev pub BindAt : Target → ℕ → ℕ → ℕ → ℕ → ℕ → At
   BindAt target value m keep b q = λ r gs f. stands.HasBind (program_of r) gs false f sc.locals (scope_of sc) (target_of r.sites target) value m keep b q
+
+  abbrev pub ItemAt : Expr → Expr → ℕ → ℕ → ℕ → ℕ → ℕ → At
+  ItemAt a i value m keep b q = λ r gs f.
+      stands.HasBind (program_of r) gs false f sc.locals (scope_of sc) (tree.Item (expr_of r.sites a) (expr_of r.sites i)) value m keep b q
+
+  abbrev pub PartsAt : List Target → ℕ → ℕ → ℕ → ℕ → ℕ → At
+  PartsAt parts value m keep b q = λ r gs f.
+      stands.HasBind (program_of r) gs false f sc.locals (scope_of sc) (tree.Parts (targets_of r.sites parts)) value m keep b q
+
+  abbrev pub ItemsAt : List Target → ℕ → ℕ → ℕ → ℕ → ℕ → ℕ → At
+  ItemsAt parts count place value m b q = λ r gs f.
+      stands.HasItems (program_of r) gs false f sc.locals (scope_of sc) (targets_of r.sites parts) count place value m b q

@@ -1,5 +1,5 @@
 // The blocks of a function so far, and how one more is put after them.
-ghost use Rattle.std.specs.Prelude.{◌≡◌, ◌+◌, false, [], ◌∷◌, ◌++◌, length, slice_set, IfOk, OnOk};
+ghost use Rattle.std.specs.Prelude.{◌≡◌, ◌+◌, ◌<◌, false, [], ◌∷◌, ◌++◌, length, slice_set, IfOk, OnOk};
 ghost use Rattle.rpy_meaning.specs.Classes.{no_covers};
 ghost use Rattle.flow_stands.specs.Places.{range, first as on_first, first_and as on_first_and, stored as on_stored, stored_if_any, hand_jumps, shift, link as link_of, links, act, numbered, Go, Fork, Does, Plain, GiveBack, GiveUp};
 ghost use Rattle.flow_space.specs.Placed.{Part, Headed, ShapeAt, ActsAt, aim_of, hands_of, jump_of};
@@ -77,6 +77,19 @@ pub fn op_at(node: NodeId, value: bool, op: RowOp) -> Act
     ensures { result ≡ record { node = node; value = value; op = op } }
 {
     Act { node, value, op }
+}
+
+/// The place of a local. Names are bound in a tree, which has no other local than its function's.
+pub fn local_place(scope: &Scope, local: u32) -> Result<usize, NoMem>
+    ensures place { IfOk result (λ place. place ≡ local) }
+    ensures within { OnOk result (local < scope.now.locals) }
+{
+    let place = local as usize;
+    if place < scope.locals {
+        Ok(place)
+    } else {
+        Err(NoMem)
+    }
 }
 
 /// On to a block with the first variables.

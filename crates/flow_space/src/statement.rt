@@ -364,7 +364,8 @@ fn put_for(
     let more = plus(walk.all, 1)?;
     let bind = put_bind(alloc, code, scope, target, walk.all, more, walk.all, begin)?;
     let done = jump_first(alloc, t.norm, m)?;
-    put_turn(alloc, code, scope, walk, head, bind, done)?;
+    let asked = put_turn(alloc, code, scope, walk, bind, done)?;
+    code.aim(alloc, head, asked)?;
     put_subject(alloc, code, scope, subject, node, m, head.number)
 }
 

@@ -25,9 +25,6 @@ decreases-put_logic l = 16 * (expr_size l.a.now + expr_size l.b.now) + 6
 abbrev pub decreases-put_test : goal.decreases-put_test
 decreases-put_test l = 16 * expr_size l.e.now + 7
 
-abbrev pub decreases-put_negated : goal.decreases-put_negated
-decreases-put_negated l = 16 * exprs_size l.es.now + 8
-
 abbrev pub decreases-put_branches : goal.decreases-put_branches
 decreases-put_branches l = 16 * expr_size l.e.now + 6
 

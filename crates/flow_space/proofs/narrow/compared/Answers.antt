@@ -1,0 +1,11 @@
+use Rattle.std.proofs.Common.{◌≡◌, ◌⊎◌, inl, inr, List, sym, ap, ◌∙◌, arith}
+use Rattle.flow_stands.specs.Stands.{Reads, is_local, some_is_local}
+use Rattle.flow_space.specs.Trees.{expr_of, exprs_of}
+use Rattle.flow_space.proofs.Items.{some_map, one_item, two_items}
+use Rattle.flow_space.proofs.narrow.compared.Goals as goal
+
+pub returns-in-Is : goal.returns-in-Is
+returns-in-Is c = some_map c.none_test.result (λ says h sites. inl (h sites)) c.none_test.ensures
+
+pub returns-in-IsNot : goal.returns-in-IsNot
+returns-in-IsNot c = some_map c.none_test-in-IsNot.result (λ says h sites. inl (h sites)) c.none_test-in-IsNot.ensures
