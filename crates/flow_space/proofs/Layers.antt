@@ -1,5 +1,9 @@
 -- The trees of a resolved program, a layer at a time.
-use Rattle.std.proofs.Common.{◌≡◌, ℕ, ℤ, Bool, List, Option, Some, None, sym, ap, ◌∙◌}
+use Rattle.std.proofs.Common.{◌≡◌, ℕ, ℤ, Bool, List, [], ◌∷◌, length, Option, Some, None, refl, sym, ap, ◌∙◌, arith}
+use Rattle.rpy_meaning.specs.Meaning.{target_count}
+use Rattle.rpy_meaning.specs.Operations.{constant}
+use Rattle.rpy_resolved.specs.declared.tree.Resolved.{Resolved}
+use Rattle.flow_stands.specs.Stands.{count}
 use Rattle.rpy_tree.specs.declared.program.Const.{Const}
 use Rattle.rpy_tree.specs.declared.program.Site.{Site}
 use Rattle.rpy_meaning.specs.declared.row.RowOp.{RowOp}
@@ -21,9 +25,21 @@ use Rattle.rpy_resolved.specs.declared.tree.Stmt.TheOpen.{Stmt-F}
 use Rattle.rpy_resolved.specs.declared.tree.Stmt.TheViews as stmt_views
 use Rattle.rpy_resolved.specs.declared.tree.Stmt.TheVariants as stmt
 use Rattle.flow_space.specs.Programs.{value_in}
-use Rattle.flow_space.specs.Trees.{Head, expr_step, subject_step, target_step, expr_of, exprs_of, pairs_of, subject_of, target_of, targets_of, condition_of, stmt_step, clause_step, stmt_of, block_of, clauses_of}
+use Rattle.flow_space.specs.Trees.{program_of, Head, expr_step, subject_step, target_step, expr_of, exprs_of, pairs_of, subject_of, target_of, targets_of, condition_of, stmt_step, clause_step, stmt_of, block_of, clauses_of}
+
+pub constant_in : (r : Resolved) (a : Const) → constant (program_of r).sites a ≡ value_in r.sites a
+unfolding program_of
+constant_in r a = ?
 
 module _ (sites : List Site) where
+  pub count_is : (es : List Expr) → count (exprs_of sites es) ≡ length es
+  count_is [] = refl
+  count_is (e ∷ es) = omega (arith, count_is es)
+
+  pub parts_count : (ts : List Target) → target_count (targets_of sites ts) ≡ length ts
+  parts_count [] = refl
+  parts_count (t ∷ ts) = omega (arith, parts_count ts)
+
 
   pub local_is : (n : ℕ) (i : ℕ) → expr_of sites (e.Local n i) ≡ tree.Local i
   local_is n i = ap (expr_of sites) (sym (views.rolls-Local n i)) ∙ code.fold-roll-Expr tree.Expr tree.Subject tree.Target (expr_step sites) (subject_step sites) (target_step sites) (Expr-F.Local n i)

@@ -2,4 +2,5 @@
 pub mod Counted
 pub mod Items
 pub mod Layers
+pub mod Narrows
 pub mod Parts

@@ -83,7 +83,7 @@ part_patch {old} {c1} {c2} {P} new base m k count to head y e2 =
 
 -- ---- results
 
-pub ok_map : {P Q : ℕ → Type 0} (result : Result ℕ NoMem) → ((b : ℕ) → P b → Q b) → IfOk result P → IfOk result Q
+pub ok_map : {A : Type 0} {P Q : A → Type 0} (result : Result A NoMem) → ((x : A) → P x → Q x) → IfOk result P → IfOk result Q
 ok_map (Ok b) g h = g b h
 ok_map (Err e) g h = h
 
