@@ -1,5 +1,5 @@
 -- What a pattern of a slice says of it, and results.
-use Rattle.std.proofs.Common.{◌≡◌, ℕ, zero, suc, ◌+◌, ◌<◌, ◌≤◌, List, [], ◌∷◌, length, get_or, drop, Option, Some, None, refl, sym, ap, ◌∙◌, arith}
+use Rattle.std.proofs.Common.{◌≡◌, ℕ, zero, suc, ◌+◌, ◌<◌, ◌≤◌, List, [], ◌∷◌, length, get_or, drop, take, ◌-◌, Option, Some, None, refl, sym, ap, ◌∙◌, arith}
 use Rattle.std.specs.Prelude.{IfSome}
 
 pub one_item : {A : Type 0} (xs : List A) (a : A) → 1 ≤ length xs → length xs < 2 → a ≡ get_or xs 0 a → xs ≡ a ∷ []
@@ -13,9 +13,15 @@ two_items {A = A} (x ∷ []) a b le lt e f = absurd (omega arith)
 two_items {A = A} (x ∷ y ∷ []) a b le lt e f = ap (λ (u : A). u ∷ y ∷ []) (sym e) ∙ ap (λ (u : A). a ∷ u ∷ []) (sym f)
 two_items {A = A} (x ∷ y ∷ z ∷ xs) a b le lt e f = absurd (omega arith)
 
-pub first_rest : {A : Type 0} (xs : List A) (a : A) (rest : List A) → 1 ≤ length xs → a ≡ get_or xs 0 a → rest ≡ drop 1 xs → xs ≡ a ∷ rest
-first_rest {A = A} [] a rest le e f = absurd (omega arith)
-first_rest {A = A} (x ∷ xs) a rest le e f = ap (λ (u : A). u ∷ xs) (sym e) ∙ ap (λ (u : List A). a ∷ u) (sym f)
+pub take_all : {A : Type 0} (xs : List A) → take (length xs) xs ≡ xs
+take_all [] = refl
+take_all {A = A} (x ∷ xs) = ap (λ (u : List A). x ∷ u) (take_all xs)
+
+pub first_rest : {A : Type 0} (xs : List A) (a : A) → 1 ≤ length xs → a ≡ get_or xs 0 a → xs ≡ a ∷ take (length xs - 1) (drop 1 xs)
+first_rest {A = A} [] a le e = absurd (omega arith)
+first_rest {A = A} (x ∷ xs) a le e =
+    let n : length (x ∷ xs) - 1 ≡ length xs = omega arith in
+    ap (λ (u : A). u ∷ xs) (sym e) ∙ ap (λ (u : List A). a ∷ u) (sym (ap (λ (k : ℕ). take k xs) n ∙ take_all xs))
 
 pub none_of : {A : Type 0} (xs : List A) → length xs < 1 → xs ≡ []
 none_of [] lt = refl

@@ -24,12 +24,13 @@ use Rattle.rpy_resolved.specs.declared.tree.Stmt.{Stmt}
 use Rattle.rpy_resolved.specs.declared.tree.Stmt.TheOpen.{Stmt-F}
 use Rattle.rpy_resolved.specs.declared.tree.Stmt.TheViews as stmt_views
 use Rattle.rpy_resolved.specs.declared.tree.Stmt.TheVariants as stmt
+use Rattle.flow_space.proofs.Sites.{constant_same}
 use Rattle.flow_space.specs.Programs.{value_in}
 use Rattle.flow_space.specs.Trees.{program_of, Head, expr_step, subject_step, target_step, expr_of, exprs_of, pairs_of, subject_of, target_of, targets_of, condition_of, stmt_step, clause_step, stmt_of, block_of, clauses_of}
 
 pub constant_in : (r : Resolved) (a : Const) → constant (program_of r).sites a ≡ value_in r.sites a
 unfolding program_of
-constant_in r a = ?
+constant_in r a = sym (constant_same r.sites a)
 
 module _ (sites : List Site) where
   pub count_is : (es : List Expr) → count (exprs_of sites es) ≡ length es

@@ -1,6 +1,8 @@
 -- Lemmas.
+pub mod Bases
 pub mod Counted
 pub mod Items
 pub mod Layers
 pub mod Narrows
 pub mod Parts
+pub mod Sites

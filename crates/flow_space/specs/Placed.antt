@@ -14,7 +14,7 @@ use Rattle.flow_graph.specs.declared.graph.Block.{Block}
 use Rattle.flow_graph.specs.declared.graph.Graph.{Graph}
 use Rattle.flow_graph.specs.declared.graph.Graphs.{Graphs}
 use Rattle.flow_meaning.specs.Machine.{block_in}
-use Rattle.flow_stands.specs.Places.{Aim, Hand, Scope, Ways, Jump, Shape, Fork, range, first, first_and, stored}
+use Rattle.flow_stands.specs.Places.{Aim, Hand, Scope, Ways, Jump, Shape, Go, Fork, onto, range, first, first_and, stored}
 use Rattle.flow_stands.specs.Stands as stands
 use Rattle.flow_stands.specs.Stands.{Branch, count}
 use Rattle.flow_space.specs.Trees.{program_of, expr_of, exprs_of, pairs_of, subject_of, target_of, targets_of, condition_of, stmt_of, block_of, clauses_of}
@@ -198,3 +198,88 @@ module _ (sc : code_scope.Scope) where
   abbrev pub ItemsAt : List Target → ℕ → ℕ → ℕ → ℕ → ℕ → ℕ → At
   ItemsAt parts count place value m b q = λ r gs f.
       stands.HasItems (program_of r) gs false f sc.locals (scope_of sc) (targets_of r.sites parts) count place value m b q
+
+  -- ---- statements
+
+  abbrev pub MarkAt : ℕ → ℕ → ℕ → At
+  MarkAt b m q = λ r gs f. stands.Mark (program_of r) gs false f sc.locals (scope_of sc) b m q
+
+  abbrev pub ReturnAt : Expr → ℕ → ℕ → code_ways.Ways → At
+  ReturnAt e b m t = λ r gs f. stands.HasStmt (program_of r) gs false f sc.locals (scope_of sc) (tree.Return (expr_of r.sites e)) b m (ways_of t)
+
+  abbrev pub DoAt : Expr → ℕ → ℕ → ℕ → At
+  DoAt e b m q = λ r gs f.
+      (k : ℕ) × stands.HasExpr (program_of r) gs false f sc.locals (scope_of sc) (expr_of r.sites e) b m k × stands.Is (program_of r) gs false f sc.locals k (m + 1) (Go (first q m))
+
+  abbrev pub AssignAt : List Target → Expr → ℕ → ℕ → ℕ → At
+  AssignAt ts e b m q = λ r gs f.
+      (k : ℕ) × stands.HasExpr (program_of r) gs false f sc.locals (scope_of sc) (expr_of r.sites e) b m k × stands.HasTargets (program_of r) gs false f sc.locals (scope_of sc) (targets_of r.sites ts) k m q
+
+  abbrev pub SimpleAt : Stmt → ℕ → ℕ → code_ways.Ways → At
+  SimpleAt s b m t = λ r gs f. stands.HasStmt (program_of r) gs false f sc.locals (scope_of sc) (stmt_of r.sites s) b m (ways_of t)
+
+  abbrev pub BindsAt : List Target → ℕ → ℕ → ℕ → At
+  BindsAt ts b m q = λ r gs f. stands.HasTargets (program_of r) gs false f sc.locals (scope_of sc) (targets_of r.sites ts) b m q
+
+  -- the operation on the old value and the right side
+  abbrev pub NewAt : RowOp → ℕ → ℕ → ℕ → At
+  NewAt o b m q = λ r gs f. stands.NewAt (program_of r) gs false f sc.locals (scope_of sc) o b m q
+
+  abbrev pub AugmentNameAt : ℕ → RowOp → Expr → ℕ → ℕ → ℕ → At
+  AugmentNameAt i o e b m q = λ r gs f. stands.HasAugment (program_of r) gs false f sc.locals (scope_of sc) (tree.Name i) o (expr_of r.sites e) b m q
+
+  abbrev pub AugmentAttrAt : Expr → List ℕ → RowOp → Expr → ℕ → ℕ → ℕ → At
+  AugmentAttrAt a name o e b m q = λ r gs f. stands.HasAugment (program_of r) gs false f sc.locals (scope_of sc) (tree.Attribute (expr_of r.sites a) name) o (expr_of r.sites e) b m q
+
+  abbrev pub AugmentItemAt : Expr → Expr → RowOp → Expr → ℕ → ℕ → ℕ → At
+  AugmentItemAt a i o e b m q = λ r gs f. stands.HasAugment (program_of r) gs false f sc.locals (scope_of sc) (tree.Item (expr_of r.sites a) (expr_of r.sites i)) o (expr_of r.sites e) b m q
+
+  abbrev pub AugmentAt : Target → RowOp → Expr → ℕ → ℕ → ℕ → At
+  AugmentAt t o e b m q = λ r gs f. stands.HasAugment (program_of r) gs false f sc.locals (scope_of sc) (target_of r.sites t) o (expr_of r.sites e) b m q
+
+  -- a statement, a block and clauses, of a program
+  module _ (program : Resolved) where
+    abbrev pub StmtAt : Stmt → ℕ → ℕ → code_ways.Ways → At
+    StmtAt s b m t = λ r gs f. r ≡ program → stands.HasStmt (program_of r) gs false f sc.locals (scope_of sc) (stmt_of r.sites s) b m (ways_of t)
+
+    abbrev pub BlockAt : List Stmt → ℕ → ℕ → code_ways.Ways → At
+    BlockAt ss b m t = λ r gs f. r ≡ program → stands.HasBlock (program_of r) gs false f sc.locals (scope_of sc) (block_of r.sites ss) b m (ways_of t)
+
+    abbrev pub IfAt : Expr → List Stmt → List Stmt → ℕ → ℕ → code_ways.Ways → At
+    IfAt e so other b m t = λ r gs f. r ≡ program → stands.HasStmt (program_of r) gs false f sc.locals (scope_of sc) (tree.If (expr_of r.sites e) (block_of r.sites so) (block_of r.sites other)) b m (ways_of t)
+
+    abbrev pub WhileAt : Expr → List Stmt → ℕ → ℕ → code_ways.Ways → At
+    WhileAt e ss b m t = λ r gs f. r ≡ program → stands.HasStmt (program_of r) gs false f sc.locals (scope_of sc) (tree.While (expr_of r.sites e) (block_of r.sites ss)) b m (ways_of t)
+
+    abbrev pub ForAt : Target → Subject → List Stmt → ℕ → ℕ → code_ways.Ways → At
+    ForAt target subject ss b m t = λ r gs f.
+        r ≡ program
+        → stands.HasStmt (program_of r) gs false f sc.locals (scope_of sc) (tree.For (target_of r.sites target) (subject_of r.sites subject) (block_of r.sites ss)) b m (ways_of t)
+
+    abbrev pub TryAt : List Stmt → List Clause → List Stmt → ℕ → ℕ → code_ways.Ways → At
+    TryAt ss cs other b m t = λ r gs f.
+        r ≡ program
+        → stands.HasStmt (program_of r) gs false f sc.locals (scope_of sc) (tree.Try (block_of r.sites ss) (clauses_of r.sites cs) (block_of r.sites other)) b m (ways_of t)
+
+    abbrev pub FinallyAt : List Stmt → List Stmt → ℕ → ℕ → code_ways.Ways → At
+    FinallyAt ss last b m t = λ r gs f. r ≡ program → stands.HasStmt (program_of r) gs false f sc.locals (scope_of sc) (tree.Finally (block_of r.sites ss) (block_of r.sites last)) b m (ways_of t)
+
+    -- these hands and this way for other exceptions are those of the clauses, and of what stands around
+    abbrev pub ClausesAt : List Clause → ℕ → code_ways.Ways → List Hand → Aim → At
+    ClausesAt cs m t hands default = λ r gs f. r ≡ program → stands.HasClauses (program_of r) gs false f sc.locals (scope_of sc) (clauses_of r.sites cs) m (ways_of t) hands default
+
+    -- the last part of a `finally`, and then on by a jump
+    abbrev pub LeftAt : List Stmt → ℕ → ℕ → Jump → code_ways.Ways → At
+    LeftAt last b m jump t = λ r gs f.
+        r ≡ program
+        → (out : ℕ)
+        × stands.HasBlock (program_of r) gs false f sc.locals (scope_of sc) (block_of r.sites last) b m (onto (ways_of t) out)
+        × stands.Is (program_of r) gs false f sc.locals out m (Go jump)
+
+    -- the last part with an exception held at m, which is raised again
+    abbrev pub RaisedAt : List Stmt → ℕ → ℕ → code_ways.Ways → At
+    RaisedAt last b m t = λ r gs f.
+        r ≡ program
+        → (out : ℕ)
+        × stands.HasBlock (program_of r) gs false f sc.locals (scope_of sc) (block_of r.sites last) b (m + 1) (onto (ways_of t) out)
+        × stands.Acts (program_of r) gs false f sc.locals (scope_of sc) out row.Raise (m ∷ []) (m + 1) (first stands.never_block 0)

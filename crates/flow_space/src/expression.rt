@@ -348,11 +348,13 @@ pub fn put_test(
             let right = put_test(alloc, code, scope, b.get(), *inner, m, yes, no)?;
             put_test(alloc, code, scope, a.get(), *inner, m, yes, right)
         }
-        Expr::Apply(inner, _, RowOp::Not, es) => match es.as_slice() {
-            [a] => put_test(alloc, code, scope, a, *inner, m, no, yes),
+        Expr::Apply(inner, _, op, es) => match op {
+            RowOp::Not => match es.as_slice() {
+                [a] => put_test(alloc, code, scope, a, *inner, m, no, yes),
+                _ => put_branches(alloc, code, scope, e, node, m, yes, no),
+            },
             _ => put_branches(alloc, code, scope, e, node, m, yes, no),
         },
-        Expr::Apply(_, _, _, _) => put_branches(alloc, code, scope, e, node, m, yes, no),
         Expr::Local(_, _) => put_branches(alloc, code, scope, e, node, m, yes, no),
         Expr::Constant(_, _) => put_branches(alloc, code, scope, e, node, m, yes, no),
         Expr::Display(_, _, _) => put_branches(alloc, code, scope, e, node, m, yes, no),
@@ -527,6 +529,24 @@ fn put_truth(
     )
 }
 
+// An expression and the truth of its value.
+#[cycle(expr)]
+fn put_whole(
+    alloc: Global,
+    code: &mut Code,
+    scope: &Scope,
+    e: &Expr,
+    node: NodeId,
+    m: usize,
+    yes: Branch,
+    no: Branch,
+) -> Result<u64, NoMem>
+    ensures { IfOk result (λ b. Part code.old.blocks code.new.blocks (AsksAt scope.now e.now b m (branch_of yes) (branch_of no))) }
+{
+    let truth = put_truth(alloc, code, scope, e, node, m, m, yes, no)?;
+    put_expr(alloc, code, scope, e, m, truth)
+}
+
 // A test that is neither `not` nor `and` nor `or`.
 #[cycle(expr)]
 fn put_simple(
@@ -542,30 +562,20 @@ fn put_simple(
     ensures { IfOk result (λ b. Part code.old.blocks code.new.blocks (AsksAt scope.now e.now b m (branch_of yes) (branch_of no))) }
 {
     match e {
-        Expr::Apply(inner, value, RowOp::Compare(op), es) => {
-            if needs_sides(e) {
-                let place = plus(m, es.len())?;
-                let truth = put_truth(alloc, code, scope, e, node, m, place, yes, no)?;
-                put_sides(
-                    alloc,
-                    code,
-                    scope,
-                    *inner,
-                    *value,
-                    *op,
-                    es.as_slice(),
-                    m,
-                    truth,
-                )
-            } else {
-                let truth = put_truth(alloc, code, scope, e, node, m, m, yes, no)?;
-                put_expr(alloc, code, scope, e, m, truth)
+        Expr::Apply(inner, value, op, es) => match op {
+            RowOp::Compare(op) => {
+                if needs_sides(e) {
+                    let place = plus(m, es.len())?;
+                    let truth = put_truth(alloc, code, scope, e, node, m, place, yes, no)?;
+                    let es = es.as_slice();
+                    put_sides(alloc, code, scope, *inner, *value, *op, es, m, truth)
+                } else {
+                    put_whole(alloc, code, scope, e, node, m, yes, no)
+                }
             }
-        }
-        _ => {
-            let truth = put_truth(alloc, code, scope, e, node, m, m, yes, no)?;
-            put_expr(alloc, code, scope, e, m, truth)
-        }
+            _ => put_whole(alloc, code, scope, e, node, m, yes, no),
+        },
+        _ => put_whole(alloc, code, scope, e, node, m, yes, no),
     }
 }
 
@@ -860,7 +870,8 @@ pub fn put_bind(
             let of = op_at(*node, true, RowOp::StoreAttr(name.copy(alloc)?));
             let args = two(alloc, m, value)?;
             let jump = jump_first(alloc, norm, keep)?;
-            let store = code.put_op(alloc, scope, of, args, plus(m, 1)?, jump)?;
+            let more = plus(m, 1)?;
+            let store = code.put_op(alloc, scope, of, args, more, jump)?;
             put_expr(alloc, code, scope, e, m, store)
         }
         Target::Item(node, a, i) => {
@@ -901,7 +912,8 @@ fn put_item(
     let args = three(alloc, m, index, value)?;
     let jump = jump_first(alloc, norm, keep)?;
     let of = op_at(node, true, RowOp::StoreIndex);
-    let store = code.put_op(alloc, scope, of, args, plus(m, 2)?, jump)?;
+    let all = plus(m, 2)?;
+    let store = code.put_op(alloc, scope, of, args, all, jump)?;
     let right = put_expr(alloc, code, scope, i, index, store)?;
     put_expr(alloc, code, scope, a, m, right)
 }

@@ -9,7 +9,7 @@ use crate::{NEVER, RETURN};
 use flow_graph::{Graph, Graphs};
 use rpy_base::{NoMem, Seq};
 use rpy_meaning::RowOp;
-use rpy_resolved::{Class, Function, Resolved, resolved};
+use rpy_resolved::{Function, Resolved, resolved};
 use rpy_tree::{FunId, Program};
 use std::alloc::Global;
 
@@ -29,7 +29,7 @@ fn put_never(alloc: Global, code: &mut Code) -> Result<u64, NoMem> {
 // The graph of a function: its head, and the blocks that leave it, stand first.
 fn graph_of(
     alloc: Global,
-    classes: &[Class],
+    program: &Resolved,
     number: FunId,
     function: &Function,
 ) -> Result<Graph, NoMem>
@@ -68,7 +68,7 @@ fn graph_of(
     let begin = put_block(
         alloc,
         &mut code,
-        classes,
+        program,
         &scope,
         function.body.as_slice(),
         locals,
@@ -85,14 +85,14 @@ fn graph_of(
 // The graph of the next function, with its number.
 fn next_graph(
     alloc: Global,
-    classes: &[Class],
+    program: &Resolved,
     graphs: &Seq<Graph>,
     function: &Function,
 ) -> Result<Graph, NoMem>
     ensures { IfOk result (λ graph. graph.function ≡ length graphs.now) }
 {
     let number = narrow(graphs.len())?;
-    graph_of(alloc, classes, number, function)
+    graph_of(alloc, program, number, function)
 }
 
 fn graphs_of(alloc: Global, resolved: &Resolved) -> Result<Seq<Graph>, NoMem>
@@ -101,7 +101,7 @@ fn graphs_of(alloc: Global, resolved: &Resolved) -> Result<Seq<Graph>, NoMem>
 {
     let mut graphs = Seq::new(alloc);
     for function in resolved.functions.as_slice() {
-        let graph = next_graph(alloc, resolved.classes.as_slice(), &graphs, function)?;
+        let graph = next_graph(alloc, resolved, &graphs, function)?;
         graphs.push(graph)?;
     }
     Ok(graphs)

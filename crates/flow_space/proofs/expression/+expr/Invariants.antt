@@ -31,6 +31,9 @@ decreases-put_branches l = 16 * expr_size l.e.now + 6
 abbrev pub decreases-put_simple : goal.decreases-put_simple
 decreases-put_simple l = 16 * expr_size l.e.now + 5
 
+abbrev pub decreases-put_whole : goal.decreases-put_whole
+decreases-put_whole l = 16 * expr_size l.e.now + 1
+
 abbrev pub decreases-put_sides : goal.decreases-put_sides
 decreases-put_sides l = 16 * exprs_size l.es.now + 3
 
