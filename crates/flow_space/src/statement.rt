@@ -1,5 +1,5 @@
 // Statements to blocks.
-ghost use Rattle.std.specs.Prelude.{◌≡◌, ◌+◌, ◌++◌, ◌∷◌, [], None, IfOk, OnOk};
+ghost use Rattle.std.specs.Prelude.{◌≡◌, ◌+◌, ◌++◌, ◌∷◌, [], IfOk, OnOk, Option};
 ghost use Rattle.rpy_meaning.specs.declared.row.RowOp.TheVariants as row;
 ghost use Rattle.flow_stands.specs.Places.{first as on_first, first_and as on_first_and, Go};
 ghost use Rattle.flow_stands.specs.Stands as stands;
@@ -218,14 +218,17 @@ fn put_augment_name(
     ensures { IfOk result (λ b. Part code.old.blocks code.new.blocks (AugmentNameAt scope.now local op.now e.now b m norm)) }
 {
     let more = plus(m, 1)?;
+    let place = local_place(scope, local)?;
+    let args = one(alloc, m)?;
     let jump = jump_stored(alloc, norm, m, local, more)?;
     let of = op_at(at, true, RowOp::Copy);
-    let store = code.put_op(alloc, scope, of, one(alloc, m)?, more, jump)?;
+    let store = code.put_op(alloc, scope, of, args, more, jump)?;
     let new = put_new(alloc, code, scope, node, op, m, store)?;
     let right = put_expr(alloc, code, scope, e, more, new)?;
+    let args = one(alloc, place)?;
     let jump = jump_and(alloc, right, m, m)?;
     let of = op_at(at, false, RowOp::Copy);
-    code.put_op(alloc, scope, of, one(alloc, local as usize)?, m, jump)
+    code.put_op(alloc, scope, of, args, m, jump)
 }
 
 fn put_augment_attr(
@@ -246,13 +249,15 @@ fn put_augment_attr(
     let old = plus(m, 1)?;
     let right = plus(m, 2)?;
     let jump = jump_first(alloc, norm, m)?;
+    let args = two(alloc, m, old)?;
     let of = op_at(at, true, RowOp::StoreAttr(name.copy(alloc)?));
-    let store = code.put_op(alloc, scope, of, two(alloc, m, old)?, right, jump)?;
+    let store = code.put_op(alloc, scope, of, args, right, jump)?;
     let new = put_new(alloc, code, scope, node, op, old, store)?;
     let value = put_expr(alloc, code, scope, e, right, new)?;
     let jump = jump_and(alloc, value, old, old)?;
+    let args = one(alloc, m)?;
     let of = op_at(at, false, RowOp::Attr(name.copy(alloc)?));
-    let read = code.put_op(alloc, scope, of, one(alloc, m)?, old, jump)?;
+    let read = code.put_op(alloc, scope, of, args, old, jump)?;
     put_expr(alloc, code, scope, a, m, read)
 }
 
@@ -275,13 +280,15 @@ fn put_augment_item(
     let old = plus(m, 2)?;
     let right = plus(m, 3)?;
     let jump = jump_first(alloc, norm, m)?;
+    let args = three(alloc, m, index, old)?;
     let of = op_at(at, true, RowOp::StoreIndex);
-    let store = code.put_op(alloc, scope, of, three(alloc, m, index, old)?, right, jump)?;
+    let store = code.put_op(alloc, scope, of, args, right, jump)?;
     let new = put_new(alloc, code, scope, node, op, old, store)?;
     let value = put_expr(alloc, code, scope, e, right, new)?;
     let jump = jump_and(alloc, value, old, old)?;
+    let args = two(alloc, m, index)?;
     let of = op_at(at, false, RowOp::Index(None));
-    let read = code.put_op(alloc, scope, of, two(alloc, m, index)?, old, jump)?;
+    let read = code.put_op(alloc, scope, of, args, old, jump)?;
     let place = put_expr(alloc, code, scope, i, index, read)?;
     put_expr(alloc, code, scope, a, m, place)
 }
@@ -476,9 +483,7 @@ fn put_bare(
     m: usize,
     begin: u64,
 ) -> Result<Caught, NoMem>
-    ensures hands { IfOk result (λ caught. (caught.hands ≡ []) × (caught.default.keep ≡ m)) }
-    ensures bare { OnOk result (local ≡ None) }
-    ensures put { IfOk result (λ caught. Part code.old.blocks code.new.blocks (ShapeAt caught.default.to (m + 1) (Go (on_first begin m)))) }
+    ensures { IfOk result (λ caught. (caught.hands ≡ []) × (caught.default.keep ≡ m) × (local ≡ Option.None) × Part code.old.blocks code.new.blocks (ShapeAt caught.default.to (m + 1) (Go (on_first begin m)))) }
 {
     match local {
         Some(_) => Err(NoMem),
@@ -626,7 +631,8 @@ fn put_raised(
     let more = plus(m, 1)?;
     let jump = jump_first(alloc, NEVER, 0)?;
     let of = op_at(node, false, RowOp::Raise);
-    let out = code.put_op(alloc, scope, of, one(alloc, m)?, more, jump)?;
+    let args = one(alloc, m)?;
+    let out = code.put_op(alloc, scope, of, args, more, jump)?;
     let begin = put_block(alloc, code, program, scope, last, more, t.on(out))?;
     Ok(Aim { to: begin, keep: m })
 }

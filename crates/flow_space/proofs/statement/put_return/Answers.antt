@@ -1,0 +1,7 @@
+use Rattle.std.proofs.Common.{◌≡◌, ℕ, suc, ◌+◌, ◌++◌, ◌∷◌, [], List, length, drop, refl, sym, ap, ◌∙◌, inl, inr, arith, add-one}
+use Rattle.flow_space.proofs.Items.{one_item, first_rest, none_of}
+use Rattle.flow_space.proofs.Parts.{ok_map, part_map, part_then, part_none, part_patch}
+use Rattle.flow_space.proofs.statement.put_return.Goals as goal
+
+pub returns : goal.returns
+returns c = ok_map c.put_expr.result (λ b h. part_map (λ r gs f k. (c.in_ok-out.out, k.1, k.0)) (part_then c.in_ok-out.ensures h)) c.put_expr.ensures
