@@ -23,6 +23,13 @@ first_rest {A = A} (x ∷ xs) a le e =
     let n : length (x ∷ xs) - 1 ≡ length xs = omega arith in
     ap (λ (u : A). u ∷ xs) (sym e) ∙ ap (λ (u : List A). a ∷ u) (sym (ap (λ (k : ℕ). take k xs) n ∙ take_all xs))
 
+pub rest_is : {A : Type 0} (xs : List A) → 2 ≤ length xs → (u : A) × (us : List A) × (take (length xs - 1) (drop 1 xs) ≡ u ∷ us)
+rest_is {A = A} [] le = absurd (omega arith)
+rest_is {A = A} (x ∷ []) le = absurd (omega arith)
+rest_is {A = A} (x ∷ u ∷ us) le =
+    let n : length (x ∷ u ∷ us) - 1 ≡ length (u ∷ us) = omega arith in
+    (u, us, ap (λ (k : ℕ). take k (u ∷ us)) n ∙ take_all (u ∷ us))
+
 pub none_of : {A : Type 0} (xs : List A) → length xs < 1 → xs ≡ []
 none_of [] lt = refl
 none_of (x ∷ xs) lt = absurd (omega arith)

@@ -1,6 +1,8 @@
 -- The trees of a resolved program, a layer at a time.
-use Rattle.std.proofs.Common.{◌≡◌, ℕ, ℤ, Bool, List, [], ◌∷◌, length, Option, Some, None, refl, sym, ap, ◌∙◌, arith}
+use Rattle.std.proofs.Common.{◌≡◌, ℕ, ℤ, Bool, List, [], ◌∷◌, length, Option, Some, None, refl, sym, ap, ◌∙◌, arith, rules}
 use Rattle.rpy_meaning.specs.Meaning.{target_count}
+use Rattle.rpy_meaning.specs.Classes.{covers_within}
+use Rattle.rpy_meaning.specs.declared.row.Covers.{Covers}
 use Rattle.rpy_meaning.specs.Operations.{constant}
 use Rattle.rpy_resolved.specs.declared.tree.Resolved.{Resolved}
 use Rattle.flow_stands.specs.Stands.{count}
@@ -26,7 +28,7 @@ use Rattle.rpy_resolved.specs.declared.tree.Stmt.TheViews as stmt_views
 use Rattle.rpy_resolved.specs.declared.tree.Stmt.TheVariants as stmt
 use Rattle.flow_space.proofs.Sites.{constant_same}
 use Rattle.flow_space.specs.Programs.{value_in}
-use Rattle.flow_space.specs.Trees.{program_of, Head, expr_step, subject_step, target_step, expr_of, exprs_of, pairs_of, subject_of, target_of, targets_of, condition_of, stmt_step, clause_step, stmt_of, block_of, clauses_of}
+use Rattle.flow_space.specs.Trees.{program_of, Head, expr_step, subject_step, target_step, expr_of, exprs_of, pairs_of, subject_of, target_of, targets_of, condition_of, stmt_step, clause_step, stmt_of, block_of, clause_of, clauses_of, heads}
 
 pub constant_in : (r : Resolved) (a : Const) → constant (program_of r).sites a ≡ value_in r.sites a
 unfolding program_of
@@ -120,3 +122,11 @@ module _ (sites : List Site) where
 
   pub finally_is : (n : ℕ) (ss : List Stmt) (last : List Stmt) → stmt_of sites (stmt.Finally n ss last) ≡ tree.Finally (block_of sites ss) (block_of sites last)
   finally_is n ss last = ap (stmt_of sites) (sym (stmt_views.rolls-Finally n ss last)) ∙ code_stmt.fold-roll-Stmt tree.Stmt Head (stmt_step sites) (clause_step sites) (Stmt-F.Finally n ss last)
+
+  pub clause_is : (c : Clause) → clause_of sites c ≡ record { classes = heads c.bare c.classes; local = c.local; body = block_of sites c.body }
+  clause_is c = search rules
+
+pub tried_covers : (r program : Resolved) (cs : List Clause) (around made : Covers) → r ≡ program
+    → made ≡ covers_within (program_of program).classes (clauses_of program.sites cs) around
+    → made ≡ covers_within (program_of r).classes (clauses_of r.sites cs) around
+tried_covers r program cs around made h e = rw h e
