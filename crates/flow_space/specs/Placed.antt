@@ -17,7 +17,8 @@ use Rattle.flow_meaning.specs.Machine.{block_in}
 use Rattle.flow_stands.specs.Places.{Aim, Hand, Scope, Ways, Jump, Shape, Go, Fork, onto, range, first, first_and, stored}
 use Rattle.flow_stands.specs.Stands as stands
 use Rattle.flow_stands.specs.Stands.{Branch, count}
-use Rattle.flow_space.specs.Trees.{program_of, expr_of, exprs_of, pairs_of, subject_of, target_of, targets_of, condition_of, stmt_of, block_of, clauses_of}
+use Rattle.rpy_resolved.specs.declared.tree.Function.{Function}
+use Rattle.flow_space.specs.Trees.{program_of, function_of, expr_of, exprs_of, pairs_of, subject_of, target_of, targets_of, condition_of, stmt_of, block_of, clauses_of}
 use Rattle.flow_space.specs.declared.code.Aim as code_aim
 use Rattle.flow_space.specs.declared.code.Hand as code_hand
 use Rattle.flow_space.specs.declared.code.Jump as code_jump
@@ -283,3 +284,18 @@ module _ (sc : code_scope.Scope) where
         → (out : ℕ)
         × stands.HasBlock (program_of r) gs false f sc.locals (scope_of sc) (block_of r.sites last) b (m + 1) (onto (ways_of t) out)
         × stands.Acts (program_of r) gs false f sc.locals (scope_of sc) out row.Raise (m ∷ []) (m + 1) (first stands.never_block 0)
+
+-- ---- graphs
+
+-- a graph is that of a function of the program, whichever number it has
+abbrev pub GraphAt : Resolved → Function → Graph → Type 0
+GraphAt program function graph =
+    (gs : Graphs) (f : ℕ) → slice_get gs.graphs f ≡ Some graph → stands.HasFunction (program_of program) gs false f (function_of program.sites function)
+
+-- each graph is that of the function with its number
+abbrev pub GraphsAt : Resolved → List Function → List Graph → Type 0
+GraphsAt program functions graphs = (i : ℕ) (function : Function) (graph : Graph) → slice_get functions i ≡ Some function → slice_get graphs i ≡ Some graph → GraphAt program function graph
+
+-- the graphs of a program are those of its functions
+abbrev pub FlowAt : Resolved → Graphs → Type 0
+FlowAt program gs = stands.Stand (program_of program) gs false
