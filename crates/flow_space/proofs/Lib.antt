@@ -1,6 +1,7 @@
 -- Lemmas.
 pub mod Bases
 pub mod Counted
+pub mod Hands
 pub mod Items
 pub mod Layers
 pub mod Narrows
