@@ -44,7 +44,6 @@ module _ (sites : List Site) where
   parts_count [] = refl
   parts_count (t ∷ ts) = omega (arith, parts_count ts)
 
-
   pub local_is : (n : ℕ) (i : ℕ) → expr_of sites (e.Local n i) ≡ tree.Local i
   local_is n i = ap (expr_of sites) (sym (views.rolls-Local n i)) ∙ code.fold-roll-Expr tree.Expr tree.Subject tree.Target (expr_step sites) (subject_step sites) (target_step sites) (Expr-F.Local n i)
 

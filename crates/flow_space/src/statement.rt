@@ -6,9 +6,7 @@ ghost use Rattle.flow_stands.specs.Stands as stands;
 ghost use Rattle.flow_space.specs.Placed.{Part, ShapeAt, ActsAt, MarkAt, ReturnAt, DoAt, BindsAt, AssignAt, NewAt, AugmentNameAt, AugmentAttrAt, AugmentItemAt, AugmentAt, SimpleAt, StmtAt, BlockAt, IfAt, WhileAt, ForAt, TryAt, FinallyAt, LeftAt, RaisedAt, ClausesAt, aim_of, hands_of};
 
 use crate::NEVER;
-use crate::code::{
-    Aim, Code, Hand, Scope, jump_and, jump_first, jump_stored, local_place, op_at,
-};
+use crate::code::{Aim, Code, Hand, Scope, jump_and, jump_first, jump_stored, local_place, op_at};
 use crate::copy::copy_op;
 use crate::covers::covers_of;
 use crate::expression::{put_bind, put_expr, put_subject, put_test};
@@ -510,7 +508,13 @@ fn with_clause(
 {
     let local = bound(scope, clause.local)?;
     let Caught { hands, default } = others;
-    let hands = add_hands(alloc, clause.classes.as_slice(), local, aim, hands.as_slice())?;
+    let hands = add_hands(
+        alloc,
+        clause.classes.as_slice(),
+        local,
+        aim,
+        hands.as_slice(),
+    )?;
     Ok(Caught { hands, default })
 }
 

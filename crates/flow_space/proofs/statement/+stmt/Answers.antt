@@ -27,10 +27,17 @@ put_for-returns t c =
     part_map (λ r gs f k h.
     let p = k.0 in
     let a = k.0.1.1.1.1 in (
-    c.in_ok-head.head.number, k.1,
-    (c.in_ok-bind.bind, c.in_ok-begin.begin, c.in_ok-advance.advance,
-    rw (← c.step_of.ensures r.sites) (c.in_ok-asked.asked, a.0, a.1, a.2, p.0, a.3, a.4, a.5, a.6, p.1.0),
-    p.1.1.1.0, p.1.1.0 h)))
+      c.in_ok-head.head.number,
+      k.1,
+      (
+        c.in_ok-bind.bind,
+        c.in_ok-begin.begin,
+        c.in_ok-advance.advance,
+        rw (← c.step_of.ensures r.sites) (c.in_ok-asked.asked, a.0, a.1, a.2, p.0, a.3, a.4, a.5, a.6, p.1.0),
+        p.1.1.1.0,
+        p.1.1.0 h,
+      ),
+    ))
     (part_then turns s)) c.put_subject.ensures
 
 -- ---- exceptions
@@ -85,8 +92,26 @@ put_finally-returns t c =
     let cont = k.1.1.0 h in
     let ret = k.1.1.1.0 h in
     let exc = k.1.1.1.1.0 h in (
-    c.in_ok-norm.norm, c.in_ok-brk.brk.to, c.in_ok-cont.cont.to, c.in_ok-ret.ret.to, c.in_ok-default.default.to, brk.0, cont.0, ret.0, exc.0,
-    k.0 h, brk.1, brk.2, cont.1, cont.2, ret.1, ret.2, exc.1, exc.2, k.1.1.1.1.1 h))
+      c.in_ok-norm.norm,
+      c.in_ok-brk.brk.to,
+      c.in_ok-cont.cont.to,
+      c.in_ok-ret.ret.to,
+      c.in_ok-default.default.to,
+      brk.0,
+      cont.0,
+      ret.0,
+      exc.0,
+      k.0 h,
+      brk.1,
+      brk.2,
+      cont.1,
+      cont.2,
+      ret.1,
+      ret.2,
+      exc.1,
+      exc.2,
+      k.1.1.1.1.1 h,
+    ))
     (part_then c.in_ok-norm.ensures (part_then c.in_ok-brk.ensures.1 (part_then c.in_ok-cont.ensures.1 (part_then c.in_ok-ret.ensures.1 (part_then c.in_ok-default.ensures.1 s)))))) body
 
 -- ---- all statements
