@@ -1,0 +1,6 @@
+pub mod Worlds
+pub mod Answering
+pub mod Lists
+pub mod Core
+pub mod Acts
+pub mod Calls

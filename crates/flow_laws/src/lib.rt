@@ -1,0 +1,2 @@
+//! Flow graphs that stand for the functions of a program mean what the program means.
+#![tactic(auto)]
