@@ -99,12 +99,12 @@ module _ (p : Program) (gs : Graphs) (named_if : Bool) (builtins : (k : ℕ) →
           (λ z. taken_by at hand r w hand.local below.0 z)
           (λ z. throw_on hands at r w below.1 z)
 
-      pub throws : (at : Spot) (r : ℕ) (w : World) → step p gs at ≡ caught p gs f r frs w instead (named base vars) [] its_exit → Leads p gs named_if (Ends p gs named_if at) (go_in (R r (record s { world = w })) w)
-      throws at r w e =
+      pub throws : (at : Spot) (r : ℕ) (w : World) (k : ℕ) → step p gs at ≡ caught p gs f r frs w instead (named base vars) [] its_exit → Leads p gs named_if (Ends p gs named_if at) (go_in (R r (record s { world = w; moments = k })) w)
+      throws at r w k e =
           leads_on p gs named_if (throw_on sc.hands at r w catches.hands e)
-          (same_place p gs named_if f instead frs _ _ w (catches.taken r (record s { world = w }) fit.long))
+          (same_place p gs named_if f instead frs _ _ w (catches.taken r (record s { world = w; moments = k }) fit.long))
 
-      pub frame : Frame
+      abbrev pub frame : Frame
       frame = waiting f its_op [] its_exit (named base vars) instead
 
       -- what is used here and by callers
@@ -116,7 +116,6 @@ module _ (p : Program) (gs : Graphs) (named_if : Bool) (builtins : (k : ℕ) →
         (lands : (v : Value) (w : World) → op p sc.covers o vs s.world ≡ Gives v w → (place norm.to (pick (vars ++ Some v ∷ []) norm.places) ≡ D v (record s { world = w })) × X v (record s { world = w }))
         (calls : (g : ℕ) (us : List Value) (other : Option Value) (w : World) → op p sc.covers o vs s.world ≡ Enters g us other w → Later s.world w → Passes vs us other → Follow (Ends p gs named_if (Calling g us other (frame ∷ frs) w)) held (record s { world = w }) D R X (called p unwatched prev (slice_get p.functions g) us other (record s { world = w }))) where
         answers : (a : Answer) → op p sc.covers o vs s.world ≡ a → Fine p vs s.world a → Follow (Ends p gs named_if (spot s.world)) held s D R X (told p unwatched prev a hold s)
-        unfolding frame
         answers (Gives v w) e h =
             let l = lands v w e in
             record {
@@ -129,7 +128,7 @@ module _ (p : Program) (gs : Graphs) (named_if : Bool) (builtins : (k : ℕ) →
         answers (Throws r w) e h =
             record {
               sim = record {
-                leads = throws (spot s.world) r w (does s.world ∙ ap (answered p gs f its_op [] its_exit (named base vars) instead frs s.world) e);
+                leads = throws (spot s.world) r w s.moments (does s.world ∙ ap (answered p gs f its_op [] its_exit (named base vars) instead frs s.world) e);
                 after = record { later = h.0; long = refl; bound = λ i x. x };
                 post = h.1;
               };

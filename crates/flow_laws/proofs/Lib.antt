@@ -4,3 +4,5 @@ pub mod Lists
 pub mod Core
 pub mod Acts
 pub mod Calls
+pub mod Parts
+pub mod Tests
