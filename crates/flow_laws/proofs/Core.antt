@@ -71,6 +71,11 @@ fit_on f a = record { low = omega (arith, f.low, a.later.left); long = a.long �
 pub length_env : {top n : ℕ} {s : State} (held : List Value) → Fit top n s → length (env s held) ≡ n + length held
 length_env {s = s} held f = omega (arith, length-append s.locals (map Some held), length-map held Some, f.long)
 
+-- the end of what never wants steps
+abbrev pub Quiet : {A : Type 0} → Ending A → Type 0
+Quiet (Running held s) = ⊥
+Quiet other = Unit {0}
+
 -- where an exception is taken, by its class
 abbrev pub stored_value : Env → Option ℕ → ℕ → Env
 stored_value vs None r = vs
@@ -216,6 +221,19 @@ module _ (p : Program) (gs : Graphs) (named_if : Bool) where
         → Runs P held s D R X e → ((a : A) (t : State) → After s t → X a t → Runs (enter (D a t) t.world) held t D' R X' (k a t)) → Runs P held s D' R X' (then_go e k)
     seq {A} {B} {P} {held} {s} {D} {D'} {R} {X} {X'} {e} {k} r g = record { sim = then_sim P held s D D' R X X' e k r.sim g }
 
+    -- the same, where what was given is known
+    seq_is_sim : {A B : Type 0} (P : Run → Type 0) (held : List Value) (s : State) (D : A → State → Place) (D' : B → State → Place) (R : ℕ → State → Place) (X : A → State → Type 0) (X' : B → State → Type 0) (e : Ending A) (k : A → Eval B)
+        → Sim P held s D R X e → ((a : A) (t : State) → e ≡ Done a t → After s t → X a t → Runs (enter (D a t) t.world) held t D' R X' (k a t)) → Sim P held s D' R X' (then_go e k)
+    seq_is_sim P held s D D' R X X' (Done a t) k r g = before_sim P (enter (D a t) t.world) held s t D' R X' (k a t) r.leads r.after (g a t refl r.after r.post).sim
+    seq_is_sim P held s D D' R X X' (Raised x t) k r g = r
+    seq_is_sim P held s D D' R X X' (Failed name t) k r g = r
+    seq_is_sim P held s D D' R X X' (Running rs t) k r g = r
+    seq_is_sim P held s D D' R X X' Wrong k r g = r
+
+    pub seq_is : {A B : Type 0} {P : Run → Type 0} {held : List Value} {s : State} {D : A → State → Place} {D' : B → State → Place} {R : ℕ → State → Place} {X : A → State → Type 0} {X' : B → State → Type 0} {e : Ending A} {k : A → Eval B}
+        → Runs P held s D R X e → ((a : A) (t : State) → e ≡ Done a t → After s t → X a t → Runs (enter (D a t) t.world) held t D' R X' (k a t)) → Runs P held s D' R X' (then_go e k)
+    seq_is {A} {B} {P} {held} {s} {D} {D'} {R} {X} {X'} {e} {k} r g = record { sim = seq_is_sim P held s D D' R X X' e k r.sim g }
+
     -- what a part adds to what is held
     hold_sim : {A : Type 0} (P : Run → Type 0) (held vs : List Value) (s : State) (D : A → State → Place) (R : ℕ → State → Place) (X : A → State → Type 0) (e : Ending A) → Sim P (held ++ vs) s D R X e → Sim P held s D R X (add_held vs e)
     hold_sim P held vs s D R X (Done a t) r = r
@@ -227,6 +245,17 @@ module _ (p : Program) (gs : Graphs) (named_if : Bool) where
 
     pub hold : {A : Type 0} {P : Run → Type 0} {held : List Value} {s : State} {D : A → State → Place} {R : ℕ → State → Place} {X : A → State → Type 0} {e : Ending A} (vs : List Value) → Runs P (held ++ vs) s D R X e → Runs P held s D R X (add_held vs e)
     hold {A} {P} {held} {s} {D} {R} {X} {e} vs r = record { sim = hold_sim P held vs s D R X e r.sim }
+
+    -- a part that never runs on holds nothing
+    loosen_sim : {A : Type 0} (P : Run → Type 0) (held less : List Value) (s : State) (D : A → State → Place) (R : ℕ → State → Place) (X : A → State → Type 0) (e : Ending A) → (named_if ≡ true → Quiet e) → Sim P held s D R X e → Sim P less s D R X e
+    loosen_sim P held less s D R X (Done a t) q r = r
+    loosen_sim P held less s D R X (Raised x t) q r = r
+    loosen_sim P held less s D R X (Failed name t) q r = r
+    loosen_sim P held less s D R X (Running rs t) q r = record { used = r.used; ends = r.ends; more = λ z wt. absurd (q z) }
+    loosen_sim P held less s D R X Wrong q r = r
+
+    pub loosen : {A : Type 0} {P : Run → Type 0} {held : List Value} {s : State} {D : A → State → Place} {R : ℕ → State → Place} {X : A → State → Type 0} {e : Ending A} (less : List Value) → (named_if ≡ true → Quiet e) → Runs P held s D R X e → Runs P less s D R X e
+    loosen {A} {P} {held} {s} {D} {R} {X} {e} less q r = record { sim = loosen_sim P held less s D R X e q r.sim }
 
     -- a result, at once
     pub here : {A : Type 0} {P : Run → Type 0} {held : List Value} {s : State} {D : A → State → Place} {R : ℕ → State → Place} {X : A → State → Type 0} {a : A} → Leads P (enter (D a s) s.world) → X a s → Runs P held s D R X (Done a s)

@@ -6,3 +6,4 @@ pub mod Acts
 pub mod Calls
 pub mod Parts
 pub mod Tests
+pub mod Walks

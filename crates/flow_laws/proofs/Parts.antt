@@ -113,7 +113,7 @@ assoc (Running rs s) f g = refl
 assoc Wrong f g = refl
 
 module _ (p : Program) (gs : Graphs) (named_if : Bool) where
-  take_less : (n : ℕ) (t : State) (held vs : List Value) (k m : ℕ) → length t.locals ≡ n → n + length held ≡ m → k ≤ m → take k (env t (held ++ vs)) ≡ take k (env t held)
+  pub take_less : (n : ℕ) (t : State) (held vs : List Value) (k m : ℕ) → length t.locals ≡ n → n + length held ≡ m → k ≤ m → take k (env t (held ++ vs)) ≡ take k (env t held)
   take_less n t held vs k m long at le =
       ap (take k) (env_push t held vs) ∙ take-append-le k (env t held) (map Some vs) (omega (arith, wide n t long held, at, le))
 
@@ -244,3 +244,23 @@ module _ (p : Program) (gs : Graphs) (named_if : Bool) (builtins : (k : ℕ) →
       let ex = exit.OnRaise (is.0 + m) (links is.0 (hand_jumps m sc.hands)) (Some (link is.0 (first_and sc.default.to sc.default.keep m))) (link is.0 norm) in
       (enter_block p gs named_if f instead frs b m is.0 is.1 is.2 (Does o (i ∷ []) sc.covers (hand_jumps m sc.hands) (first_and sc.default.to sc.default.keep m) norm) (env s W) s.world is.3 len).by _
       (step_strays p gs named_if (At f (its ∷ []) ex (named is.0 (env s W)) instead frs s.world) (ap (operates p gs f its [] ex (named is.0 (env s W)) instead frs s.world) (operand_none is.0 (env s W) i e)))
+
+  -- ---- a fork
+
+  pub fork_on : (b q test : ℕ) (so other : Jump) (W : List Value) (t : State) (x : Value) (go : Bool) → Is p gs named_if f n b q (Fork test so other) → length (env t W) ≡ q → get_or (env t W) test None ≡ Some x → truth_in t.world x ≡ Some go
+      → To (go_in (place b (env t W)) t.world) (go_in (place (cond go so other).to (pick (env t W) (cond go so other).places)) t.world)
+  fork_on b q test so other W t x go is len at z =
+      let spot = At f [] (exit.If (is.0 + test) (link is.0 so) (link is.0 other)) (named is.0 (env t W)) instead frs t.world in
+      leads_on p gs named_if (enter_block p gs named_if f instead frs b q is.0 is.1 is.2 (Fork test so other) (env t W) t.world is.3 len)
+      (forked go spot is.0 (ap (λ v. chooses gs f frs t.world instead (named is.0 (env t W)) (link is.0 so) (link is.0 other) (truth_of t.world v)) (look_named is.0 test (env t W) ∙ at) ∙ ap (chooses gs f frs t.world instead (named is.0 (env t W)) (link is.0 so) (link is.0 other)) z))
+    where
+      forked : (go : Bool) (spot : Spot) (base : ℕ) → step p gs spot ≡ chooses gs f frs t.world instead (named base (env t W)) (link base so) (link base other) (Some go) → To (Ends p gs named_if spot) (go_in (place (cond go so other).to (pick (env t W) (cond go so other).places)) t.world)
+      forked true spot base e = jump_to p gs named_if f instead frs spot base (env t W) so t.world e
+      forked false spot base e = jump_to p gs named_if f instead frs spot base (env t W) other t.world e
+
+  pub fork_strays : (b q test : ℕ) (so other : Jump) (W : List Value) (t : State) (x : Value) → Is p gs named_if f n b q (Fork test so other) → length (env t W) ≡ q → get_or (env t W) test None ≡ Some x → truth_in t.world x ≡ None
+      → go_in (place b (env t W)) t.world (wrong_run p gs named_if)
+  fork_strays b q test so other W t x is len at z =
+      let spot = At f [] (exit.If (is.0 + test) (link is.0 so) (link is.0 other)) (named is.0 (env t W)) instead frs t.world in
+      (enter_block p gs named_if f instead frs b q is.0 is.1 is.2 (Fork test so other) (env t W) t.world is.3 len).by _
+      (step_strays p gs named_if spot (ap (λ v. chooses gs f frs t.world instead (named is.0 (env t W)) (link is.0 so) (link is.0 other) (truth_of t.world v)) (look_named is.0 test (env t W) ∙ at) ∙ ap (chooses gs f frs t.world instead (named is.0 (env t W)) (link is.0 so) (link is.0 other)) z))
