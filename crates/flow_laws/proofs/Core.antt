@@ -234,6 +234,19 @@ module _ (p : Program) (gs : Graphs) (named_if : Bool) where
         → Runs P held s D R X e → ((a : A) (t : State) → e ≡ Done a t → After s t → X a t → Runs (enter (D a t) t.world) held t D' R X' (k a t)) → Runs P held s D' R X' (then_go e k)
     seq_is {A} {B} {P} {held} {s} {D} {D'} {R} {X} {X'} {e} {k} r g = record { sim = seq_is_sim P held s D D' R X X' e k r.sim g }
 
+    -- the same part, where the machine goes further
+    led_sim : {A : Type 0} (P : Run → Type 0) (held : List Value) (s : State) (D D' : A → State → Place) (R : ℕ → State → Place) (X X' : A → State → Type 0) (e : Ending A)
+        → Sim P held s D R X e → ((a : A) (t : State) → After s t → X a t → Leads (enter (D a t) t.world) (enter (D' a t) t.world) × X' a t) → Sim P held s D' R X' e
+    led_sim P held s D D' R X X' (Done a t) r g = let l = g a t r.after r.post in record { leads = leads_on r.leads l.0; after = r.after; post = l.1 }
+    led_sim P held s D D' R X X' (Raised x t) r g = r
+    led_sim P held s D D' R X X' (Failed name t) r g = r
+    led_sim P held s D D' R X X' (Running rs t) r g = r
+    led_sim P held s D D' R X X' Wrong r g = r
+
+    pub led : {A : Type 0} {P : Run → Type 0} {held : List Value} {s : State} {D D' : A → State → Place} {R : ℕ → State → Place} {X X' : A → State → Type 0} {e : Ending A}
+        → Runs P held s D R X e → ((a : A) (t : State) → After s t → X a t → Leads (enter (D a t) t.world) (enter (D' a t) t.world) × X' a t) → Runs P held s D' R X' e
+    led {A} {P} {held} {s} {D} {D'} {R} {X} {X'} {e} r g = record { sim = led_sim P held s D D' R X X' e r.sim g }
+
     -- what a part adds to what is held
     hold_sim : {A : Type 0} (P : Run → Type 0) (held vs : List Value) (s : State) (D : A → State → Place) (R : ℕ → State → Place) (X : A → State → Type 0) (e : Ending A) → Sim P (held ++ vs) s D R X e → Sim P held s D R X (add_held vs e)
     hold_sim P held vs s D R X (Done a t) r = r

@@ -7,3 +7,4 @@ pub mod Calls
 pub mod Parts
 pub mod Tests
 pub mod Walks
+pub mod Forms

@@ -4,14 +4,15 @@ use Rattle.std.specs.Prelude.{map, slice_get, slice_set, nat_lt, ◌==◌, if◌
 use Rattle.std.proofs.lemmas.List.{append-nil, length-map, map-append, length-set, set-append_left, take-append-le}
 use Rattle.std.proofs.lemmas.Option.{get_or_from_slice_get, slice_get-get_or}
 use Rattle.std.proofs.lemmas.List.{get_or_append_left}
-use Rattle.rpy_tree.specs.Value.{Value, Ref, Flag}
+use Rattle.rpy_base.specs.declared.outcome.FailName.{FailName}
+use Rattle.rpy_tree.specs.Value.{Value, Ref, Flag, Nothing, Object, Instance}
 use Rattle.rpy_meaning.specs.declared.row.Covers.{Covers}
 use Rattle.rpy_meaning.specs.declared.row.RowOp.{RowOp}
 use Rattle.rpy_meaning.specs.declared.row.RowOp.TheVariants as row
 use Rattle.rpy_meaning.specs.Tree.{Expr, Program, Function}
-use Rattle.rpy_meaning.specs.World.{World, Answer, Gives, Throws, Fails, Lacks, Enters, Bad, flag_if_any}
+use Rattle.rpy_meaning.specs.World.{World, Answer, Gives, Throws, Fails, Lacks, Enters, Bad, flag_if_any, throw, bad, failure}
 use Rattle.rpy_meaning.specs.Classes.{is_below}
-use Rattle.rpy_meaning.specs.Operations.{op, builtin_classes, truth_in}
+use Rattle.rpy_meaning.specs.Operations.{op, builtin_classes, truth_in, raise_object, raise}
 use Rattle.rpy_meaning.specs.Evaluation.{State, Ending, Done, Raised, Failed, Running, Wrong, Eval, then_go, add_held, values_of, is_so, known, local, pure}
 use Rattle.rpy_meaning.specs.Meaning.{Run, over, class_in, Sem, unwatched, called, operate}
 use Rattle.flow_graph.specs.declared.graph.Exit.{Exit}
@@ -236,6 +237,47 @@ module _ (p : Program) (gs : Graphs) (named_if : Bool) (builtins : (k : ℕ) →
           (λ v w k. (lands v w k).1)
           (λ wt. let z = used_here p gs named_if builtins f instead frs n m sc held R c (suc top) s fit xs q is.0 is.1 is.2 o args norm vs at_len picked' wt (waits_for fr) in omega (arith, z, operands wt))
           g us other passes prev top good (Calling g us other (fr ∷ frs) w) w (slice_get p.functions g) (stand g) (omega (arith, later.left, fit.low)) (sound_on later fit.sound) refl refl))
+
+  -- ---- a raise
+
+  abbrev pub OnlyThrows : Answer → Type 0
+  OnlyThrows (Gives v w) = ⊥
+  OnlyThrows (Enters g us other w) = ⊥
+  OnlyThrows other = Unit {0}
+
+  raise_object_throws : (c : Covers) (r : ℕ) (o : Option Object) (w : World) → OnlyThrows (raise_object p c r o w)
+  raise_object_throws c r (Some (Instance class attributes)) w = either (is_below p.classes class 0)
+    where
+      either : (b : Bool) → OnlyThrows ((if b then throw r else bad) w)
+      either true = tt
+      either false = tt
+  raise_object_throws c r o w = tt
+
+  failure_throws : (b : Bool) (class : ℕ) (name : FailName) (w : World) → OnlyThrows (failure b class name w)
+  failure_throws true class name w = tt
+  failure_throws false class name w = tt
+
+  raise_one : (c : Covers) (x : Value) (w : World) → OnlyThrows (raise p c x w)
+  raise_one c (Ref r) w = raise_object_throws c r (slice_get w.heap r) w
+  raise_one c Nothing w = failure_throws c.attribute _ _ w
+  raise_one c x w = tt
+
+  raise_throws : (c : Covers) (vs : List Value) (w : World) → OnlyThrows (op p c row.Raise vs w)
+  raise_throws c [] w = tt
+  raise_throws c (x ∷ []) w = raise_one c x w
+  raise_throws c (x ∷ y ∷ vs) w = tt
+
+  pub raises_sim : (m : ℕ) (sc : Scope) (held : List Value) (R : ℕ → State → Place) → Holding m sc held R → (s : State) → Fit (suc top) n s
+      → (W xs : List Value) → W ≡ held ++ xs → (b q : ℕ) (args : List ℕ) (norm : Jump) (vs : List Value) → Acts p gs named_if f n sc b row.Raise args q norm → m + length xs ≡ q → pick (env s W) args ≡ map Some vs
+      → (hold : List Value) (D : Value → State → Place) (X : Value → State → Type 0) → ((wt : Weight) → total wt.of xs ≤ total wt.of hold)
+      → Follow (go_in (place b (env s W)) s.world) held s D R X (operate p unwatched prev hold sc.covers row.Raise vs s)
+  raises_sim m sc held R c s fit W xs are b q args norm vs is at_q picked hold D X small =
+      let len = at_len m sc held R c s fit W xs are b q row.Raise args norm vs is at_q picked in
+      let pk = picked' m sc held R c s fit W xs are b q row.Raise args norm vs is at_q picked in
+      moved p gs named_if f instead frs (entered_block m sc held R c s fit W xs are b q row.Raise args norm vs is at_q picked)
+      (told_sim p gs named_if builtins f instead frs n m sc held R c (suc top) s fit xs q is.0 is.1 is.2 row.Raise args norm vs len pk prev hold D X small
+      (λ v w e. absurd (subst OnlyThrows e (raise_throws sc.covers vs s.world)))
+      (λ g us other w e later passes. absurd (subst OnlyThrows e (raise_throws sc.covers vs s.world))))
 
   -- a block of an operation whose operand is unbound
   pub unbound_on : (m : ℕ) (sc : Scope) (W : List Value) (s : State) (b i : ℕ) (o : RowOp) (norm : Jump) → Acts p gs named_if f n sc b o (i ∷ []) m norm → length (env s W) ≡ m → get_or (env s W) i None ≡ None → go_in (place b (env s W)) s.world (wrong_run p gs named_if)
