@@ -39,7 +39,7 @@ onward_is : (o : RowOp) → (o ≡ row.Raise) ⊎ ((to keep last : ℕ) → onwa
 onward_is row.Raise = inl refl
 onward_is o = inr (λ to keep last. refl)
 
-set_bound : (ls : Env) (i j : ℕ) (v : Value) → IsBound ls j → IsBound (slice_set ls i (Some v)) j
+pub set_bound : (ls : Env) (i j : ℕ) (v : Value) → IsBound ls j → IsBound (slice_set ls i (Some v)) j
 set_bound [] i j v b = absurd (let e = b.1 in cc)
 set_bound (x ∷ ls) zero zero v b = (v, refl)
 set_bound (x ∷ ls) zero (suc j) v b = b

@@ -8,3 +8,5 @@ pub mod Parts
 pub mod Tests
 pub mod Walks
 pub mod Forms
+pub mod Binds
+pub mod Trees

@@ -1,0 +1,250 @@
+-- The machine follows each expression and each target.
+use Rattle.std.proofs.Common.{◌≡◌, ℕ, zero, suc, ◌+◌, ◌-◌, ◌<◌, ◌≤◌, Bool, true, false, cond, List, [], ◌∷◌, ◌++◌, ◌⊎◌, inl, inr, length, get_or, take, Some, None, Option, refl, sym, ap, ◌∙◌, subst, arith, append_assoc, length-append}
+use Rattle.std.specs.Prelude.{map, slice_get, slice_set, ◌==◌, if◌then◌else◌, pos, ℤ}
+use Rattle.std.proofs.lemmas.List.{append-nil, length-map, map-append, length-set, set-append_left}
+use Rattle.rpy_tree.specs.Value.{Value, Ref, Flag, Word}
+use Rattle.rpy_meaning.specs.declared.row.Covers.{Covers}
+use Rattle.rpy_meaning.specs.declared.row.RowOp.{RowOp}
+use Rattle.rpy_meaning.specs.declared.row.RowOp.TheVariants as row
+use Rattle.rpy_meaning.specs.Tree.{Expr, Local, Constant, Apply, And, Or, Display, Comprehension, Exprs, none, more, Pairs, no_pairs, pair, Subject, Over, UpTo, FromTo, Condition, Always, Where, Target, Name, Attribute, Item, Parts, Targets, no_targets, more_targets, Program}
+use Rattle.rpy_meaning.specs.World.{World, Gives}
+use Rattle.rpy_meaning.specs.Classes.{is_below}
+use Rattle.rpy_meaning.specs.Operations.{op, builtin_classes}
+use Rattle.rpy_meaning.specs.Evaluation.{State, Ending, Done, Raised, Failed, Running, Wrong, Eval, then_go, add_held, is_so, pure, set_local, Flow, Next as Onward}
+use Rattle.rpy_meaning.specs.Meaning.{Run, Sem, unwatched, operate, perform, value, values, store_pairs, begin, keeps, bind, bind_parts, target_count, Walking, walk_holds, turns, gather, Gather}
+use Rattle.flow_graph.specs.declared.graph.Graphs.{Graphs}
+use Rattle.flow_meaning.specs.Machine.{Frame}
+use Rattle.flow_stands.specs.Places.{range, Scope, Ways, Jump, Go, first, first_and, stored}
+use Rattle.flow_stands.specs.Stands.{Is, Acts, Meets, Reads, is_local, some_is_local, Asks, AppliedAt, ApplyAt, NotAt, SidesAt, LocalAt, ConstantAt, DisplayAt, ComprehensionAt, GathersAt, GatherAt, TurnsAt, step_of, within, count, AllNamed, HasExpr, HasExprs, HasSides, HasTest, HasNegated, HasPairs, HasSubject, HasCondition, HasBind, HasItems, Stand}
+use Rattle.flow_laws.proofs.Worlds.{total, Weight, Later, same, Sound, Thrown}
+use Rattle.flow_laws.proofs.Lists.{Env, pick}
+use Rattle.flow_laws.proofs.Core.{Place, place, env, env_push, IsBound, After, at_once, after_on, Fit, fit_on, Catches, Ends, Leads, stays, leads_on, enter, wrong_run, Reached, Holds, Runs, before, moved, seq, led, hold, loosen, here, same_place}
+use Rattle.flow_laws.proofs.Calls.{Any, Good, flow_place, Keeps, gathered, IsOnward}
+use Rattle.flow_laws.proofs.Parts.{wide, land_first, land_result, land_at, land_last, land_local, jump_first, jump_and, land_store, assoc, catches_more, vals, lists, stay_at, ReadBy, same_as, jumps, gives_on, strays_on, acts}
+use Rattle.flow_laws.proofs.Tests.{gives_value, meets, local_sim, constant_sim}
+use Rattle.flow_laws.proofs.Walks.{lower, turns_sim}
+use Rattle.flow_laws.proofs.Forms.{test_place, Many, local_reads, set_bound, tested, not_is, ValueSim, ValuesSim, SidesSim, TestSim, NegatedSim, leaf_sim, last_sim, applied_sim, sides_sim, asks_sim, tests_sim, and_sim, or_sim, and_tests_sim, or_tests_sim, not_sim, not_tests_sim}
+use Rattle.flow_laws.proofs.Binds.{named_of, quiet_bind}
+
+module _ (p : Program) (gs : Graphs) (named_if : Bool) (builtins : (k : ℕ) → k < builtin_classes → is_below p.classes k 0 ≡ true) (stand : Stand p gs named_if) (prev : Sem) (top : ℕ) (good : Good p gs named_if prev top) (f n : ℕ) (instead : Option Value) (frs : List Frame) where
+  abbrev pub F : {A : Type 0} → (Run → Type 0) → List Value → State → (A → State → Place) → (ℕ → State → Place) → (A → State → Type 0) → Ending A → Type 0
+  F P held s D R X e = Runs p gs named_if f instead frs P held s D R X e
+
+  abbrev pub at_place : Place → World → Run → Type 0
+  at_place = enter p gs named_if f instead frs
+
+  abbrev pub Keep : ℕ → Scope → List Value → (ℕ → State → Place) → Type 0
+  Keep m sc held R = Catches p gs named_if n m sc held R
+
+  abbrev VSim : Scope → Expr → (ℕ → ℕ → ℕ → Type 0) → Type 0
+  VSim = ValueSim p gs named_if builtins stand prev top good f n instead frs
+
+  abbrev TSim : Scope → Expr → (ℕ → ℕ → ℕ → ℕ → Type 0) → Type 0
+  TSim = TestSim p gs named_if builtins stand prev top good f n instead frs
+
+  more_held : {m : ℕ} {sc : Scope} {held : List Value} {R : ℕ → State → Place} (v : Value) → Keep m sc held R → Keep (m + 1) sc (held ++ v ∷ []) R
+  more_held {m} v c = catches_more p gs named_if (v ∷ []) (m + 1) (omega arith) c
+
+  -- ---- operands
+
+  pub values_sim : (sc : Scope) (e : Expr) (es : Exprs) (E Es : ℕ → ℕ → ℕ → Type 0) → VSim sc e E → ValuesSim p gs named_if builtins stand prev top good f n instead frs sc es Es
+      → ValuesSim p gs named_if builtins stand prev top good f n instead frs sc (more e es) (λ b m q. (k : ℕ) × E b m k × Es k (m + 1) q)
+  values_sim sc e es E Es sim sims m b q held R c s fit has =
+      seq p gs named_if f instead frs (sim m b has.0 held R c s fit has.1)
+      (λ v t after reads.
+      seq p gs named_if f instead frs (hold p gs named_if f instead frs (v ∷ []) (sims (m + 1) has.0 q (held ++ v ∷ []) R (more_held v c) t (fit_on fit after) has.2))
+      (λ vs u after2 many.
+      here p gs named_if f instead frs
+      (same_as p gs named_if builtins stand prev top good f n instead frs (place q (env u ((held ++ v ∷ []) ++ vs))) (place q (env u (held ++ (v ∷ vs)))) u.world (ap (λ l. place q (env u l)) (append_assoc held (v ∷ []) vs)))
+      (ap suc many.0, bound e es v t u after2 reads many.1)))
+    where
+      bound : (e : Expr) (es : Exprs) (v : Value) (t u : State) → After t u → ReadBy e v t → ((i : ℕ) → some_is_local es i → IsBound u.locals i) → (i : ℕ) → is_local e i ⊎ some_is_local es i → IsBound u.locals i
+      bound e es v t u after reads h i (inl x) = after.bound i (reads i (local_reads e i x))
+      bound e es v t u after reads h i (inr x) = h i x
+
+  -- ---- dicts
+
+  abbrev PairsSim : Scope → Pairs → (ℕ → ℕ → ℕ → Type 0) → Type 0
+  PairsSim sc ps Stores =
+      (m b q : ℕ) (held : List Value) (dict : Value) (R : ℕ → State → Place) → Keep m sc held R → (s : State) → Fit (suc top) n s → Stores b m q
+      → F (at_place (place b (env s (held ++ dict ∷ []))) s.world) (held ++ dict ∷ []) s (stay_at q (held ++ dict ∷ [])) R Any (store_pairs p unwatched prev sc.covers dict ps s)
+
+  display_sim : (sc : Scope) (site : ℕ) (ps : Pairs) (Stores : ℕ → ℕ → ℕ → Type 0) → PairsSim sc ps Stores → VSim sc (Display site ps) (DisplayAt p gs named_if f n sc site Stores)
+  display_sim sc site ps Stores sims m b q held R c s fit has =
+      seq p gs named_if f instead frs (leaf_sim p gs named_if builtins stand prev top good f n instead frs m sc held R c s fit b has.0 (row.Dict site) has.2)
+      (λ dict t after x.
+      seq p gs named_if f instead frs (hold p gs named_if f instead frs (dict ∷ []) (sims m has.0 has.1 held dict R c t (fit_on fit after) has.3))
+      (λ a u after2 y.
+      here p gs named_if f instead frs (meets p gs named_if builtins stand prev top good f n instead frs m sc held R c u (fit_on (fit_on fit after) after2) dict has.1 q has.4) (λ i h. absurd h)))
+
+  pair_sim : (sc : Scope) (key e : Expr) (rest : Pairs) (K E Stores : ℕ → ℕ → ℕ → Type 0) → VSim sc key K → VSim sc e E → PairsSim sc rest Stores
+      → PairsSim sc (pair key e rest) (λ b m q. (k l next : ℕ) × K b (m + 1) k × E k (m + 1 + 1) l × Acts p gs named_if f n sc l row.StoreIndex (m ∷ (m + 1) ∷ (m + 2) ∷ []) (m + 3) (first next (m + 1)) × Stores next m q)
+  pair_sim sc key e rest K E Stores sim_k sim_e sims m b q held dict R c s fit has =
+      let H = held ++ dict ∷ [] in
+      let c1 = more_held dict c in
+      seq p gs named_if f instead frs (sim_k (m + 1) b has.0 H R c1 s fit has.3)
+      (λ x t after y.
+      let fit_t = fit_on fit after in
+      let c2 = more_held x c1 in
+      seq p gs named_if f instead frs (hold p gs named_if f instead frs (x ∷ []) (sim_e (m + 1 + 1) has.0 has.1 (H ++ x ∷ []) R c2 t fit_t has.4))
+      (λ v u after2 y2.
+      let fit_u = fit_on fit_t after2 in
+      let W = (H ++ x ∷ []) ++ v ∷ [] in
+      let W_is : W ≡ H ++ (x ∷ v ∷ []) = append_assoc H (x ∷ []) (v ∷ []) in
+      let at_dict = land_at n u fit_u.long W held (x ∷ v ∷ []) dict m (W_is ∙ append_assoc held (dict ∷ []) (x ∷ v ∷ [])) c.all in
+      let at_key = land_at n u fit_u.long W H (v ∷ []) x (m + 1) W_is c1.all in
+      let at_value = land_at n u fit_u.long W (H ++ x ∷ []) [] v (m + 2) refl (let a = c2.all in omega (arith, a)) in
+      seq p gs named_if f instead frs
+      (acts p gs named_if builtins stand prev top good f n instead frs (m + 1) sc H R c1 u fit_u W (x ∷ v ∷ []) W_is has.1 (m + 3) row.StoreIndex (m ∷ (m + 1) ∷ (m + 2) ∷ []) (first has.2 (m + 1)) (dict ∷ x ∷ v ∷ []) has.5 (omega arith)
+      (ap (λ z. z ∷ get_or (env u W) (m + 1) None ∷ get_or (env u W) (m + 2) None ∷ []) at_dict ∙ ap (λ z. Some dict ∷ z ∷ get_or (env u W) (m + 2) None ∷ []) at_key ∙ ap (λ z. Some dict ∷ Some x ∷ z ∷ []) at_value)
+      (x ∷ v ∷ []) (stay_at has.2 H) Any (λ wt. omega arith) (λ wt. omega arith)
+      (λ r w j. (ap (place has.2) (land_first n u fit_u.long W H (x ∷ v ∷ []) (m + 1) (Some r ∷ []) W_is c1.all), tt)))
+      (λ r u2 after3 y3. sims m has.2 q held dict R c u2 (fit_on fit_u after3) has.6)))
+
+  -- ---- what is walked
+
+  abbrev pub walk_place : ℕ → List Value → Walking → State → Place
+  walk_place q held walking t = place q (env t (held ++ walk_holds walking))
+
+  abbrev pub Steps : Option ℤ → Walking → State → Type 0
+  Steps step walking t = walking.step ≡ step
+
+  abbrev SubjectSim : Scope → Subject → (ℕ → ℕ → ℕ → Type 0) → Type 0
+  SubjectSim sc subject Begin =
+      (m b q : ℕ) (held : List Value) (R : ℕ → State → Place) → Keep m sc held R → (s : State) → Fit (suc top) n s → Begin b m q
+      → F (at_place (place b (env s held)) s.world) held s (walk_place q held) R (Steps (step_of subject)) (begin p unwatched prev sc.covers subject s)
+
+  -- the first place
+  zero_place : (m : ℕ) (sc : Scope) (held : List Value) (R : ℕ → State → Place) → Keep m sc held R → (t : State) → Fit (suc top) n t → (over : Value) (b q : ℕ) → Acts p gs named_if f n sc b (row.Word (pos 0)) [] (m + 1) (first_and q (m + 1) (m + 1))
+      → Leads p gs named_if (at_place (place b (env t (held ++ over ∷ []))) t.world) (at_place (place q (env t (held ++ over ∷ Word (pos 0) ∷ []))) t.world)
+  zero_place m sc held R c t fit over b q is =
+      leads_on p gs named_if
+      (gives_value p gs named_if builtins stand prev top good f n instead frs (m + 1) sc (held ++ over ∷ []) R (more_held over c) t fit (held ++ over ∷ []) [] (sym (append-nil (held ++ over ∷ []))) b (m + 1) (row.Word (pos 0)) [] q [] (Word (pos 0)) is (omega arith) refl refl)
+      (same_as p gs named_if builtins stand prev top good f n instead frs (place q (env t ((held ++ over ∷ []) ++ Word (pos 0) ∷ []))) (place q (env t (held ++ over ∷ Word (pos 0) ∷ []))) t.world (ap (λ l. place q (env t l)) (append_assoc held (over ∷ []) (Word (pos 0) ∷ []))))
+
+  over_sim : (sc : Scope) (site : ℕ) (e : Expr) (E : ℕ → ℕ → ℕ → Type 0) → VSim sc e E
+      → SubjectSim sc (Over site e) (λ b m q. (k z : ℕ) × E b m k × Acts p gs named_if f n sc k (row.Walk site) (m ∷ []) (m + 1) (first_and z m (m + 1)) × Acts p gs named_if f n sc z (row.Word (pos 0)) [] (m + 1) (first_and q (m + 1) (m + 1)))
+  over_sim sc site e E sim m b q held R c s fit has =
+      seq p gs named_if f instead frs (sim m b has.0 held R c s fit has.2)
+      (λ x t after y.
+      let fit_t = fit_on fit after in
+      seq p gs named_if f instead frs (last_sim p gs named_if builtins stand prev top good f n instead frs m sc held R c t fit_t (x ∷ []) 1 has.0 has.1 (row.Walk site) Any refl has.3 (λ v w j. tt))
+      (λ over u after2 y2. here p gs named_if f instead frs (zero_place m sc held R c u (fit_on fit_t after2) over has.1 q has.4) refl))
+
+  up_to_sim : (sc : Scope) (e : Expr) (E : ℕ → ℕ → ℕ → Type 0) → VSim sc e E
+      → SubjectSim sc (UpTo e) (λ b m q. (z : ℕ) × E b m z × Acts p gs named_if f n sc z (row.Word (pos 0)) [] (m + 1) (first_and q (m + 1) (m + 1)))
+  up_to_sim sc e E sim m b q held R c s fit has =
+      seq p gs named_if f instead frs (sim m b has.0 held R c s fit has.1)
+      (λ end t after y. here p gs named_if f instead frs (zero_place m sc held R c t (fit_on fit after) end has.0 q has.2) refl)
+
+  from_to_sim : (sc : Scope) (a e : Expr) (step : ℤ) (A E : ℕ → ℕ → ℕ → Type 0) → VSim sc a A → VSim sc e E
+      → SubjectSim sc (FromTo a e step) (λ b m q. (k l : ℕ) × A b m k × E k (m + 1) l × Is p gs named_if f n l (m + 2) (Go (record { to = q; places = (range 0 m ++ (m + 1) ∷ []) ++ m ∷ [] })))
+  from_to_sim sc a e step A E sim_a sim_e m b q held R c s fit has =
+      seq p gs named_if f instead frs (sim_a m b has.0 held R c s fit has.2)
+      (λ x t after y.
+      let fit_t = fit_on fit after in
+      let c1 = more_held x c in
+      seq p gs named_if f instead frs (hold p gs named_if f instead frs (x ∷ []) (sim_e (m + 1) has.0 has.1 (held ++ x ∷ []) R c1 t fit_t has.3))
+      (λ v u after2 y2.
+      let fit_u = fit_on fit_t after2 in
+      let W = (held ++ x ∷ []) ++ v ∷ [] in
+      let W_is : W ≡ held ++ (x ∷ v ∷ []) = append_assoc held (x ∷ []) (v ∷ []) in
+      let swapped : pick (env u W) ((range 0 m ++ (m + 1) ∷ []) ++ m ∷ []) ≡ env u (held ++ v ∷ x ∷ []) =
+          map-append (λ i. get_or (env u W) i None) (range 0 m ++ (m + 1) ∷ []) (m ∷ [])
+          ∙ ap (λ l. l ++ get_or (env u W) m None ∷ []) (jump_and n u fit_u.long W held (x ∷ v ∷ []) m (m + 1) v W_is c.all (land_at n u fit_u.long W (held ++ x ∷ []) [] v (m + 1) refl c1.all))
+          ∙ ap (λ z. env u (held ++ v ∷ []) ++ z ∷ []) (land_at n u fit_u.long W held (v ∷ []) x m W_is c.all)
+          ∙ sym (env_push u (held ++ v ∷ []) (x ∷ []))
+          ∙ ap (env u) (append_assoc held (v ∷ []) (x ∷ [])) in
+      here p gs named_if f instead frs
+      (jumps p gs named_if builtins stand prev top good f n instead frs has.1 (m + 2) (record { to = q; places = (range 0 m ++ (m + 1) ∷ []) ++ m ∷ [] }) W u (env u (held ++ v ∷ x ∷ [])) has.4
+      (wide n u fit_u.long W ∙ (let z = length-append (held ++ x ∷ []) (v ∷ []) in let a = c1.all in omega (arith, z, a))) swapped)
+      refl))
+
+  -- ---- targets
+
+  abbrev BindSim : Scope → Target → (ℕ → ℕ → ℕ → ℕ → ℕ → Type 0) → Type 0
+  BindSim sc target Bind =
+      (m at keep b q : ℕ) (held hs rest before behind : List Value) (R : ℕ → State → Place) → Keep m sc held R → (s : State) → Fit (suc top) n s → (v : Value)
+      → held ≡ before ++ (v ∷ behind) → n + length before ≡ at → held ≡ hs ++ rest → n + length hs ≡ keep → Bind at m keep b q
+      → F (at_place (place b (env s held)) s.world) held s (stay_at q hs) R Any (bind p unwatched prev sc.covers target v s)
+
+  name_sim : (sc : Scope) (i : ℕ) → BindSim sc (Name i) (λ at m keep b q. (i < n) × Acts p gs named_if f n sc b row.Copy (at ∷ []) m (stored q keep i m))
+  name_sim sc i m at keep b q held hs rest before behind R c s fit v is_v at_v is_hs at_hs has =
+      let t : State = record s { locals = slice_set s.locals i (Some v) } in
+      let l = gives_on p gs named_if builtins stand prev top good f n instead frs m sc held R c s fit held [] (sym (append-nil held)) b m row.Copy (at ∷ []) (stored q keep i m) (v ∷ []) has.1 (omega arith)
+          (ap (λ z. z ∷ []) (land_at n s fit.long held before behind v at is_v at_v)) v (env t hs) refl
+          (land_store n s fit.long held hs rest keep m i v is_hs at_hs c.all ∙ set-append_left s.locals (map Some hs) i (Some v) (let z = fit.long in let y = has.0 in omega (arith, z, y))) in
+      record {
+        sim = record {
+          leads = l;
+          after = record { later = same s.world; long = length-set s.locals i (Some v); bound = λ j x. set_bound s.locals i j v x };
+          post = tt;
+        };
+      }
+
+  attribute_sim : (sc : Scope) (e : Expr) (name : List ℕ) (E : ℕ → ℕ → ℕ → Type 0) → VSim sc e E
+      → BindSim sc (Attribute e name) (λ at m keep b q. (k : ℕ) × E b m k × Acts p gs named_if f n sc k (row.StoreAttr name) (m ∷ at ∷ []) (m + 1) (first q keep))
+  attribute_sim sc e name E sim m at keep b q held hs rest before behind R c s fit v is_v at_v is_hs at_hs has =
+      seq p gs named_if f instead frs (sim m b has.0 held R c s fit has.1)
+      (λ x t after y.
+      let fit_t = fit_on fit after in
+      let W = held ++ x ∷ [] in
+      let v_at = land_at n t fit_t.long W before (behind ++ x ∷ []) v at (ap (λ l. l ++ x ∷ []) is_v ∙ append_assoc before (v ∷ behind) (x ∷ [])) at_v in
+      seq p gs named_if f instead frs
+      (acts p gs named_if builtins stand prev top good f n instead frs m sc held R c t fit_t W (x ∷ []) refl has.0 (m + 1) (row.StoreAttr name) (m ∷ at ∷ []) (first q keep) (x ∷ v ∷ []) has.2 (omega arith)
+      (ap (λ z. z ∷ get_or (env t W) at None ∷ []) (land_at n t fit_t.long W held [] x m refl c.all) ∙ ap (λ z. Some x ∷ z ∷ []) v_at)
+      (x ∷ []) (stay_at q hs) Any (λ wt. omega arith) (λ wt. omega arith)
+      (λ r w j. (ap (place q) (land_first n t fit_t.long W hs (rest ++ x ∷ []) keep (Some r ∷ []) (ap (λ l. l ++ x ∷ []) is_hs ∙ append_assoc hs rest (x ∷ [])) at_hs), tt)))
+      (λ r u after2 y2. here p gs named_if f instead frs (stays p gs named_if) tt))
+
+  item_sim : (sc : Scope) (a i : Expr) (A I : ℕ → ℕ → ℕ → Type 0) → VSim sc a A → VSim sc i I
+      → BindSim sc (Item a i) (λ at m keep b q. (k l : ℕ) × A b m k × I k (m + 1) l × Acts p gs named_if f n sc l row.StoreIndex (m ∷ (m + 1) ∷ at ∷ []) (m + 2) (first q keep))
+  item_sim sc a i A I sim_a sim_i m at keep b q held hs rest before behind R c s fit v is_v at_v is_hs at_hs has =
+      seq p gs named_if f instead frs (sim_a m b has.0 held R c s fit has.2)
+      (λ x t after y.
+      let fit_t = fit_on fit after in
+      let c1 = more_held x c in
+      seq p gs named_if f instead frs (hold p gs named_if f instead frs (x ∷ []) (sim_i (m + 1) has.0 has.1 (held ++ x ∷ []) R c1 t fit_t has.3))
+      (λ k u after2 y2.
+      let fit_u = fit_on fit_t after2 in
+      let W = (held ++ x ∷ []) ++ k ∷ [] in
+      let W_is : W ≡ held ++ (x ∷ k ∷ []) = append_assoc held (x ∷ []) (k ∷ []) in
+      let v_at = land_at n u fit_u.long W before (behind ++ (x ∷ k ∷ [])) v at (W_is ∙ ap (λ l. l ++ (x ∷ k ∷ [])) is_v ∙ append_assoc before (v ∷ behind) (x ∷ k ∷ [])) at_v in
+      seq p gs named_if f instead frs
+      (acts p gs named_if builtins stand prev top good f n instead frs m sc held R c u fit_u W (x ∷ k ∷ []) W_is has.1 (m + 2) row.StoreIndex (m ∷ (m + 1) ∷ at ∷ []) (first q keep) (x ∷ k ∷ v ∷ []) has.4 (omega arith)
+      (ap (λ z. z ∷ get_or (env u W) (m + 1) None ∷ get_or (env u W) at None ∷ []) (land_at n u fit_u.long W held (k ∷ []) x m W_is c.all)
+      ∙ ap (λ z. Some x ∷ z ∷ get_or (env u W) at None ∷ []) (land_at n u fit_u.long W (held ++ x ∷ []) [] k (m + 1) refl c1.all) ∙ ap (λ z. Some x ∷ Some k ∷ z ∷ []) v_at)
+      (x ∷ k ∷ []) (stay_at q hs) Any (λ wt. omega arith) (λ wt. omega arith)
+      (λ r w j. (ap (place q) (land_first n u fit_u.long W hs (rest ++ (x ∷ k ∷ [])) keep (Some r ∷ []) (W_is ∙ ap (λ l. l ++ (x ∷ k ∷ [])) is_hs ∙ append_assoc hs rest (x ∷ k ∷ [])) at_hs), tt)))
+      (λ r u2 after3 y3. here p gs named_if f instead frs (stays p gs named_if) tt)))
+
+  abbrev ItemsSim : Scope → Targets → (ℕ → ℕ → ℕ → ℕ → ℕ → ℕ → Type 0) → Type 0
+  ItemsSim sc parts Items =
+      (m at k i b q : ℕ) (held before behind : List Value) (R : ℕ → State → Place) → Keep m sc held R → (s : State) → Fit (suc top) n s → (v : Value)
+      → held ≡ before ++ (v ∷ behind) → n + length before ≡ at → (named_if ≡ true → AllNamed parts) → Items k i at b m q
+      → F (at_place (place b (env s held)) s.world) held s (stay_at q held) R Any (bind_parts p unwatched prev sc.covers k i parts v s)
+
+  parts_sim : (sc : Scope) (parts : Targets) (Items : ℕ → ℕ → ℕ → ℕ → ℕ → ℕ → Type 0) → ItemsSim sc parts Items
+      → BindSim sc (Parts parts) (λ at m keep b q. (k l : ℕ) × Acts p gs named_if f n sc b row.Copy (at ∷ []) m (first k m) × Items (target_count parts) 0 at k m l × Is p gs named_if f n l m (Go (first q keep)) × (named_if ≡ true → AllNamed parts))
+  parts_sim sc parts Items sims m at keep b q held hs rest before behind R c s fit v is_v at_v is_hs at_hs has =
+      moved p gs named_if f instead frs
+      (gives_on p gs named_if builtins stand prev top good f n instead frs m sc held R c s fit held [] (sym (append-nil held)) b m row.Copy (at ∷ []) (first has.0 m) (v ∷ []) has.2 (omega arith)
+      (ap (λ z. z ∷ []) (land_at n s fit.long held before behind v at is_v at_v)) v (env s held) refl (land_first n s fit.long held held [] m (Some v ∷ []) (sym (append-nil held)) c.all))
+      (led p gs named_if f instead frs (sims m at (target_count parts) 0 has.0 has.1 held before behind R c s fit v is_v at_v has.5 has.3)
+      (λ a t after y.
+      let fit_t = fit_on fit after in
+      (jumps p gs named_if builtins stand prev top good f n instead frs has.1 m (first q keep) held t (env t hs) has.4 (wide n t fit_t.long held ∙ c.all) (jump_first n t fit_t.long held hs rest keep is_hs at_hs), tt)))
+
+  items_sim : (sc : Scope) (t : Target) (ts : Targets) (Bind : ℕ → ℕ → ℕ → ℕ → ℕ → Type 0) (Items : ℕ → ℕ → ℕ → ℕ → ℕ → ℕ → Type 0) → BindSim sc t Bind → ItemsSim sc ts Items
+      → ItemsSim sc (more_targets t ts) (λ k i at b m q. (j l : ℕ) × Acts p gs named_if f n sc b (row.Unpack k i) (at ∷ []) m (first_and j m m) × Bind m (m + 1) m j l × Items k (suc i) at l m q)
+  items_sim sc target ts Bind Items sim sims m at k i b q held before behind R c s fit v is_v at_v nm has =
+      seq p gs named_if f instead frs
+      (acts p gs named_if builtins stand prev top good f n instead frs m sc held R c s fit held [] (sym (append-nil held)) b m (row.Unpack k i) (at ∷ []) (first_and has.0 m m) (v ∷ []) has.2 (omega arith)
+      (ap (λ z. z ∷ []) (land_at n s fit.long held before behind v at is_v at_v)) [] (vals has.0 held) Any (λ wt. omega arith) (λ wt. omega arith)
+      (λ x w j. (ap (place has.0) (land_result n s fit.long held held [] m m x (sym (append-nil held)) c.all c.all), tt)))
+      (λ x t after y.
+      let fit_t = fit_on fit after in
+      seq p gs named_if f instead frs
+      (loosen p gs named_if f instead frs held (λ z. quiet_bind p prev sc.covers target x t (nm z).0)
+      (sim (m + 1) m m has.0 has.1 (held ++ x ∷ []) held (x ∷ []) held [] R (more_held x c) t fit_t x refl c.all refl c.all has.3))
+      (λ a u after2 y2. sims m at k (suc i) has.1 q held before behind R c u (fit_on fit_t after2) v is_v at_v (λ z. (nm z).1) has.4))
