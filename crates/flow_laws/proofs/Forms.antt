@@ -132,12 +132,12 @@ module _ (p : Program) (gs : Graphs) (named_if : Bool) (builtins : (k : ℕ) →
       (m b q : ℕ) (held : List Value) (R : ℕ → State → Place) → Keep m sc held R → (s : State) → Fit (suc top) n s → E b m q
       → F (at_place (place b (env s held)) s.world) held s (lists q held) R (Many es) (values p unwatched prev sc.covers es s)
 
-  abbrev pub SidesSim : Scope → Expr → (ℕ → ℕ → ℕ → ℕ → Type 0) → Type 1
-  SidesSim sc e Sides =
-      (B : Type 0) (m b c q : ℕ) (held : List Value) (R : ℕ → State → Place) → Keep m sc held R → (s : State) → Fit (suc top) n s → Sides b m c q
-      → (D : B → State → Place) (X : B → State → Type 0) (K : Value → Eval B)
-      → ((x : Value) (t : State) (ys : List Value) → After s t → length ys ≡ c → ReadBy e x t → F (at_place (place q (env t (held ++ (ys ++ x ∷ [])))) t.world) held t D R X (K x t))
-      → F (at_place (place b (env s held)) s.world) held s D R X (then_go (value p unwatched prev sc.covers e s) K)
+  abbrev pub SidesSim : Type 0 → Scope → Expr → (ℕ → ℕ → ℕ → ℕ → Type 0) → Type 0
+  SidesSim B sc e Sides =
+      (m b c q : ℕ) (held : List Value) (R : ℕ → State → Place) → Keep m sc held R → (s : State) → Fit (suc top) n s → Sides b m c q
+      → (D : B → State → Place) (K : Value → Eval B)
+      → ((x : Value) (t : State) (ys : List Value) → After s t → length ys ≡ c → ReadBy e x t → F (at_place (place q (env t (held ++ (ys ++ x ∷ [])))) t.world) held t D R Any (K x t))
+      → F (at_place (place b (env s held)) s.world) held s D R Any (then_go (value p unwatched prev sc.covers e s) K)
 
   abbrev pub TestSim : Scope → Expr → (ℕ → ℕ → ℕ → ℕ → Type 0) → Type 0
   TestSim sc e Test =
@@ -177,9 +177,9 @@ module _ (p : Program) (gs : Graphs) (named_if : Bool) (builtins : (k : ℕ) →
       seq p gs named_if f instead frs (sims m b has.0 held R c s fit has.1)
       (λ vs t after many. applied_by m sc held R c t (fit_on fit after) vs (count es) has.0 q o (ReadBy (Apply o es)) many.0 has.2 (λ v w j i h. many.1 i h) (onward_is o))
 
-  pub sides_sim : (sc : Scope) (o : RowOp) (es : Exprs) (Es : ℕ → ℕ → ℕ → Type 0) → ValuesSim sc es Es → SidesSim sc (Apply o es) (SidesAt p gs named_if f n sc o (count es) Es)
-  sides_sim sc o es Es sims B m b k q held R c s fit has D X K go =
-      subst (λ e. F (at_place (place b (env s held)) s.world) held s D R X e) (sym (assoc (values p unwatched prev sc.covers es s) (perform p unwatched prev sc.covers o) K))
+  pub sides_sim : (B : Type 0) (sc : Scope) (o : RowOp) (es : Exprs) (Es : ℕ → ℕ → ℕ → Type 0) → ValuesSim sc es Es → SidesSim B sc (Apply o es) (SidesAt p gs named_if f n sc o (count es) Es)
+  sides_sim B sc o es Es sims m b k q held R c s fit has D K go =
+      subst (λ e. F (at_place (place b (env s held)) s.world) held s D R Any e) (sym (assoc (values p unwatched prev sc.covers es s) (perform p unwatched prev sc.covers o) K))
       (seq p gs named_if f instead frs (sims m b has.1.0 held R c s fit has.1.1)
       (λ vs t after many.
       let fit_t = fit_on fit after in
@@ -192,23 +192,23 @@ module _ (p : Program) (gs : Graphs) (named_if : Bool) (builtins : (k : ℕ) →
       (λ x u after2 reads. go x u vs (after_on after after2) len reads)))
 
   -- the truth of a value, and what is done by it
-  pub asks_sim : {B : Type 0} (sc : Scope) (e : Expr) (E : ℕ → ℕ → ℕ → Type 0) (Sides : ℕ → ℕ → ℕ → ℕ → Type 0) → ValueSim sc e E → SidesSim sc e Sides
+  pub asks_sim : {B : Type 0} (sc : Scope) (e : Expr) (E : ℕ → ℕ → ℕ → Type 0) (Sides : ℕ → ℕ → ℕ → ℕ → Type 0) → ValueSim sc e E → SidesSim B sc e Sides
       → (m b : ℕ) (so other : Branch) (held : List Value) (R : ℕ → State → Place) → Keep m sc held R → (s : State) → Fit (suc top) n s → Asks p gs named_if f n sc e E Sides b m so other
-      → (D : B → State → Place) (X : B → State → Type 0) (K : Value → Bool → Eval B)
-      → ((x : Value) (go : Bool) (t : State) → After s t → F (at_place (branch_place (by_truth go so other) held x t) t.world) held t D R X (K x go t))
-      → F (at_place (place b (env s held)) s.world) held s D R X (then_go (value p unwatched prev sc.covers e s) (λ x t. then_go (is_so x t) (K x)))
-  asks_sim sc e E Sides sim sides m b so other held R c s fit (inl (k, at_e, truth)) D X K go =
+      → (D : B → State → Place) (K : Value → Bool → Eval B)
+      → ((x : Value) (go : Bool) (t : State) → After s t → F (at_place (branch_place (by_truth go so other) held x t) t.world) held t D R Any (K x go t))
+      → F (at_place (place b (env s held)) s.world) held s D R Any (then_go (value p unwatched prev sc.covers e s) (λ x t. then_go (is_so x t) (K x)))
+  asks_sim sc e E Sides sim sides m b so other held R c s fit (inl (k, at_e, truth)) D K go =
       seq p gs named_if f instead frs (sim m b k held R c s fit at_e)
-      (λ x t after reads. truth_sim p gs named_if builtins stand prev top good f n instead frs m sc held R c t (fit_on fit after) e x [] (held ++ x ∷ []) refl reads D X (K x) m (omega arith) k so other truth (λ g. go x g t after))
-  asks_sim {B} sc e E Sides sim sides m b so other held R c s fit (inr (k, j, at_sides, truth)) D X K go =
-      sides B m b j k held R c s fit at_sides D X (λ x t. then_go (is_so x t) (K x))
-      (λ x t ys after len reads. truth_sim p gs named_if builtins stand prev top good f n instead frs m sc held R c t (fit_on fit after) e x ys (held ++ (ys ++ x ∷ [])) refl reads D X (K x) (m + j) (omega (arith, len)) k so other truth (λ g. go x g t after))
+      (λ x t after reads. truth_sim p gs named_if builtins stand prev top good f n instead frs m sc held R c t (fit_on fit after) e x [] (held ++ x ∷ []) refl reads D Any (K x) m (omega arith) k so other truth (λ g. go x g t after))
+  asks_sim {B} sc e E Sides sim sides m b so other held R c s fit (inr (k, j, at_sides, truth)) D K go =
+      sides m b j k held R c s fit at_sides D (λ x t. then_go (is_so x t) (K x))
+      (λ x t ys after len reads. truth_sim p gs named_if builtins stand prev top good f n instead frs m sc held R c t (fit_on fit after) e x ys (held ++ (ys ++ x ∷ [])) refl reads D Any (K x) (m + j) (omega (arith, len)) k so other truth (λ g. go x g t after))
 
   -- a test
-  pub tests_sim : (sc : Scope) (e : Expr) (E : ℕ → ℕ → ℕ → Type 0) (Sides : ℕ → ℕ → ℕ → ℕ → Type 0) → ValueSim sc e E → SidesSim sc e Sides → TestSim sc e (λ b m so other. Asks p gs named_if f n sc e E Sides b m (plainly so) (plainly other))
+  pub tests_sim : (sc : Scope) (e : Expr) (E : ℕ → ℕ → ℕ → Type 0) (Sides : ℕ → ℕ → ℕ → ℕ → Type 0) → ValueSim sc e E → SidesSim Bool sc e Sides → TestSim sc e (λ b m so other. Asks p gs named_if f n sc e E Sides b m (plainly so) (plainly other))
   tests_sim sc e E Sides sim sides m b so other held R c s fit has =
       subst (λ z. F (at_place (place b (env s held)) s.world) held s (test_place so other held) R Any z) (tested_is (value p unwatched prev sc.covers e s))
-      (asks_sim sc e E Sides sim sides m b (plainly so) (plainly other) held R c s fit has (test_place so other held) Any (λ x go u. Done go u)
+      (asks_sim sc e E Sides sim sides m b (plainly so) (plainly other) held R c s fit has (test_place so other held) (λ x go u. Done go u)
       (λ x go t after. here p gs named_if f instead frs (ways go x t) tt))
     where
       ways : (go : Bool) (x : Value) (t : State) → Leads p gs named_if (at_place (branch_place (by_truth go (plainly so) (plainly other)) held x t) t.world) (at_place (test_place so other held go t) t.world)
@@ -217,29 +217,29 @@ module _ (p : Program) (gs : Graphs) (named_if : Bool) (builtins : (k : ℕ) →
 
   -- ---- `and`, `or` and `not`
 
-  pub and_sim : (sc : Scope) (a e : Expr) (E Right : ℕ → ℕ → ℕ → Type 0) (Sides : ℕ → ℕ → ℕ → ℕ → Type 0) → ValueSim sc a E → SidesSim sc a Sides → ValueSim sc e Right
+  pub and_sim : (sc : Scope) (a e : Expr) (E Right : ℕ → ℕ → ℕ → Type 0) (Sides : ℕ → ℕ → ℕ → ℕ → Type 0) → ValueSim sc a E → SidesSim Value sc a Sides → ValueSim sc e Right
       → ValueSim sc (And a e) (AndAt p gs named_if f n sc (Asks p gs named_if f n sc a E Sides) Right)
   and_sim sc a e E Right Sides sim sides right m b q held R c s fit has =
-      asks_sim sc a E Sides sim sides m b (plainly has.1) (with_value has.0) held R c s fit has.4 (vals q held) (ReadBy (And a e)) (λ x go. if go then value p unwatched prev sc.covers e else pure x) ways
+      led p gs named_if f instead frs (asks_sim sc a E Sides sim sides m b (plainly has.1) (with_value has.0) held R c s fit has.4 (vals q held) (λ x go. if go then value p unwatched prev sc.covers e else pure x) ways) (λ v t after x. (stays p gs named_if, λ i h. absurd h))
     where
-      ways : (x : Value) (go : Bool) (t : State) → After s t → F (at_place (branch_place (by_truth go (plainly has.1) (with_value has.0)) held x t) t.world) held t (vals q held) R (ReadBy (And a e)) ((if go then value p unwatched prev sc.covers e else pure x) t)
+      ways : (x : Value) (go : Bool) (t : State) → After s t → F (at_place (branch_place (by_truth go (plainly has.1) (with_value has.0)) held x t) t.world) held t (vals q held) R Any ((if go then value p unwatched prev sc.covers e else pure x) t)
       ways x true t after =
           led p gs named_if f instead frs (right m has.1 has.0 held R c t (fit_on fit after) has.3)
-          (λ v u after2 reads. (meets p gs named_if builtins stand prev top good f n instead frs m sc held R c u (fit_on (fit_on fit after) after2) v has.0 q has.2, λ i h. absurd h))
+          (λ v u after2 reads. (meets p gs named_if builtins stand prev top good f n instead frs m sc held R c u (fit_on (fit_on fit after) after2) v has.0 q has.2, tt))
       ways x false t after =
-          here p gs named_if f instead frs (meets p gs named_if builtins stand prev top good f n instead frs m sc held R c t (fit_on fit after) x has.0 q has.2) (λ i h. absurd h)
+          here p gs named_if f instead frs (meets p gs named_if builtins stand prev top good f n instead frs m sc held R c t (fit_on fit after) x has.0 q has.2) tt
 
-  pub or_sim : (sc : Scope) (a e : Expr) (E Right : ℕ → ℕ → ℕ → Type 0) (Sides : ℕ → ℕ → ℕ → ℕ → Type 0) → ValueSim sc a E → SidesSim sc a Sides → ValueSim sc e Right
+  pub or_sim : (sc : Scope) (a e : Expr) (E Right : ℕ → ℕ → ℕ → Type 0) (Sides : ℕ → ℕ → ℕ → ℕ → Type 0) → ValueSim sc a E → SidesSim Value sc a Sides → ValueSim sc e Right
       → ValueSim sc (Or a e) (OrAt p gs named_if f n sc (Asks p gs named_if f n sc a E Sides) Right)
   or_sim sc a e E Right Sides sim sides right m b q held R c s fit has =
-      asks_sim sc a E Sides sim sides m b (with_value has.0) (plainly has.1) held R c s fit has.4 (vals q held) (ReadBy (Or a e)) (λ x stop. if stop then pure x else value p unwatched prev sc.covers e) ways
+      led p gs named_if f instead frs (asks_sim sc a E Sides sim sides m b (with_value has.0) (plainly has.1) held R c s fit has.4 (vals q held) (λ x stop. if stop then pure x else value p unwatched prev sc.covers e) ways) (λ v t after x. (stays p gs named_if, λ i h. absurd h))
     where
-      ways : (x : Value) (stop : Bool) (t : State) → After s t → F (at_place (branch_place (by_truth stop (with_value has.0) (plainly has.1)) held x t) t.world) held t (vals q held) R (ReadBy (Or a e)) ((if stop then pure x else value p unwatched prev sc.covers e) t)
+      ways : (x : Value) (stop : Bool) (t : State) → After s t → F (at_place (branch_place (by_truth stop (with_value has.0) (plainly has.1)) held x t) t.world) held t (vals q held) R Any ((if stop then pure x else value p unwatched prev sc.covers e) t)
       ways x false t after =
           led p gs named_if f instead frs (right m has.1 has.0 held R c t (fit_on fit after) has.3)
-          (λ v u after2 reads. (meets p gs named_if builtins stand prev top good f n instead frs m sc held R c u (fit_on (fit_on fit after) after2) v has.0 q has.2, λ i h. absurd h))
+          (λ v u after2 reads. (meets p gs named_if builtins stand prev top good f n instead frs m sc held R c u (fit_on (fit_on fit after) after2) v has.0 q has.2, tt))
       ways x true t after =
-          here p gs named_if f instead frs (meets p gs named_if builtins stand prev top good f n instead frs m sc held R c t (fit_on fit after) x has.0 q has.2) (λ i h. absurd h)
+          here p gs named_if f instead frs (meets p gs named_if builtins stand prev top good f n instead frs m sc held R c t (fit_on fit after) x has.0 q has.2) tt
 
   pub and_tests_sim : (sc : Scope) (a e : Expr) (Left Right : ℕ → ℕ → ℕ → ℕ → Type 0) → TestSim sc a Left → TestSim sc e Right → TestSim sc (And a e) (λ b m so other. (k : ℕ) × Left b m k other × Right k m so other)
   and_tests_sim sc a e Left Right left right m b so other held R c s fit has =

@@ -248,3 +248,193 @@ module _ (p : Program) (gs : Graphs) (named_if : Bool) (builtins : (k : ℕ) →
       (loosen p gs named_if f instead frs held (λ z. quiet_bind p prev sc.covers target x t (nm z).0)
       (sim (m + 1) m m has.0 has.1 (held ++ x ∷ []) held (x ∷ []) held [] R (more_held x c) t fit_t x refl c.all refl c.all has.3))
       (λ a u after2 y2. sims m at k (suc i) has.1 q held before behind R c u (fit_on fit_t after2) v is_v at_v (λ z. (nm z).1) has.4))
+
+  -- ---- comprehensions
+
+  abbrev ConditionSim : Scope → Condition → (ℕ → ℕ → ℕ → ℕ → Type 0) → Type 0
+  ConditionSim sc condition Test =
+      (m b so other : ℕ) (held : List Value) (R : ℕ → State → Place) → Keep m sc held R → (s : State) → Fit (suc top) n s → Test b m so other
+      → F (at_place (place b (env s held)) s.world) held s (test_place so other held) R Any (keeps p unwatched prev sc.covers condition s)
+
+  -- what is done with an item
+  gather_sim : (sc : Scope) (item : Expr) (target : Target) (condition : Condition) (E : ℕ → ℕ → ℕ → Type 0) (Bind : ℕ → ℕ → ℕ → ℕ → ℕ → Type 0) (Test : ℕ → ℕ → ℕ → ℕ → Type 0) → VSim sc item E → BindSim sc target Bind → ConditionSim sc condition Test
+      → (m all turn bound advance : ℕ) (held vs : List Value) (list : Value) (R : ℕ → State → Place) → Keep m sc held R → Keep all sc ((held ++ list ∷ []) ++ vs) R → (t : Ways) → t.norm ≡ advance
+      → Bind all (all + 1) all turn bound → GatherAt p gs named_if f n sc E Test m bound all advance
+      → (v : Value) (s : State) → Fit (suc top) n s
+      → F (at_place (place turn (env s (((held ++ list ∷ []) ++ vs) ++ v ∷ []))) s.world) ((held ++ list ∷ []) ++ vs) s (flow_place t ((held ++ list ∷ []) ++ vs)) R IsOnward
+        (gather p unwatched prev (bind p unwatched prev sc.covers target) (keeps p unwatched prev sc.covers condition) (value p unwatched prev sc.covers item) sc.covers list v s)
+  gather_sim sc item target condition E Bind Test sim sim_b sim_c m all turn bound advance held vs list R c c2 t is_norm at_bind has v s fit =
+      let W = (held ++ list ∷ []) ++ vs in
+      seq p gs named_if f instead frs
+      (hold p gs named_if f instead frs (v ∷ []) (sim_b (all + 1) all all turn bound (W ++ v ∷ []) W (v ∷ []) W [] R (more_held v c2) s fit v refl c2.all refl c2.all at_bind))
+      (λ a u after y.
+      let fit_u = fit_on fit after in
+      seq p gs named_if f instead frs (sim_c all bound has.0 advance W R c2 u fit_u has.2)
+      (λ wanted u2 after2 y2. ways wanted u2 (fit_on fit_u after2)))
+    where
+      W : List Value
+      W = (held ++ list ∷ []) ++ vs
+      onward : (u : State) → Leads p gs named_if (at_place (place advance (env u ((held ++ list ∷ []) ++ vs))) u.world) (at_place (flow_place t ((held ++ list ∷ []) ++ vs) Onward u) u.world)
+      onward u = same_as p gs named_if builtins stand prev top good f n instead frs (place advance (env u ((held ++ list ∷ []) ++ vs))) (place t.norm (env u ((held ++ list ∷ []) ++ vs))) u.world (ap (λ k. place k (env u ((held ++ list ∷ []) ++ vs))) (sym is_norm))
+      ways : (wanted : Bool) (u : State) → Fit (suc top) n u → F (at_place (test_place has.0 advance ((held ++ list ∷ []) ++ vs) wanted u) u.world) ((held ++ list ∷ []) ++ vs) u (flow_place t ((held ++ list ∷ []) ++ vs)) R IsOnward
+          ((if wanted then (λ u. then_go (value p unwatched prev sc.covers item u) (λ x u. then_go (operate p unwatched prev (x ∷ []) sc.covers row.AddItem (list ∷ x ∷ []) u) (λ a u. Done Onward u))) else pure Onward) u)
+      ways false u fit_u = here p gs named_if f instead frs (onward u) refl
+      ways true u fit_u =
+          seq p gs named_if f instead frs (sim all has.0 has.1 ((held ++ list ∷ []) ++ vs) R c2 u fit_u has.3)
+          (λ x u3 after3 y3.
+          let fit_3 = fit_on fit_u after3 in
+          let W2 = (held ++ list ∷ []) ++ vs in
+          let V = W2 ++ x ∷ [] in
+          let V_is : V ≡ held ++ (list ∷ (vs ++ x ∷ [])) = append_assoc (held ++ list ∷ []) vs (x ∷ []) ∙ append_assoc held (list ∷ []) (vs ++ x ∷ []) in
+          seq p gs named_if f instead frs
+          (acts p gs named_if builtins stand prev top good f n instead frs all sc W2 R c2 u3 fit_3 V (x ∷ []) refl has.1 (all + 1) row.AddItem (m ∷ all ∷ []) (first advance all) (list ∷ x ∷ []) has.4 (omega arith)
+          (ap (λ z. z ∷ get_or (env u3 V) all None ∷ []) (land_at n u3 fit_3.long V held (vs ++ x ∷ []) list m V_is c.all) ∙ ap (λ z. Some list ∷ z ∷ []) (land_at n u3 fit_3.long V W2 [] x all refl c2.all))
+          (x ∷ []) (stay_at advance W2) Any (λ wt. omega arith) (λ wt. omega arith)
+          (λ r w j. (ap (place advance) (land_first n u3 fit_3.long V W2 (x ∷ []) all (Some r ∷ []) refl c2.all), tt)))
+          (λ r u4 after4 y4. here p gs named_if f instead frs (onward u4) refl))
+
+  -- the turns of a comprehension
+  pub gathers_sim : (sc : Scope) (item : Expr) (target : Target) (condition : Condition) (E : ℕ → ℕ → ℕ → Type 0) (Bind : ℕ → ℕ → ℕ → ℕ → ℕ → Type 0) (Test : ℕ → ℕ → ℕ → ℕ → Type 0) → VSim sc item E → BindSim sc target Bind → ConditionSim sc condition Test
+      → (m head whole : ℕ) (held : List Value) (list : Value) (R : ℕ → State → Place) → Keep m sc held R → (walking : Walking)
+      → ((next : Value) (s : State) → Fit top n s → F (at_place (place head (env s ((held ++ list ∷ []) ++ walking.over ∷ next ∷ []))) s.world) (held ++ list ∷ []) s (flow_place (gathered whole (m + 1)) (held ++ list ∷ [])) R IsOnward (prev (Gather sc.covers item target condition list (record walking { at = next })) s))
+      → GathersAt p gs named_if f n sc walking.step E Bind Test head m whole → (s : State) → Fit (suc top) n s
+      → F (at_place (place head (env s ((held ++ list ∷ []) ++ walk_holds walking))) s.world) (held ++ list ∷ []) s (flow_place (gathered whole (m + 1)) (held ++ list ∷ [])) R IsOnward
+        (turns p unwatched prev (gather p unwatched prev (bind p unwatched prev sc.covers target) (keeps p unwatched prev sc.covers condition) (value p unwatched prev sc.covers item) sc.covers list) (λ rest. prev (Gather sc.covers item target condition list rest)) walking s)
+  gathers_sim sc item target condition E Bind Test sim sim_b sim_c m head whole held list R c walking rest has s fit =
+      let c1 = more_held list c in
+      turns_sim p gs named_if builtins stand prev top good f n instead frs (m + 1) sc (held ++ list ∷ []) R c1 (gathered whole (m + 1)) (record { brk = omega arith; cont = omega arith; ret = omega arith })
+      (gather p unwatched prev (bind p unwatched prev sc.covers target) (keeps p unwatched prev sc.covers condition) (value p unwatched prev sc.covers item) sc.covers list) (λ rest. prev (Gather sc.covers item target condition list rest))
+      IsOnward IsOnward head has.0 has.2 (λ u. refl) (λ u e. refl) (λ v u e. e) walking has.3
+      (λ v u fit_u.
+      gather_sim sc item target condition E Bind Test sim sim_b sim_c m (m + 1 + 2) has.0 has.1 has.2 held (walk_holds walking) list R c (catches_more p gs named_if (walk_holds walking) (m + 1 + 2) (omega arith) c1)
+      (within p gs named_if f n (gathered whole (m + 1)) (record { to = has.2; keep = m + 1 + 2 }) (record { to = whole; keep = m + 1 })) refl has.4 has.5 v u fit_u)
+      rest s fit
+
+  comprehension_sim : (sc : Scope) (site : ℕ) (item : Expr) (target : Target) (subject : Subject) (condition : Condition)
+      → VSim sc item (HasExpr p gs named_if f n sc item) → BindSim sc target (HasBind p gs named_if f n sc target) → SubjectSim sc subject (HasSubject p gs named_if f n sc subject) → ConditionSim sc condition (HasCondition p gs named_if f n sc condition)
+      → VSim sc (Comprehension site item target subject condition)
+        (ComprehensionAt p gs named_if f n sc site (HasSubject p gs named_if f n sc subject) (GathersAt p gs named_if f n sc (step_of subject) (HasExpr p gs named_if f n sc item) (HasBind p gs named_if f n sc target) (HasCondition p gs named_if f n sc condition)))
+  comprehension_sim sc site item target subject condition sim sim_b sim_s sim_c m b q held R c s fit has =
+      seq p gs named_if f instead frs (leaf_sim p gs named_if builtins stand prev top good f n instead frs m sc held R c s fit b has.0 (row.Comprehension site) has.3)
+      (λ list t after y.
+      let fit_t = fit_on fit after in
+      let c1 = more_held list c in
+      seq p gs named_if f instead frs (hold p gs named_if f instead frs (list ∷ []) (sim_s (m + 1) has.0 has.1 (held ++ list ∷ []) R c1 t fit_t has.4))
+      (λ walking u after2 steps.
+      let fit_u = fit_on fit_t after2 in
+      let turns_at = subst (λ k. GathersAt p gs named_if f n sc k (HasExpr p gs named_if f n sc item) (HasBind p gs named_if f n sc target) (HasCondition p gs named_if f n sc condition) has.1 m has.2) (sym steps) has.5 in
+      seq p gs named_if f instead frs
+      (hold p gs named_if f instead frs (list ∷ [])
+      (gathers_sim sc item target condition (HasExpr p gs named_if f n sc item) (HasBind p gs named_if f n sc target) (HasCondition p gs named_if f n sc condition) sim sim_b sim_c m has.1 has.2 held list R c walking
+      (λ next v fit_v. good.gather f n instead frs m sc held R has.1 has.2 item target condition list (record walking { at = next }) v turns_at c fit_v)
+      turns_at u fit_u))
+      (λ flow v after3 is.
+      here p gs named_if f instead frs
+      (leads_on p gs named_if
+      (same_as p gs named_if builtins stand prev top good f n instead frs (flow_place (gathered has.2 (m + 1)) (held ++ list ∷ []) flow v) (place has.2 (env v (held ++ list ∷ []))) v.world (ap (λ w. flow_place (gathered has.2 (m + 1)) (held ++ list ∷ []) w v) is))
+      (meets p gs named_if builtins stand prev top good f n instead frs m sc held R c v (fit_on fit_u after3) list has.2 q has.6))
+      (λ i h. absurd h))))
+
+  -- ---- all expressions
+
+  no_sides : (B : Type 0) (sc : Scope) (e : Expr) → SidesSim p gs named_if builtins stand prev top good f n instead frs B sc e (λ b m c q. ⊥)
+  no_sides B sc e m b c q held R k s fit has D K go = absurd has
+
+  apply_sim : (sc : Scope) (o : RowOp) (es : Exprs) → ValuesSim p gs named_if builtins stand prev top good f n instead frs sc es (HasExprs p gs named_if f n sc es) → NegatedSim p gs named_if builtins stand prev top good f n instead frs sc es (HasNegated p gs named_if f n sc es)
+      → VSim sc (Apply o es) (ApplyAt p gs named_if f n sc o es (HasExprs p gs named_if f n sc es) (HasNegated p gs named_if f n sc es))
+  apply_sim sc o es sims negated m b q held R c s fit (inl has) =
+      applied_sim p gs named_if builtins stand prev top good f n instead frs sc o es (HasExprs p gs named_if f n sc es) sims m b q held R c s fit has
+  apply_sim sc o es sims negated m b q held R c s fit (inr (e, bare, has)) =
+      subst (λ o. F (at_place (place b (env s held)) s.world) held s (vals q held) R (ReadBy (Apply o es)) (value p unwatched prev sc.covers (Apply o es) s)) (sym e)
+      (not_sim p gs named_if builtins stand prev top good f n instead frs sc es (HasNegated p gs named_if f n sc es) negated bare m b q held R c s fit has)
+
+  apply_tests_sim : (sc : Scope) (o : RowOp) (es : Exprs) → ValuesSim p gs named_if builtins stand prev top good f n instead frs sc es (HasExprs p gs named_if f n sc es) → NegatedSim p gs named_if builtins stand prev top good f n instead frs sc es (HasNegated p gs named_if f n sc es)
+      → TSim sc (Apply o es) (HasTest p gs named_if f n sc (Apply o es))
+  apply_tests_sim sc o es sims negated m b so other held R c s fit (inl has) =
+      tests_sim p gs named_if builtins stand prev top good f n instead frs sc (Apply o es) (ApplyAt p gs named_if f n sc o es (HasExprs p gs named_if f n sc es) (HasNegated p gs named_if f n sc es)) (SidesAt p gs named_if f n sc o (count es) (HasExprs p gs named_if f n sc es))
+      (apply_sim sc o es sims negated) (sides_sim p gs named_if builtins stand prev top good f n instead frs Bool sc o es (HasExprs p gs named_if f n sc es) sims) m b so other held R c s fit has
+  apply_tests_sim sc o es sims negated m b so other held R c s fit (inr (e, has)) =
+      subst (λ o. F (at_place (place b (env s held)) s.world) held s (test_place so other held) R Any (then_go (value p unwatched prev sc.covers (Apply o es) s) is_so)) (sym e)
+      (not_tests_sim p gs named_if builtins stand prev top good f n instead frs sc es (HasNegated p gs named_if f n sc es) negated m b so other held R c s fit has)
+
+  mutual
+    pub sim_value : (sc : Scope) (e : Expr) → VSim sc e (HasExpr p gs named_if f n sc e)
+    sim_value sc (Local i) m b q held R c s fit has = local_sim p gs named_if builtins stand prev top good f n instead frs m sc held R c s fit i b q has
+    sim_value sc (Constant v) m b q held R c s fit has = constant_sim p gs named_if builtins stand prev top good f n instead frs m sc held R c s fit v b q has
+    sim_value sc (Apply o es) m b q held R c s fit has = apply_sim sc o es (sim_values sc es) (sim_negated sc es) m b q held R c s fit has
+    sim_value sc (And a e) m b q held R c s fit has =
+        and_sim p gs named_if builtins stand prev top good f n instead frs sc a e (HasExpr p gs named_if f n sc a) (HasExpr p gs named_if f n sc e) (HasSides p gs named_if f n sc a) (sim_value sc a) (sim_sides sc a) (sim_value sc e) m b q held R c s fit has
+    sim_value sc (Or a e) m b q held R c s fit has =
+        or_sim p gs named_if builtins stand prev top good f n instead frs sc a e (HasExpr p gs named_if f n sc a) (HasExpr p gs named_if f n sc e) (HasSides p gs named_if f n sc a) (sim_value sc a) (sim_sides sc a) (sim_value sc e) m b q held R c s fit has
+    sim_value sc (Display site pairs) m b q held R c s fit has = display_sim sc site pairs (HasPairs p gs named_if f n sc pairs) (sim_pairs sc pairs) m b q held R c s fit has
+    sim_value sc (Comprehension site item target subject condition) m b q held R c s fit has =
+        comprehension_sim sc site item target subject condition (sim_value sc item) (sim_bind sc target) (sim_subject sc subject) (sim_condition sc condition) m b q held R c s fit has
+
+    pub sim_values : (sc : Scope) (es : Exprs) → ValuesSim p gs named_if builtins stand prev top good f n instead frs sc es (HasExprs p gs named_if f n sc es)
+    sim_values sc none m b q held R c s fit has =
+        here p gs named_if f instead frs
+        (same_as p gs named_if builtins stand prev top good f n instead frs (place b (env s held)) (place q (env s (held ++ []))) s.world (ap (λ k. place k (env s held)) has ∙ ap (λ l. place q (env s l)) (sym (append-nil held))))
+        (refl, λ i h. absurd h)
+    sim_values sc (more e es) m b q held R c s fit has = values_sim sc e es (HasExpr p gs named_if f n sc e) (HasExprs p gs named_if f n sc es) (sim_value sc e) (sim_values sc es) m b q held R c s fit has
+
+    sim_sides : (sc : Scope) (e : Expr) → SidesSim p gs named_if builtins stand prev top good f n instead frs Value sc e (HasSides p gs named_if f n sc e)
+    sim_sides sc (Apply o es) = sides_sim p gs named_if builtins stand prev top good f n instead frs Value sc o es (HasExprs p gs named_if f n sc es) (sim_values sc es)
+    sim_sides sc (Local i) = no_sides Value sc (Local i)
+    sim_sides sc (Constant v) = no_sides Value sc (Constant v)
+    sim_sides sc (And a e) = no_sides Value sc (And a e)
+    sim_sides sc (Or a e) = no_sides Value sc (Or a e)
+    sim_sides sc (Display site pairs) = no_sides Value sc (Display site pairs)
+    sim_sides sc (Comprehension site item target subject condition) = no_sides Value sc (Comprehension site item target subject condition)
+
+    pub sim_test : (sc : Scope) (e : Expr) → TSim sc e (HasTest p gs named_if f n sc e)
+    sim_test sc (And a e) m b so other held R c s fit has = and_tests_sim p gs named_if builtins stand prev top good f n instead frs sc a e (HasTest p gs named_if f n sc a) (HasTest p gs named_if f n sc e) (sim_test sc a) (sim_test sc e) m b so other held R c s fit has
+    sim_test sc (Or a e) m b so other held R c s fit has = or_tests_sim p gs named_if builtins stand prev top good f n instead frs sc a e (HasTest p gs named_if f n sc a) (HasTest p gs named_if f n sc e) (sim_test sc a) (sim_test sc e) m b so other held R c s fit has
+    sim_test sc (Apply o es) m b so other held R c s fit has = apply_tests_sim sc o es (sim_values sc es) (sim_negated sc es) m b so other held R c s fit has
+    sim_test sc (Local i) m b so other held R c s fit has =
+        tests_sim p gs named_if builtins stand prev top good f n instead frs sc (Local i) (LocalAt p gs named_if f n sc i) (λ b m c q. ⊥)
+        (λ m b q held R c s fit has. local_sim p gs named_if builtins stand prev top good f n instead frs m sc held R c s fit i b q has) (no_sides Bool sc (Local i)) m b so other held R c s fit has
+    sim_test sc (Constant v) m b so other held R c s fit has =
+        tests_sim p gs named_if builtins stand prev top good f n instead frs sc (Constant v) (ConstantAt p gs named_if f n sc v) (λ b m c q. ⊥)
+        (λ m b q held R c s fit has. constant_sim p gs named_if builtins stand prev top good f n instead frs m sc held R c s fit v b q has) (no_sides Bool sc (Constant v)) m b so other held R c s fit has
+    sim_test sc (Display site pairs) m b so other held R c s fit has =
+        tests_sim p gs named_if builtins stand prev top good f n instead frs sc (Display site pairs) (DisplayAt p gs named_if f n sc site (HasPairs p gs named_if f n sc pairs)) (λ b m c q. ⊥)
+        (display_sim sc site pairs (HasPairs p gs named_if f n sc pairs) (sim_pairs sc pairs)) (no_sides Bool sc (Display site pairs)) m b so other held R c s fit has
+    sim_test sc (Comprehension site item target subject condition) m b so other held R c s fit has =
+        tests_sim p gs named_if builtins stand prev top good f n instead frs sc (Comprehension site item target subject condition) (HasExpr p gs named_if f n sc (Comprehension site item target subject condition)) (λ b m c q. ⊥)
+        (comprehension_sim sc site item target subject condition (sim_value sc item) (sim_bind sc target) (sim_subject sc subject) (sim_condition sc condition)) (no_sides Bool sc (Comprehension site item target subject condition)) m b so other held R c s fit has
+
+    sim_negated : (sc : Scope) (es : Exprs) → NegatedSim p gs named_if builtins stand prev top good f n instead frs sc es (HasNegated p gs named_if f n sc es)
+    sim_negated sc none m b so other held R c s fit has = absurd has
+    sim_negated sc (more a none) m b so other held R c s fit has = (sim_test sc a m b so other held R c s fit has, not_is p prev sc.covers a s)
+    sim_negated sc (more a (more e es)) m b so other held R c s fit has = absurd has
+
+    sim_pairs : (sc : Scope) (ps : Pairs) → PairsSim sc ps (HasPairs p gs named_if f n sc ps)
+    sim_pairs sc no_pairs m b q held dict R c s fit has =
+        here p gs named_if f instead frs (same_as p gs named_if builtins stand prev top good f n instead frs (place b (env s (held ++ dict ∷ []))) (place q (env s (held ++ dict ∷ []))) s.world (ap (λ k. place k (env s (held ++ dict ∷ []))) has)) tt
+    sim_pairs sc (pair key e rest) m b q held dict R c s fit has =
+        pair_sim sc key e rest (HasExpr p gs named_if f n sc key) (HasExpr p gs named_if f n sc e) (HasPairs p gs named_if f n sc rest) (sim_value sc key) (sim_value sc e) (sim_pairs sc rest) m b q held dict R c s fit has
+
+    pub sim_subject : (sc : Scope) (subject : Subject) → SubjectSim sc subject (HasSubject p gs named_if f n sc subject)
+    sim_subject sc (Over site e) m b q held R c s fit has = over_sim sc site e (HasExpr p gs named_if f n sc e) (sim_value sc e) m b q held R c s fit has
+    sim_subject sc (UpTo e) m b q held R c s fit has = up_to_sim sc e (HasExpr p gs named_if f n sc e) (sim_value sc e) m b q held R c s fit has
+    sim_subject sc (FromTo a e step) m b q held R c s fit has = from_to_sim sc a e step (HasExpr p gs named_if f n sc a) (HasExpr p gs named_if f n sc e) (sim_value sc a) (sim_value sc e) m b q held R c s fit has
+
+    pub sim_condition : (sc : Scope) (condition : Condition) → ConditionSim sc condition (HasCondition p gs named_if f n sc condition)
+    sim_condition sc Always m b so other held R c s fit has =
+        here p gs named_if f instead frs (same_as p gs named_if builtins stand prev top good f n instead frs (place b (env s held)) (place so (env s held)) s.world (ap (λ k. place k (env s held)) has)) tt
+    sim_condition sc (Where e) m b so other held R c s fit has = sim_test sc e m b so other held R c s fit has
+
+    pub sim_bind : (sc : Scope) (target : Target) → BindSim sc target (HasBind p gs named_if f n sc target)
+    sim_bind sc (Name i) m at keep b q held hs rest before behind R c s fit v is_v at_v is_hs at_hs has = name_sim sc i m at keep b q held hs rest before behind R c s fit v is_v at_v is_hs at_hs has
+    sim_bind sc (Attribute e name) m at keep b q held hs rest before behind R c s fit v is_v at_v is_hs at_hs has =
+        attribute_sim sc e name (HasExpr p gs named_if f n sc e) (sim_value sc e) m at keep b q held hs rest before behind R c s fit v is_v at_v is_hs at_hs has
+    sim_bind sc (Item a i) m at keep b q held hs rest before behind R c s fit v is_v at_v is_hs at_hs has =
+        item_sim sc a i (HasExpr p gs named_if f n sc a) (HasExpr p gs named_if f n sc i) (sim_value sc a) (sim_value sc i) m at keep b q held hs rest before behind R c s fit v is_v at_v is_hs at_hs has
+    sim_bind sc (Parts parts) m at keep b q held hs rest before behind R c s fit v is_v at_v is_hs at_hs has =
+        parts_sim sc parts (HasItems p gs named_if f n sc parts) (sim_items sc parts) m at keep b q held hs rest before behind R c s fit v is_v at_v is_hs at_hs (has.0, has.1, has.2, has.3, has.4, λ e. named_of named_if parts has.5 e)
+
+    sim_items : (sc : Scope) (parts : Targets) → ItemsSim sc parts (HasItems p gs named_if f n sc parts)
+    sim_items sc no_targets m at k i b q held before behind R c s fit v is_v at_v nm has =
+        here p gs named_if f instead frs (same_as p gs named_if builtins stand prev top good f n instead frs (place b (env s held)) (place q (env s held)) s.world (ap (λ k. place k (env s held)) has)) tt
+    sim_items sc (more_targets t ts) m at k i b q held before behind R c s fit v is_v at_v nm has =
+        items_sim sc t ts (HasBind p gs named_if f n sc t) (HasItems p gs named_if f n sc ts) (sim_bind sc t) (sim_items sc ts) m at k i b q held before behind R c s fit v is_v at_v nm has

@@ -302,18 +302,18 @@ module _ (p : Program) (gs : Graphs) (named : Bool) (f n : ℕ) where
     HasBind sc (Parts parts) value m keep b q =
         (k l : ℕ)
         × Acts sc b row.Copy (value ∷ []) m (first k m)
-        × HasItems sc parts (target_count parts) 0 value m k l
+        × HasItems sc parts (target_count parts) 0 value k m l
         × Is l m (Go (first q keep))
         × NamedIf named parts
 
     -- the targets from a place on take the items of the tuple at a place of the block
     pub HasItems : Scope → Targets → ℕ → ℕ → ℕ → Place
-    HasItems sc no_targets c i value m b q = b ≡ q
-    HasItems sc (more_targets t ts) c i value m b q =
+    HasItems sc no_targets c i value b m q = b ≡ q
+    HasItems sc (more_targets t ts) c i value b m q =
         (k l : ℕ)
         × Acts sc b (row.Unpack c i) (value ∷ []) m (first_and k m m)
         × HasBind sc t m (m + 1) m k l
-        × HasItems sc ts c (suc i) value m l q
+        × HasItems sc ts c (suc i) value l m q
 
   -- ---- statements
 
