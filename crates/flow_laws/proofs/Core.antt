@@ -270,6 +270,9 @@ module _ (p : Program) (gs : Graphs) (named_if : Bool) where
     pub loosen : {A : Type 0} {P : Run → Type 0} {held : List Value} {s : State} {D : A → State → Place} {R : ℕ → State → Place} {X : A → State → Type 0} {e : Ending A} (less : List Value) → (named_if ≡ true → Quiet e) → Runs P held s D R X e → Runs P less s D R X e
     loosen {A} {P} {held} {s} {D} {R} {X} {e} less q r = record { sim = loosen_sim P held less s D R X e q r.sim }
 
+    pub reheld : {A : Type 0} {P : Run → Type 0} {held : List Value} {s : State} {D : A → State → Place} {R : ℕ → State → Place} {X : A → State → Type 0} {e : Ending A} (other : List Value) → held ≡ other → Runs P held s D R X e → Runs P other s D R X e
+    reheld {A} {P} {held} {s} {D} {R} {X} {e} other z r = subst (λ h. Runs P h s D R X e) z r
+
     -- a result, at once
     pub here : {A : Type 0} {P : Run → Type 0} {held : List Value} {s : State} {D : A → State → Place} {R : ℕ → State → Place} {X : A → State → Type 0} {a : A} → Leads P (enter (D a s) s.world) → X a s → Runs P held s D R X (Done a s)
     here {s = s} l x = record { sim = record { leads = l; after = at_once s; post = x } }

@@ -10,3 +10,4 @@ pub mod Walks
 pub mod Forms
 pub mod Binds
 pub mod Trees
+pub mod Stmts

@@ -5,7 +5,7 @@ use Rattle.std.proofs.lemmas.List.{append-nil, length-map, map-append, length-se
 use Rattle.std.proofs.lemmas.Option.{get_or_from_slice_get, slice_get-get_or}
 use Rattle.std.proofs.lemmas.List.{get_or_append_left}
 use Rattle.rpy_base.specs.declared.outcome.FailName.{FailName}
-use Rattle.rpy_tree.specs.Value.{Value, Ref, Flag, Nothing, Object, Instance}
+use Rattle.rpy_tree.specs.Value.{Value, Ref, Flag, Nothing, Object, Listed, Mapped, Instance}
 use Rattle.rpy_meaning.specs.declared.row.Covers.{Covers}
 use Rattle.rpy_meaning.specs.declared.row.RowOp.{RowOp}
 use Rattle.rpy_meaning.specs.declared.row.RowOp.TheVariants as row
@@ -23,7 +23,7 @@ use Rattle.flow_meaning.specs.Machine.{Bound, bind, look, Frame, State as Spot, 
 use Rattle.flow_meaning.specs.Roots.{waits_for, and_some, waiting_roots}
 use Rattle.flow_stands.specs.Places.{range, Aim, Hand, Scope, Jump, first, first_and, stored, stored_if_any, hand_jumps, Shape, Go, Fork, Does, link, links, act, numbered, shift}
 use Rattle.flow_stands.specs.Stands.{Is, Acts, Meets, Reads, Branch, branch_jump, plainly, with_value, Narrows, Way, Truth, Asks, never_block, onward, Stand}
-use Rattle.flow_laws.proofs.Worlds.{total, total_append, Weight, Later, same, Sound, sound_on, Thrown, Passes, Fine}
+use Rattle.flow_laws.proofs.Worlds.{total, total_append, Weight, class_of, Later, same, Sound, sound_on, Thrown, Passes, Fine}
 use Rattle.flow_laws.proofs.Lists.{Env, pick, named, bound, named_push, look_named, operands_named, operand_none, pick_last, pick_first, pick_kept, pick_kept_and, pick_set, take_first, get_at, set_same, total_some, total_kept, total_env}
 use Rattle.flow_laws.proofs.Core.{Place, place, env, env_push, IsBound, After, at_once, after_on, Fit, fit_on, length_env, stored_value, Below, hand_place, Catches, Ends, Leads, stays, leads_on, step_go, step_ends, step_stops, step_strays, enter, jump_to, enter_block, block_point, wrong_run, Reached, Holds, Runs, before, moved, seq, hold, here, same_place}
 use Rattle.flow_laws.proofs.Acts.{goes_on, throws, told_sim, frame, used_here}
@@ -216,6 +216,15 @@ module _ (p : Program) (gs : Graphs) (named_if : Bool) (builtins : (k : ℕ) →
           let ex = exit.OnRaise (is.0 + q) (links is.0 (hand_jumps q sc.hands)) (Some (link is.0 (first_and sc.default.to sc.default.keep q))) (link is.0 norm) in
           entered_block.by _ (step_strays p gs named_if (At f (its ∷ []) ex (named is.0 (env s held ++ map Some xs)) instead frs s.world) (does s.world ∙ ap (answered p gs f its [] ex (named is.0 (env s held ++ map Some xs)) instead frs s.world) e))
 
+      -- one that throws
+      pub throws_on : (r : ℕ) → op p sc.covers o vs s.world ≡ Throws r s.world → To (go_in (place b (env s W)) s.world) (go_in (R r s) s.world)
+      throws_on r e =
+          let its = act is.0 q is.1 is.2 o args sc.covers in
+          let ex = exit.OnRaise (is.0 + q) (links is.0 (hand_jumps q sc.hands)) (Some (link is.0 (first_and sc.default.to sc.default.keep q))) (link is.0 norm) in
+          let at = At f (its ∷ []) ex (named is.0 (env s held ++ map Some xs)) instead frs s.world in
+          leads_on p gs named_if entered_block
+          (throws p gs named_if builtins f instead frs n m sc held R c (suc top) s fit xs q is.0 is.1 is.2 o args norm vs at_len picked' at r s.world s.moments (does s.world ∙ ap (answered p gs f its [] ex (named is.0 (env s held ++ map Some xs)) instead frs s.world) e))
+
       -- the tree does it, too
       pub acts : (hold : List Value) (D : Value → State → Place) (X : Value → State → Type 0) → ((wt : Weight) → total wt.of xs ≤ total wt.of hold) → ((wt : Weight) → total wt.of xs ≤ total wt.of vs)
           → ((v : Value) (w : World) (k : ℕ) → (place norm.to (pick (env s W ++ Some v ∷ []) norm.places) ≡ D v (record s { world = w; moments = k })) × X v (record s { world = w; moments = k }))
@@ -266,6 +275,18 @@ module _ (p : Program) (gs : Graphs) (named_if : Bool) (builtins : (k : ℕ) →
   raise_throws c [] w = tt
   raise_throws c (x ∷ []) w = raise_one c x w
   raise_throws c (x ∷ y ∷ vs) w = tt
+
+  raised_by : (c : Covers) (r class : ℕ) (o : Option Object) (w : World) → class_of o ≡ Some class → is_below p.classes class 0 ≡ true → raise_object p c r o w ≡ Throws r w
+  raised_by c r class (Some (Instance d attributes)) w e below =
+      let x : d ≡ class = cc in
+      ap (λ b. (if b then throw r else bad) w) (ap (λ k. is_below p.classes k 0) x ∙ below)
+  raised_by c r class (Some (Listed vs)) w e below = absurd (cc e)
+  raised_by c r class (Some (Mapped pairs)) w e below = absurd (cc e)
+  raised_by c r class None w e below = absurd (cc e)
+
+  -- an exception is raised again
+  pub raised_again : (c : Covers) (r : ℕ) (w : World) → Thrown p w.heap r → op p c row.Raise (Ref r ∷ []) w ≡ Throws r w
+  raised_again c r w t = raised_by c r t.class (slice_get w.heap r) w t.is t.below
 
   pub raises_sim : (m : ℕ) (sc : Scope) (held : List Value) (R : ℕ → State → Place) → Holding m sc held R → (s : State) → Fit (suc top) n s
       → (W xs : List Value) → W ≡ held ++ xs → (b q : ℕ) (args : List ℕ) (norm : Jump) (vs : List Value) → Acts p gs named_if f n sc b row.Raise args q norm → m + length xs ≡ q → pick (env s W) args ≡ map Some vs

@@ -54,6 +54,9 @@ pub record Thrown (p : Program) (heap : Heap) (r : ℕ) : Type 0 where
   pub is : class_at heap r ≡ Some class
   pub below : is_below p.classes class 0 ≡ true
 
+pub thrown_on : {p : Program} {w u : World} {r : ℕ} → Later w u → Thrown p w.heap r → Thrown p u.heap r
+thrown_on {r = r} a t = record { class = t.class; is = a.kinds r t.class t.is; below = t.below }
+
 -- a call passes its operands on, and an instance besides that stands in place of its result
 abbrev pub Passes : List Value → List Value → Option Value → Type 0
 Passes vs args instead = (wt : Weight) → total wt.of vs + total wt.of (and_some instead []) ≤ total wt.of args
