@@ -184,3 +184,156 @@ module _ (p : Program) (gs : Graphs) (named_if : Bool) (builtins : (k : ℕ) →
       record {
         sim = strays_on p gs named_if builtins stand prev top good f n instead frs m sc held R c s fit held [] (sym (append-nil held)) b m row.Copy [] (first q m) [] has (omega arith) refl refl;
       }
+
+  -- ---- loops
+
+  abbrev pub FlowSim : Eval Flow → Scope → (ℕ → ℕ → Ways → Type 0) → Type 0
+  FlowSim e sc Has =
+      (m b : ℕ) (held : List Value) (R : ℕ → State → Place) → Keep m sc held R → (t : Ways) → Keeps t m → (s : State) → Fit (suc top) n s → Has b m t
+      → F (at_place (place b (env s held)) s.world) held s (flow_place t held) R Any (e s)
+
+  all_there : {m : ℕ} {sc : Scope} {held : List Value} {R : ℕ → State → Place} → Keep m sc held R → (s : State) → length s.locals ≡ n → take m (env s held) ≡ env s held
+  all_there {m} {sc} {held} c s long = ap (take m) (sym (append-nil (env s held))) ∙ take_first m (env s held) [] (wide n s long held ∙ c.all)
+
+  pub loop_sim : (sc : Scope) (e : Expr) (body : Block) → FlowSim (block p unwatched prev sc.covers body) sc (HasBlock p gs named_if f n sc body)
+      → FlowSim (loop p unwatched prev (λ s. then_go (value p unwatched prev sc.covers e s) is_so) (block p unwatched prev sc.covers body) (prev (Loop sc.covers e body))) sc (WhileAt p gs named_if f n sc (HasTest p gs named_if f n sc e) (HasBlock p gs named_if f n sc body))
+  loop_sim sc e body sim m b held R c t keeps s fit has =
+      moved p gs named_if f instead frs
+      (leads_on p gs named_if (falls c s fit b m has.0 has.3 (omega arith)) (at_same (place has.0 (take m (env s held))) (place has.0 (env s held)) s.world (ap (place has.0) (all_there c s fit.long))))
+      (seq p gs named_if f instead frs (sim_test p gs named_if builtins stand prev top good f n instead frs sc e m has.0 has.1 t.norm held R c s fit has.4)
+      (λ go u after y. turns_by go u (fit_on fit after)))
+    where
+      inner : Ways
+      inner = within p gs named_if f n t (record { to = b; keep = m }) (record { to = t.norm; keep = m })
+      rest_sim : (u : State) → Fit top n u → F (at_place (place b (env u held)) u.world) held u (flow_place t held) R Any (prev (Loop sc.covers e body) u)
+      rest_sim u fit_u = good.loop f n instead frs m sc held R b t e body u has c keeps fit_u
+      flow_by : (flow : Flow) (u : State) → Fit top n u → F (at_place (flow_place (within p gs named_if f n t (record { to = b; keep = m }) (record { to = t.norm; keep = m })) held flow u) u.world) held u (flow_place t held) R Any (after_turn flow (prev (Loop sc.covers e body)) u)
+      flow_by Onward u fit_u = rest_sim u fit_u
+      flow_by Continued u fit_u = moved p gs named_if f instead frs (at_same (place b (take m (env u held))) (place b (env u held)) u.world (ap (place b) (all_there c u fit_u.long))) (rest_sim u fit_u)
+      flow_by Broken u fit_u = here p gs named_if f instead frs (at_same (place t.norm (take m (env u held))) (place t.norm (env u held)) u.world (ap (place t.norm) (all_there c u fit_u.long))) tt
+      flow_by (Returned v) u fit_u = here p gs named_if f instead frs (stays p gs named_if) tt
+      turns_by : (go : Bool) (u : State) → Fit (suc top) n u → F (at_place (test_place has.1 t.norm held go u) u.world) held u (flow_place t held) R Any
+          ((if go then (λ s. then_go (perform p unwatched prev no_covers row.Turn [] s) (λ a s. then_go (block p unwatched prev sc.covers body s) (λ flow. after_turn flow (prev (Loop sc.covers e body))))) else pure Onward) u)
+      turns_by false u fit_u = here p gs named_if f instead frs (stays p gs named_if) tt
+      turns_by true u fit_u =
+          seq_is p gs named_if f instead frs (pay_sim p gs named_if builtins stand prev top good f n instead frs m sc held R c u fit_u has.1 has.2 has.5)
+          (λ a u2 e after2 y2.
+          let fit_2 = after_low fit_u after2 (turn_paid p prev u u2 a e) in
+          seq p gs named_if f instead frs
+          (sim m has.2 held R c (within p gs named_if f n t (record { to = b; keep = m }) (record { to = t.norm; keep = m })) (record { brk = omega arith; cont = omega arith; ret = keeps.ret }) u2 (lower fit_2) has.6)
+          (λ flow u3 after3 y3. flow_by flow u3 (fit_on fit_2 after3)))
+
+  -- the turns of a `for`
+  pub for_sim : (sc : Scope) (target : Target) (body : Block) → FlowSim (block p unwatched prev sc.covers body) sc (HasBlock p gs named_if f n sc body)
+      → (m head : ℕ) (held : List Value) (R : ℕ → State → Place) → Keep m sc held R → (t : Ways) → Keeps t m → (walking : Walking) → ForAt p gs named_if f n sc walking.step (HasBind p gs named_if f n sc target) (HasBlock p gs named_if f n sc body) head m t → (s : State) → Fit (suc top) n s
+      → F (at_place (place head (env s (held ++ walk_holds walking))) s.world) held s (flow_place t held) R Any (turns p unwatched prev (each_item p unwatched prev (bind p unwatched prev sc.covers target) (block p unwatched prev sc.covers body)) (λ rest. prev (Turns sc.covers target body rest)) walking s)
+  for_sim sc target body sim m head held R c t keeps walking has s fit =
+      let c2 = catches_more p gs named_if (walk_holds walking) (m + 2) (omega arith) c in
+      let inner = within p gs named_if f n t (record { to = has.2; keep = m + 2 }) (record { to = t.norm; keep = m }) in
+      let W = held ++ walk_holds walking in
+      let kr = keeps.ret in
+      turns_sim p gs named_if builtins stand prev top good f n instead frs m sc held R c t keeps (each_item p unwatched prev (bind p unwatched prev sc.covers target) (block p unwatched prev sc.covers body)) (λ rest. prev (Turns sc.covers target body rest)) Any Any head has.0 has.2
+      (λ u. tt) (λ u x. tt) (λ v u x. tt) walking has.3
+      (λ v u fit_u.
+      seq p gs named_if f instead frs
+      (hold p gs named_if f instead frs (v ∷ []) (sim_bind p gs named_if builtins stand prev top good f n instead frs sc target (m + 2 + 1) (m + 2) (m + 2) has.0 has.1 (W ++ v ∷ []) W (v ∷ []) W [] R (more_held v c2) u fit_u v refl c2.all refl c2.all has.4))
+      (λ a u2 after y. sim (m + 2) has.1 W R c2 inner (record { brk = omega arith; cont = omega arith; ret = omega (arith, kr) }) u2 (fit_on fit_u after) has.5))
+      (λ next u fit_u. good.turns f n instead frs m sc held R head t target body (record walking { at = next }) u has c keeps fit_u)
+      s fit
+
+  -- ---- exceptions
+
+  -- what follows a body that may be left by an exception
+  tried_by : (P : Run → Type 0) (held : List Value) (s : State) (t inner : Ways) (R R' : ℕ → State → Place) (e : Ending Flow) (other : Eval Flow) (handled : ℕ → Eval Flow)
+      → Sim p gs named_if f instead frs P held s (flow_place inner held) R' Any e
+      → ((u : State) → After s u → F (at_place (flow_place inner held Onward u) u.world) held u (flow_place t held) R Any (other u))
+      → ((r : ℕ) (u : State) → After s u → Thrown p u.world.heap r → F (at_place (R' r u) u.world) held u (flow_place t held) R Any (handled r u))
+      → inner ≡ onto t inner.norm → F P held s (flow_place t held) R Any (tried p unwatched prev e other handled)
+  tried_by P held s t inner R R' (Done Onward u) other handled r go catch z = before p gs named_if f instead frs r.leads r.after (go u r.after)
+  tried_by P held s t inner R R' (Done Broken u) other handled r go catch z =
+      record { sim = record { leads = leads_on p gs named_if r.leads (at_same (flow_place inner held Broken u) (flow_place t held Broken u) u.world (ap (λ w. flow_place w held Broken u) z)); after = r.after; post = tt } }
+  tried_by P held s t inner R R' (Done Continued u) other handled r go catch z =
+      record { sim = record { leads = leads_on p gs named_if r.leads (at_same (flow_place inner held Continued u) (flow_place t held Continued u) u.world (ap (λ w. flow_place w held Continued u) z)); after = r.after; post = tt } }
+  tried_by P held s t inner R R' (Done (Returned v) u) other handled r go catch z =
+      record { sim = record { leads = leads_on p gs named_if r.leads (at_same (flow_place inner held (Returned v) u) (flow_place t held (Returned v) u) u.world (ap (λ w. flow_place w held (Returned v) u) z)); after = r.after; post = tt } }
+  tried_by P held s t inner R R' (Raised x u) other handled r go catch z = before p gs named_if f instead frs r.leads r.after (catch x u r.after r.post)
+  tried_by P held s t inner R R' (Failed name u) other handled r go catch z = record { sim = r }
+  tried_by P held s t inner R R' (Running rs u) other handled r go catch z = record { sim = r }
+  tried_by P held s t inner R R' Wrong other handled r go catch z = record { sim = r }
+
+  -- the hands of a clause take what it takes
+  hands_take : (classes : List ℕ) (local : Option ℕ) (aim : Aim) (others : List Hand) (d : Aim) (vs : Env) (r class : ℕ)
+      → hand_place p gs named_if (hands_of local aim classes others) d vs r class ≡ cond (list_any (is_below p.classes class) classes) (place aim.to (stored_value (take aim.keep vs) local r)) (hand_place p gs named_if others d vs r class)
+  hands_take [] local aim others d vs r class = refl
+  hands_take (k ∷ classes) local aim others d vs r class = either (is_below p.classes class k) (hands_take classes local aim others d vs r class)
+    where
+      to : Place
+      to = place aim.to (stored_value (take aim.keep vs) local r)
+      either : (x : Bool) → hand_place p gs named_if (hands_of local aim classes others) d vs r class ≡ cond (list_any (is_below p.classes class) classes) (place aim.to (stored_value (take aim.keep vs) local r)) (hand_place p gs named_if others d vs r class)
+          → cond x (place aim.to (stored_value (take aim.keep vs) local r)) (hand_place p gs named_if (hands_of local aim classes others) d vs r class) ≡ cond (x || list_any (is_below p.classes class) classes) (place aim.to (stored_value (take aim.keep vs) local r)) (hand_place p gs named_if others d vs r class)
+      either true ih = refl
+      either false ih = ih
+
+  hands_below : (m : ℕ) (classes : List ℕ) (local : Option ℕ) (aim : Aim) (others : List Hand) → aim.keep ≤ m → Below m others → Below m (hands_of local aim classes others)
+  hands_below m [] local aim others le h = h
+  hands_below m (k ∷ classes) local aim others le h = (le, hands_below m classes local aim others le h)
+
+  -- where the hands of clauses are
+  pub clauses_below : (sc : Scope) (cs : Clauses) (m : ℕ) (t : Ways) (hands : List Hand) (default : Aim) → Below m sc.hands → sc.default.keep ≤ m → HasClauses p gs named_if f n sc cs m t hands default → Below m hands × (default.keep ≤ m)
+  clauses_below sc no_clauses m t hands default bh bd has = (subst (Below m) (sym has.0) bh, subst (λ d. d.keep ≤ m) (sym has.1) bd)
+  clauses_below sc (clause None local body rest) m t hands default bh bd has = (subst (Below m) (sym has.3) tt, subst (λ d. d.keep ≤ m) (sym has.6) (omega arith))
+  clauses_below sc (clause (Some classes) local body rest) m t hands default bh bd has =
+      let r = clauses_below sc rest m t has.1 default bh bd has.5 in
+      (subst (Below m) (sym has.4) (hands_below m classes local (record { to = has.0; keep = m }) has.1 (omega arith) r.0), r.1)
+
+  -- the local of a clause takes the exception
+  stored_sim : (m : ℕ) (sc : Scope) (held : List Value) (R : ℕ → State → Place) → Keep m sc held R → (t : Ways) → (u : State) → Fit (suc top) n u → (local : Option ℕ) (r b : ℕ) → LocalIn n local → (body : Eval Flow)
+      → ((w : State) → Fit (suc top) n w → F (at_place (place b (env w held)) w.world) held w (flow_place t held) R Any (body w))
+      → F (at_place (place b (stored_value (take m (env u held)) local r)) u.world) held u (flow_place t held) R Any (then_go (set_local_if_any local (Ref r) u) (λ a w. body w))
+  stored_sim m sc held R c t u fit None r b lt body sim =
+      moved p gs named_if f instead frs (at_same (place b (take m (env u held))) (place b (env u held)) u.world (ap (place b) (all_there c u fit.long))) (sim u fit)
+  stored_sim m sc held R c t u fit (Some i) r b lt body sim =
+      let w : State = record u { locals = slice_set u.locals i (Some (Ref r)) } in
+      let z : slice_set (take m (env u held)) i (Some (Ref r)) ≡ env w held = ap (λ l. slice_set l i (Some (Ref r))) (all_there c u fit.long) ∙ set-append_left u.locals (map Some held) i (Some (Ref r)) (let l = fit.long in omega (arith, l, lt)) in
+      before p gs named_if f instead frs (at_same (place b (slice_set (take m (env u held)) i (Some (Ref r)))) (place b (env w held)) u.world (ap (place b) z))
+      (record { later = same u.world; long = length-set u.locals i (Some (Ref r)); bound = λ j x. set_bound u.locals i j (Ref r) x })
+      (sim w (record { low = fit.low; long = length-set u.locals i (Some (Ref r)) ∙ fit.long; sound = fit.sound }))
+
+  abbrev pub HandleSim : Scope → Clauses → Type 0
+  HandleSim sc cs =
+      (m : ℕ) (held : List Value) (R : ℕ → State → Place) → Keep m sc held R → (t : Ways) → Keeps t m → (hands : List Hand) (default : Aim) → HasClauses p gs named_if f n sc cs m t hands default
+      → (r : ℕ) (u : State) → Fit (suc top) n u → Thrown p u.world.heap r
+      → F (at_place (hand_place p gs named_if hands default (env u held) r (class_in u.world r)) u.world) held u (flow_place t held) R Any (handle p unwatched prev sc.covers cs r u)
+
+  pub no_clauses_sim : (sc : Scope) → HandleSim sc no_clauses
+  no_clauses_sim sc m held R c t keeps hands default has r u fit thrown =
+      record {
+        sim = record {
+          leads = at_same (hand_place p gs named_if hands default (env u held) r (class_in u.world r)) (R r u) u.world
+            (ap (λ h. hand_place p gs named_if h default (env u held) r (class_in u.world r)) has.0 ∙ ap (λ d. hand_place p gs named_if sc.hands d (env u held) r (class_in u.world r)) has.1 ∙ c.taken r u fit.long);
+          after = at_once u;
+          post = thrown;
+        };
+      }
+
+  pub bare_sim : (sc : Scope) (local : Option ℕ) (body : Block) (rest : Clauses) → FlowSim (block p unwatched prev sc.covers body) sc (HasBlock p gs named_if f n sc body) → HandleSim sc (clause None local body rest)
+  bare_sim sc local body rest sim m held R c t keeps hands default has r u fit thrown =
+      subst (λ l. F (at_place (hand_place p gs named_if hands default (env u held) r (class_in u.world r)) u.world) held u (flow_place t held) R Any (handle p unwatched prev sc.covers (clause None l body rest) r u)) (sym has.2)
+      (moved p gs named_if f instead frs
+      (leads_on p gs named_if
+      (at_same (hand_place p gs named_if hands default (env u held) r (class_in u.world r)) (place has.1 (env u (held ++ Ref r ∷ []))) u.world
+      (ap (λ h. hand_place p gs named_if h default (env u held) r (class_in u.world r)) has.3 ∙ ap (λ d. hand_place p gs named_if [] d (env u held) r (class_in u.world r)) has.6 ∙ ap (λ l. place has.1 (l ++ Some (Ref r) ∷ [])) (all_there c u fit.long) ∙ ap (place has.1) (sym (env_push u held (Ref r ∷ [])))))
+      (drops c u fit (Ref r) has.1 has.0 has.5))
+      (sim m has.0 held R c t keeps u fit has.4))
+
+  pub clause_sim : (sc : Scope) (classes : List ℕ) (local : Option ℕ) (body : Block) (rest : Clauses) → FlowSim (block p unwatched prev sc.covers body) sc (HasBlock p gs named_if f n sc body) → HandleSim sc rest → HandleSim sc (clause (Some classes) local body rest)
+  clause_sim sc classes local body rest sim others m held R c t keeps hands default has r u fit thrown =
+      moved p gs named_if f instead frs
+      (at_same (hand_place p gs named_if hands default (env u held) r (class_in u.world r)) _ u.world
+      (ap (λ h. hand_place p gs named_if h default (env u held) r (class_in u.world r)) has.4 ∙ hands_take classes local (record { to = has.0; keep = m }) has.1 default (env u held) r (class_in u.world r)))
+      (either (list_any (is_below p.classes (class_in u.world r)) classes))
+    where
+      either : (x : Bool) → F (at_place (cond x (place has.0 (stored_value (take m (env u held)) local r)) (hand_place p gs named_if has.1 default (env u held) r (class_in u.world r))) u.world) held u (flow_place t held) R Any
+          ((if x then (λ s. then_go (set_local_if_any local (Ref r) s) (λ a. block p unwatched prev sc.covers body)) else handle p unwatched prev sc.covers rest r) u)
+      either true = stored_sim m sc held R c t u fit local r has.0 has.2 (block p unwatched prev sc.covers body) (λ w fit_w. sim m has.0 held R c t keeps w fit_w has.3)
+      either false = others m held R c t keeps has.1 default has.5 r u fit thrown
