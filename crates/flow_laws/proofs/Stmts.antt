@@ -3,7 +3,7 @@ use Rattle.std.proofs.Common.{◌≡◌, ℕ, zero, suc, ◌+◌, ◌-◌, ◌<�
 use Rattle.std.specs.Prelude.{map, slice_get, slice_set, ◌==◌, ◌||◌, if◌then◌else◌, pos, ℤ}
 use Rattle.std.specs.List.{list_any}
 use Rattle.std.proofs.lemmas.List.{append-nil, length-map, map-append, length-set, set-append_left}
-use Rattle.rpy_tree.specs.Value.{Value, Ref}
+use Rattle.rpy_tree.specs.Value.{Value, Ref, Nothing}
 use Rattle.rpy_meaning.specs.declared.row.Covers.{Covers}
 use Rattle.rpy_meaning.specs.declared.row.RowOp.{RowOp}
 use Rattle.rpy_meaning.specs.declared.row.RowOp.TheVariants as row
@@ -337,3 +337,188 @@ module _ (p : Program) (gs : Graphs) (named_if : Bool) (builtins : (k : ℕ) →
           ((if x then (λ s. then_go (set_local_if_any local (Ref r) s) (λ a. block p unwatched prev sc.covers body)) else handle p unwatched prev sc.covers rest r) u)
       either true = stored_sim m sc held R c t u fit local r has.0 has.2 (block p unwatched prev sc.covers body) (λ w fit_w. sim m has.0 held R c t keeps w fit_w has.3)
       either false = others m held R c t keeps has.1 default has.5 r u fit thrown
+
+  -- ---- what is done at last
+
+  -- the last part, while these values are pending, and what then remains
+  pending_sim : (sc : Scope) (last : Block) → FlowSim (block p unwatched prev sc.covers last) sc (HasBlock p gs named_if f n sc last)
+      → (m : ℕ) (held vs : List Value) (R : ℕ → State → Place) → Keep m sc held R → (t : Ways) → Keeps t m → (b k m2 : ℕ) → m + length vs ≡ m2 → HasBlock p gs named_if f n sc last b m2 (onto t k)
+      → (u : State) → Fit (suc top) n u → (remains : Eval Flow)
+      → ((w : State) → Fit (suc top) n w → After u w → F (at_place (place k (env w (held ++ vs))) w.world) held w (flow_place t held) R Any (remains w))
+      → F (at_place (place b (env u (held ++ vs))) u.world) held u (flow_place t held) R Any (then_go (add_held vs (block p unwatched prev sc.covers last u)) (λ flow. next_or flow remains))
+  pending_sim sc last sim m held vs R c t keeps b k m2 at has u fit remains go =
+      seq p gs named_if f instead frs
+      (hold p gs named_if f instead frs vs (sim m2 b (held ++ vs) R (catches_more p gs named_if vs m2 at c) (onto t k) (keeps_onto k (keeps_more m2 (omega (arith, at)) keeps)) u fit has))
+      (λ flow w after x. by flow w after)
+    where
+      less : (w : State) → After u w → (j : ℕ) → j ≤ m → take j (env w (held ++ vs)) ≡ take j (env w held)
+      less w after j le = take_less p gs named_if n w held vs j m (after.long ∙ fit.long) c.all le
+      by : (flow : Flow) (w : State) → After u w → F (at_place (flow_place (onto t k) (held ++ vs) flow w) w.world) held w (flow_place t held) R Any (next_or flow remains w)
+      by Onward w after = go w (fit_on fit after) after
+      by Broken w after = here p gs named_if f instead frs (at_same (place t.brk.to (take t.brk.keep (env w (held ++ vs)))) (place t.brk.to (take t.brk.keep (env w held))) w.world (ap (place t.brk.to) (less w after t.brk.keep keeps.brk))) tt
+      by Continued w after = here p gs named_if f instead frs (at_same (place t.cont.to (take t.cont.keep (env w (held ++ vs)))) (place t.cont.to (take t.cont.keep (env w held))) w.world (ap (place t.cont.to) (less w after t.cont.keep keeps.cont))) tt
+      by (Returned v) w after = here p gs named_if f instead frs (at_same (place t.ret.to (take t.ret.keep (env w (held ++ vs)) ++ Some v ∷ [])) (place t.ret.to (take t.ret.keep (env w held) ++ Some v ∷ [])) w.world (ap (λ l. place t.ret.to (l ++ Some v ∷ [])) (less w after t.ret.keep keeps.ret))) tt
+
+  module _ (sc : Scope) (last : Block) (sim : FlowSim (block p unwatched prev sc.covers last) sc (HasBlock p gs named_if f n sc last)) (m : ℕ) (held : List Value) (R : ℕ → State → Place) (c : Keep m sc held R) (t : Ways) (keeps : Keeps t m)
+    (norm brk cont ret exc to_brk to_cont to_ret to_exc : ℕ)
+    (has_norm : HasBlock p gs named_if f n sc last norm m t)
+    (has_brk : HasBlock p gs named_if f n sc last brk m (onto t to_brk)) (is_brk : Is p gs named_if f n to_brk m (Go (on_to t.brk)))
+    (has_cont : HasBlock p gs named_if f n sc last cont m (onto t to_cont)) (is_cont : Is p gs named_if f n to_cont m (Go (on_to t.cont)))
+    (has_ret : HasBlock p gs named_if f n sc last ret (m + 1) (onto t to_ret)) (is_ret : Is p gs named_if f n to_ret (m + 1) (Go (first_and t.ret.to t.ret.keep m)))
+    (has_exc : HasBlock p gs named_if f n sc last exc (m + 1) (onto t to_exc)) (is_exc : Acts p gs named_if f n sc to_exc row.Raise (m ∷ []) (m + 1) (first never_block 0)) where
+    abbrev copies : Ways
+    copies = record { norm = norm; brk = record { to = brk; keep = m }; cont = record { to = cont; keep = m }; ret = record { to = ret; keep = m } }
+
+    -- an exception is pending
+    abbrev pub held_exception : ℕ → State → Place
+    held_exception r u = place exc (take m (env u held) ++ Some (Ref r) ∷ [])
+
+    full : (u : State) → Fit (suc top) n u → (v : Value) → (to : ℕ) → place to (take m (env u held) ++ Some v ∷ []) ≡ place to (env u (held ++ v ∷ []))
+    full u fit v to = ap (λ l. place to (l ++ Some v ∷ [])) (all_there c u fit.long) ∙ ap (place to) (sym (env_push u held (v ∷ [])))
+
+    none_more : (u : State) (to : ℕ) → place to (env u held) ≡ place to (env u (held ++ []))
+    none_more u to = ap (λ l. place to (env u l)) (sym (append-nil held))
+
+    finally_sim : (P : Run → Type 0) (s : State) → Fit (suc top) n s → (e : Ending Flow) → Sim p gs named_if f instead frs P held s (flow_place copies held) held_exception Any e → F P held s (flow_place t held) R Any (finally (block p unwatched prev sc.covers last) e)
+    finally_sim P s fit (Done Onward u) r =
+        let fit_u = fit_on fit r.after in
+        before p gs named_if f instead frs (leads_on p gs named_if r.leads (at_same (place norm (env u held)) (place norm (env u (held ++ []))) u.world (none_more u norm))) r.after
+        (pending_sim sc last sim m held [] R c t keeps norm t.norm m (omega arith) has_norm u fit_u (pure Onward)
+        (λ w fit_w after. here p gs named_if f instead frs (at_same (place t.norm (env w (held ++ []))) (place t.norm (env w held)) w.world (sym (none_more w t.norm))) tt))
+    finally_sim P s fit (Done Broken u) r =
+        let fit_u = fit_on fit r.after in
+        before p gs named_if f instead frs (leads_on p gs named_if r.leads (at_same (place brk (take m (env u held))) (place brk (env u (held ++ []))) u.world (ap (place brk) (all_there c u fit_u.long) ∙ none_more u brk))) r.after
+        (pending_sim sc last sim m held [] R c t keeps brk to_brk m (omega arith) has_brk u fit_u (pure Broken)
+        (λ w fit_w after.
+        here p gs named_if f instead frs
+        (leads_on p gs named_if (at_same (place to_brk (env w (held ++ []))) (place to_brk (env w held)) w.world (sym (none_more w to_brk))) (falls c w fit_w to_brk t.brk.keep t.brk.to is_brk keeps.brk)) tt))
+    finally_sim P s fit (Done Continued u) r =
+        let fit_u = fit_on fit r.after in
+        before p gs named_if f instead frs (leads_on p gs named_if r.leads (at_same (place cont (take m (env u held))) (place cont (env u (held ++ []))) u.world (ap (place cont) (all_there c u fit_u.long) ∙ none_more u cont))) r.after
+        (pending_sim sc last sim m held [] R c t keeps cont to_cont m (omega arith) has_cont u fit_u (pure Continued)
+        (λ w fit_w after.
+        here p gs named_if f instead frs
+        (leads_on p gs named_if (at_same (place to_cont (env w (held ++ []))) (place to_cont (env w held)) w.world (sym (none_more w to_cont))) (falls c w fit_w to_cont t.cont.keep t.cont.to is_cont keeps.cont)) tt))
+    finally_sim P s fit (Done (Returned v) u) r =
+        let fit_u = fit_on fit r.after in
+        before p gs named_if f instead frs (leads_on p gs named_if r.leads (at_same (place ret (take m (env u held) ++ Some v ∷ [])) (place ret (env u (held ++ v ∷ []))) u.world (full u fit_u v ret))) r.after
+        (pending_sim sc last sim m held (v ∷ []) R c t keeps ret to_ret (m + 1) (omega arith) has_ret u fit_u (pure (Returned v))
+        (λ w fit_w after. here p gs named_if f instead frs (falls_and c w fit_w v to_ret t.ret.keep t.ret.to is_ret keeps.ret) tt))
+    finally_sim P s fit (Raised x u) r =
+        let fit_u = fit_on fit r.after in
+        before p gs named_if f instead frs (leads_on p gs named_if r.leads (at_same (place exc (take m (env u held) ++ Some (Ref x) ∷ [])) (place exc (env u (held ++ Ref x ∷ []))) u.world (full u fit_u (Ref x) exc))) r.after
+        (pending_sim sc last sim m held (Ref x ∷ []) R c t keeps exc to_exc (m + 1) (omega arith) has_exc u fit_u (raised x)
+        (λ w fit_w after.
+        let thrown = thrown_on after.later r.post in
+        record {
+          sim = record {
+            leads = throws_on p gs named_if builtins stand prev top good f n instead frs m sc held R c w fit_w (held ++ Ref x ∷ []) (Ref x ∷ []) refl to_exc (m + 1) row.Raise (m ∷ []) (first never_block 0) (Ref x ∷ []) is_exc (omega arith)
+                (ap (λ z. z ∷ []) (land_at n w fit_w.long (held ++ Ref x ∷ []) held [] (Ref x) m refl c.all)) x (raised_again p gs named_if builtins stand prev top good f n instead frs sc.covers x w.world thrown);
+            after = at_once w;
+            post = thrown;
+          };
+        }))
+    finally_sim P s fit (Failed name u) r = record { sim = r }
+    finally_sim P s fit (Running rs u) r = record { sim = r }
+    finally_sim P s fit Wrong r = record { sim = r }
+
+  -- ---- all statements
+
+  abbrev pub StmtSim : Scope → Stmt → Type 0
+  StmtSim sc s = FlowSim (statement p unwatched prev sc.covers s) sc (HasStmt p gs named_if f n sc s)
+
+  abbrev pub BlockSim : Scope → Block → Type 0
+  BlockSim sc b = FlowSim (block p unwatched prev sc.covers b) sc (HasBlock p gs named_if f n sc b)
+
+  if_sim : (sc : Scope) (e : Expr) (a b : Block) → BlockSim sc a → BlockSim sc b → StmtSim sc (If e a b)
+  if_sim sc e a b sim_a sim_b m at held R c t keeps s fit has =
+      seq p gs named_if f instead frs (sim_test p gs named_if builtins stand prev top good f n instead frs sc e m at has.0 has.1 held R c s fit has.2) (λ go u after y. ways go u (fit_on fit after))
+    where
+      ways : (go : Bool) (u : State) → Fit (suc top) n u → F (at_place (test_place has.0 has.1 held go u) u.world) held u (flow_place t held) R Any ((if go then block p unwatched prev sc.covers a else block p unwatched prev sc.covers b) u)
+      ways true u fit_u = sim_a m has.0 held R c t keeps u fit_u has.3
+      ways false u fit_u = sim_b m has.1 held R c t keeps u fit_u has.4
+
+  try_sim : (sc : Scope) (body : Block) (cs : Clauses) (other : Block) → ((inner : Scope) → inner.covers ≡ covers_within p.classes cs sc.covers → BlockSim inner body) → HandleSim sc cs → BlockSim sc other → StmtSim sc (Try body cs other)
+  try_sim sc body cs other sim sim_c sim_o m b held R c t keeps s fit has =
+      let inner : Scope = record { hands = has.1; default = has.2; covers = covers_within p.classes cs sc.covers; tried = true } in
+      let below = clauses_below sc cs m t has.1 has.2 c.hands c.default has.4 in
+      let R2 = λ (r : ℕ) (u : State). hand_place p gs named_if has.1 has.2 (env u held) r (class_in u.world r) in
+      let c2 : Keep m inner held R2 = record { all = c.all; default = below.1; hands = below.0; taken = λ r u long. refl } in
+      let r = sim inner refl m b held R2 c2 (onto t has.0) (keeps_onto has.0 keeps) s fit has.5 in
+      tried_by (at_place (place b (env s held)) s.world) held s t (onto t has.0) R R2 (block p unwatched prev inner.covers body s) (block p unwatched prev sc.covers other) (handle p unwatched prev sc.covers cs) r.sim
+      (λ u after. sim_o m has.0 held R c t keeps u (fit_on fit after) has.3)
+      (λ x u after thrown. sim_c m held R c t keeps has.1 has.2 has.4 x u (fit_on fit after) thrown)
+      refl
+
+  at_last_sim : (sc : Scope) (body last : Block) → ((inner : Scope) → inner.covers ≡ sc.covers → BlockSim inner body) → BlockSim sc last → StmtSim sc (Finally body last)
+  at_last_sim sc body last sim sim_l m b held R c t keeps s fit has =
+      let inner : Scope = record { hands = []; default = record { to = has.4; keep = m }; covers = sc.covers; tried = true } in
+      let R2 = λ (r : ℕ) (u : State). place has.4 (take m (env u held) ++ Some (Ref r) ∷ []) in
+      let c2 : Keep m inner held R2 = record { all = c.all; default = omega arith; hands = tt; taken = λ r u long. refl } in
+      let ways : Ways = record { norm = has.0; brk = record { to = has.1; keep = m }; cont = record { to = has.2; keep = m }; ret = record { to = has.3; keep = m } } in
+      let r = sim inner refl m b held R2 c2 ways (record { brk = omega arith; cont = omega arith; ret = omega arith }) s fit has.18 in
+      finally_sim sc last sim_l m held R c t keeps has.0 has.1 has.2 has.3 has.4 has.5 has.6 has.7 has.8 has.9 has.10 has.11 has.12 has.13 has.14 has.15 has.16 has.17 (at_place (place b (env s held)) s.world) s fit (block p unwatched prev inner.covers body s) r.sim
+
+  mark_by : (x : Bool) (sc : Scope) (m : ℕ) (held : List Value) (R : ℕ → State → Place) → Keep m sc held R → (s : State) → Fit (suc top) n s → (b q : ℕ) → MarkIf p gs named_if f n x sc b m q → goes (place b (env s held)) (place q (env s held)) s.world
+  mark_by true sc m held R c s fit b q is =
+      gives_on p gs named_if builtins stand prev top good f n instead frs m sc held R c s fit held [] (sym (append-nil held)) b m row.None [] (first q m) [] is (omega arith) refl Nothing (env s held) refl (land_first n s fit.long held held [] m (Some Nothing ∷ []) (sym (append-nil held)) c.all)
+  mark_by false sc m held R c s fit b q e = at_same (place b (env s held)) (place q (env s held)) s.world (ap (λ k. place k (env s held)) e)
+
+  line_sim : (sc : Scope) (s : Stmt) (rest : Block) → StmtSim sc s → BlockSim sc rest → BlockSim sc (line s rest)
+  line_sim sc s rest sim sim_r m b held R c t keeps u fit has =
+      moved p gs named_if f instead frs (mark_by sc.tried sc m held R c u fit b has.0 has.3)
+      (seq p gs named_if f instead frs (sim m has.0 held R c (onto t has.1) (keeps_onto has.1 keeps) u fit has.4) (λ flow w after x. by flow w (fit_on fit after)))
+    where
+      by : (flow : Flow) (w : State) → Fit (suc top) n w → F (at_place (flow_place (onto t has.1) held flow w) w.world) held w (flow_place t held) R Any (next_or flow (block p unwatched prev sc.covers rest) w)
+      by Onward w fit_w = moved p gs named_if f instead frs (mark_by sc.tried sc m held R c w fit_w has.1 has.2 has.5) (sim_r m has.2 held R c t keeps w fit_w has.6)
+      by Broken w fit_w = here p gs named_if f instead frs (stays p gs named_if) tt
+      by Continued w fit_w = here p gs named_if f instead frs (stays p gs named_if) tt
+      by (Returned v) w fit_w = here p gs named_if f instead frs (stays p gs named_if) tt
+
+  return_sim : (sc : Scope) (e : Expr) → StmtSim sc (Return e)
+  return_sim sc e m b held R c t keeps s fit has =
+      seq p gs named_if f instead frs (sim_value p gs named_if builtins stand prev top good f n instead frs sc e m b has.0 held R c s fit has.1)
+      (λ v u after y. here p gs named_if f instead frs (falls_and c u (fit_on fit after) v has.0 t.ret.keep t.ret.to has.2 keeps.ret) tt)
+
+  do_sim : (sc : Scope) (e : Expr) → StmtSim sc (Do e)
+  do_sim sc e m b held R c t keeps s fit has =
+      seq p gs named_if f instead frs (sim_value p gs named_if builtins stand prev top good f n instead frs sc e m b has.0 held R c s fit has.1)
+      (λ v u after y. here p gs named_if f instead frs (drops c u (fit_on fit after) v has.0 t.norm has.2) tt)
+
+  assign_sim : (sc : Scope) (ts : Targets) (e : Expr) → StmtSim sc (Assign ts e)
+  assign_sim sc ts e m b held R c t keeps s fit has =
+      seq p gs named_if f instead frs (sim_value p gs named_if builtins stand prev top good f n instead frs sc e m b has.0 held R c s fit has.1)
+      (λ v u after y.
+      seq p gs named_if f instead frs (hold p gs named_if f instead frs (v ∷ []) (targets_sim sc ts m has.0 t.norm held v R c u (fit_on fit after) has.2))
+      (λ a w after2 y2. here p gs named_if f instead frs (stays p gs named_if) tt))
+
+  for_all_sim : (sc : Scope) (target : Target) (subject : Subject) (body : Block) → BlockSim sc body → StmtSim sc (For target subject body)
+  for_all_sim sc target subject body sim m b held R c t keeps s fit has =
+      seq p gs named_if f instead frs (sim_subject p gs named_if builtins stand prev top good f n instead frs sc subject m b has.0 held R c s fit has.1)
+      (λ walking u after steps.
+      for_sim sc target body sim m has.0 held R c t keeps walking (subst (λ k. ForAt p gs named_if f n sc k (HasBind p gs named_if f n sc target) (HasBlock p gs named_if f n sc body) has.0 m t) (sym steps) has.2) u (fit_on fit after))
+
+  mutual
+    pub sim_stmt : (s : Stmt) (sc : Scope) → StmtSim sc s
+    sim_stmt Pass sc m b held R c t keeps s fit has = here p gs named_if f instead frs (at_same (place b (env s held)) (place t.norm (env s held)) s.world (ap (λ k. place k (env s held)) has)) tt
+    sim_stmt Break sc m b held R c t keeps s fit has = here p gs named_if f instead frs (falls c s fit b t.brk.keep t.brk.to has keeps.brk) tt
+    sim_stmt Continue sc m b held R c t keeps s fit has = here p gs named_if f instead frs (falls c s fit b t.cont.keep t.cont.to has keeps.cont) tt
+    sim_stmt (Return e) sc m b held R c t keeps s fit has = return_sim sc e m b held R c t keeps s fit has
+    sim_stmt (Do e) sc m b held R c t keeps s fit has = do_sim sc e m b held R c t keeps s fit has
+    sim_stmt (Assign ts e) sc m b held R c t keeps s fit has = assign_sim sc ts e m b held R c t keeps s fit has
+    sim_stmt (Augment target o e) sc m b held R c t keeps s fit has =
+        seq p gs named_if f instead frs (augment_sim sc target o e m b t.norm held R c s fit has) (λ a u after y. here p gs named_if f instead frs (stays p gs named_if) tt)
+    sim_stmt (If e a x) sc m b held R c t keeps s fit has = if_sim sc e a x (sim_block a sc) (sim_block x sc) m b held R c t keeps s fit has
+    sim_stmt (While e body) sc m b held R c t keeps s fit has = loop_sim sc e body (sim_block body sc) m b held R c t keeps s fit has
+    sim_stmt (For target subject body) sc m b held R c t keeps s fit has = for_all_sim sc target subject body (sim_block body sc) m b held R c t keeps s fit has
+    sim_stmt (Try body cs other) sc m b held R c t keeps s fit has = try_sim sc body cs other (λ inner e. sim_block body inner) (sim_clauses cs sc) (sim_block other sc) m b held R c t keeps s fit has
+    sim_stmt (Finally body last) sc m b held R c t keeps s fit has = at_last_sim sc body last (λ inner e. sim_block body inner) (sim_block last sc) m b held R c t keeps s fit has
+
+    pub sim_block : (b : Block) (sc : Scope) → BlockSim sc b
+    sim_block done sc m b held R c t keeps s fit has = here p gs named_if f instead frs (at_same (place b (env s held)) (place t.norm (env s held)) s.world (ap (λ k. place k (env s held)) has)) tt
+    sim_block (line s rest) sc m b held R c t keeps u fit has = line_sim sc s rest (sim_stmt s sc) (sim_block rest sc) m b held R c t keeps u fit has
+
+    sim_clauses : (cs : Clauses) (sc : Scope) → HandleSim sc cs
+    sim_clauses no_clauses sc m held R c t keeps hands default has r u fit thrown = no_clauses_sim sc m held R c t keeps hands default has r u fit thrown
+    sim_clauses (clause None local body rest) sc m held R c t keeps hands default has r u fit thrown = bare_sim sc local body rest (sim_block body sc) m held R c t keeps hands default has r u fit thrown
+    sim_clauses (clause (Some classes) local body rest) sc m held R c t keeps hands default has r u fit thrown = clause_sim sc classes local body rest (sim_block body sc) (sim_clauses rest sc) m held R c t keeps hands default has r u fit thrown
