@@ -11,3 +11,4 @@ pub mod Forms
 pub mod Binds
 pub mod Trees
 pub mod Stmts
+pub mod Top
