@@ -24,7 +24,7 @@ use Rattle.rpy_meaning.specs.Methods.{texts_of, new_parts, join, split, find, be
 use Rattle.rpy_meaning.specs.Operations.{with_none, with_one, with_two, with_three, within, compare, write_if_any, os_write, unpack, add_item, read_attribute, attribute, set_attribute, store_attribute, is_instance_object, is_instance, raise_object, raise, builtin_classes, initialised, new_instance, new, call_value, object_method, method, op}
 
 use Rattle.flow_meaning.specs.Roots.{and_some}
-use Rattle.flow_laws.proofs.Worlds.{total, Weight, class_of, class_at, Later, same, later_on, Sound, Thrown, Passes, Fine, set_kinds, new_kinds, fine_on}
+use Rattle.flow_stands.proofs.Worlds.{total, Weight, class_of, class_at, Later, same, later_on, Sound, Thrown, Passes, Fine, set_kinds, new_kinds, fine_on}
 
 -- what a call passes on, by its operands
 record Passing (operands vs : List Value) : Type 0 where

@@ -11,7 +11,7 @@ use Rattle.rpy_meaning.specs.Operations.{unpack}
 use Rattle.rpy_meaning.specs.Evaluation.{State, Ending, Done, Raised, Failed, Running, Wrong, Eval, then_go}
 use Rattle.rpy_meaning.specs.Meaning.{Sem, unwatched, answered as told, operate, bind, bind_parts, target_count}
 use Rattle.flow_stands.specs.Stands.{Named, AllNamed, NamedIf}
-use Rattle.flow_laws.proofs.Core.{Quiet}
+use Rattle.flow_stands.proofs.Core.{Quiet}
 
 pub named_of : (b : Bool) (parts : Targets) → NamedIf b parts → b ≡ true → AllNamed parts
 named_of true parts h e = h

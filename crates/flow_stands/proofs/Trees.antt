@@ -16,15 +16,15 @@ use Rattle.flow_graph.specs.declared.graph.Graphs.{Graphs}
 use Rattle.flow_meaning.specs.Machine.{Frame}
 use Rattle.flow_stands.specs.Places.{range, Scope, Ways, Jump, Go, first, first_and, stored}
 use Rattle.flow_stands.specs.Stands.{Is, Acts, Meets, Reads, is_local, some_is_local, Asks, AppliedAt, ApplyAt, NotAt, SidesAt, LocalAt, ConstantAt, DisplayAt, ComprehensionAt, GathersAt, GatherAt, TurnsAt, step_of, within, count, AllNamed, HasExpr, HasExprs, HasSides, HasTest, HasNegated, HasPairs, HasSubject, HasCondition, HasBind, HasItems, Stand}
-use Rattle.flow_laws.proofs.Worlds.{total, Weight, Later, same, Sound, Thrown}
-use Rattle.flow_laws.proofs.Lists.{Env, pick}
-use Rattle.flow_laws.proofs.Core.{Place, place, env, env_push, IsBound, After, at_once, after_on, Fit, fit_on, Catches, Ends, Leads, stays, leads_on, enter, wrong_run, Reached, Holds, Runs, before, moved, seq, led, hold, loosen, here, same_place}
-use Rattle.flow_laws.proofs.Calls.{Any, Good, flow_place, Keeps, gathered, IsOnward}
-use Rattle.flow_laws.proofs.Parts.{wide, land_first, land_result, land_at, land_last, land_local, jump_first, jump_and, land_store, assoc, catches_more, vals, lists, stay_at, ReadBy, same_as, jumps, gives_on, strays_on, acts}
-use Rattle.flow_laws.proofs.Tests.{gives_value, meets, local_sim, constant_sim}
-use Rattle.flow_laws.proofs.Walks.{lower, turns_sim}
-use Rattle.flow_laws.proofs.Forms.{test_place, Many, local_reads, set_bound, tested, not_is, ValueSim, ValuesSim, SidesSim, TestSim, NegatedSim, leaf_sim, last_sim, applied_sim, sides_sim, asks_sim, tests_sim, and_sim, or_sim, and_tests_sim, or_tests_sim, not_sim, not_tests_sim}
-use Rattle.flow_laws.proofs.Binds.{named_of, quiet_bind}
+use Rattle.flow_stands.proofs.Worlds.{total, Weight, Later, same, Sound, Thrown}
+use Rattle.flow_stands.proofs.Lists.{Env, pick}
+use Rattle.flow_stands.proofs.Core.{Place, place, env, env_push, IsBound, After, at_once, after_on, Fit, fit_on, Catches, Ends, Leads, stays, leads_on, enter, wrong_run, Reached, Holds, Runs, before, moved, seq, led, hold, loosen, here, same_place}
+use Rattle.flow_stands.proofs.Calls.{Any, Good, flow_place, Keeps, gathered, IsOnward}
+use Rattle.flow_stands.proofs.Parts.{wide, land_first, land_result, land_at, land_last, land_local, jump_first, jump_and, land_store, assoc, catches_more, vals, lists, stay_at, ReadBy, same_as, jumps, gives_on, strays_on, acts}
+use Rattle.flow_stands.proofs.Tests.{gives_value, meets, local_sim, constant_sim}
+use Rattle.flow_stands.proofs.Walks.{lower, turns_sim}
+use Rattle.flow_stands.proofs.Forms.{test_place, Many, local_reads, set_bound, tested, not_is, ValueSim, ValuesSim, SidesSim, TestSim, NegatedSim, leaf_sim, last_sim, applied_sim, sides_sim, asks_sim, tests_sim, and_sim, or_sim, and_tests_sim, or_tests_sim, not_sim, not_tests_sim}
+use Rattle.flow_stands.proofs.Binds.{named_of, quiet_bind}
 
 module _ (p : Program) (gs : Graphs) (named_if : Bool) (builtins : (k : ℕ) → k < builtin_classes → is_below p.classes k 0 ≡ true) (stand : Stand p gs named_if) (prev : Sem) (top : ℕ) (good : Good p gs named_if prev top) (f n : ℕ) (instead : Option Value) (frs : List Frame) where
   abbrev pub F : {A : Type 0} → (Run → Type 0) → List Value → State → (A → State → Place) → (ℕ → State → Place) → (A → State → Type 0) → Ending A → Type 0

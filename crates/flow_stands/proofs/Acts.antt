@@ -19,10 +19,10 @@ use Rattle.flow_graph.specs.declared.graph.Graphs.{Graphs}
 use Rattle.flow_meaning.specs.Machine.{Bound, bind, Frame, State as Spot, Calling, At, Returning, Throwing, Next, Goes, Stops, Strays, block_in, jump, catching, caught_on, caught, waiting, answered, operates, step}
 use Rattle.flow_meaning.specs.Roots.{live, kept, waits_for, and_some, waiting_roots, roots}
 use Rattle.flow_stands.specs.Places.{range, Aim, Hand, Scope, Jump, first_and, stored_if_any, hand_jumps, Does, link, links, act, numbered}
-use Rattle.flow_laws.proofs.Worlds.{total, total_append, Weight, Later, Sound, Thrown, Passes, Fine}
-use Rattle.flow_laws.proofs.Answering.{fine}
-use Rattle.flow_laws.proofs.Lists.{Env, pick, named, bound, named_push, operands_named, pick_kept, pick_kept_and, pick_set, get_at, total_some, total_kept, total_env}
-use Rattle.flow_laws.proofs.Core.{Place, place, env, IsBound, After, at_once, after_on, Fit, fit_on, length_env, stored_value, Below, hand_place, Catches, Ends, Leads, stays, leads_on, step_go, step_ends, step_stops, step_strays, enter, jump_to, enter_block, Reached, Holds, Runs, before, moved, seq, here, same_place}
+use Rattle.flow_stands.proofs.Worlds.{total, total_append, Weight, Later, Sound, Thrown, Passes, Fine}
+use Rattle.flow_stands.proofs.Answering.{fine}
+use Rattle.flow_stands.proofs.Lists.{Env, pick, named, bound, named_push, operands_named, pick_kept, pick_kept_and, pick_set, get_at, total_some, total_kept, total_env}
+use Rattle.flow_stands.proofs.Core.{Place, place, env, IsBound, After, at_once, after_on, Fit, fit_on, length_env, stored_value, Below, hand_place, Catches, Ends, Leads, stays, leads_on, step_go, step_ends, step_stops, step_strays, enter, jump_to, enter_block, Reached, Holds, Runs, before, moved, seq, here, same_place}
 
 module _ (p : Program) (gs : Graphs) (named_if : Bool) (builtins : (k : ℕ) → k < builtin_classes → is_below p.classes k 0 ≡ true) (f : ℕ) (instead : Option Value) (frs : List Frame) where
   abbrev Follow : {A : Type 0} → (Run → Type 0) → List Value → State → (A → State → Place) → (ℕ → State → Place) → (A → State → Type 0) → Ending A → Type 0

@@ -17,11 +17,11 @@ use Rattle.flow_graph.specs.declared.graph.Graphs.{Graphs}
 use Rattle.flow_meaning.specs.Machine.{Frame}
 use Rattle.flow_stands.specs.Places.{range, Scope, Ways, Jump, first, first_and}
 use Rattle.flow_stands.specs.Stands.{Is, Acts, TurnsAt, within, Stand}
-use Rattle.flow_laws.proofs.Worlds.{total, Weight, Later, same, Sound, Thrown}
-use Rattle.flow_laws.proofs.Lists.{Env, pick, take_first}
-use Rattle.flow_laws.proofs.Core.{Place, place, env, env_push, IsBound, After, at_once, after_on, Fit, fit_on, Catches, Ends, Leads, stays, leads_on, enter, wrong_run, Reached, Holds, Runs, before, moved, seq, seq_is, hold, here, same_place}
-use Rattle.flow_laws.proofs.Calls.{Any, Good, flow_place, Keeps}
-use Rattle.flow_laws.proofs.Parts.{wide, land_first, land_result, land_at, land_last, land_local, jump_first, jump_and, land_store, assoc, catches_more, take_less, vals, lists, stay_at, Follow, go_in, To, Holding, same_as, jumps, gives_on, strays_on, acts, fork_on, fork_strays}
+use Rattle.flow_stands.proofs.Worlds.{total, Weight, Later, same, Sound, Thrown}
+use Rattle.flow_stands.proofs.Lists.{Env, pick, take_first}
+use Rattle.flow_stands.proofs.Core.{Place, place, env, env_push, IsBound, After, at_once, after_on, Fit, fit_on, Catches, Ends, Leads, stays, leads_on, enter, wrong_run, Reached, Holds, Runs, before, moved, seq, seq_is, hold, here, same_place}
+use Rattle.flow_stands.proofs.Calls.{Any, Good, flow_place, Keeps}
+use Rattle.flow_stands.proofs.Parts.{wide, land_first, land_result, land_at, land_last, land_local, jump_first, jump_and, land_store, assoc, catches_more, take_less, vals, lists, stay_at, Follow, go_in, To, Holding, same_as, jumps, gives_on, strays_on, acts, fork_on, fork_strays}
 
 pub lower : {top n : ℕ} {s : State} → Fit top n s → Fit (suc top) n s
 lower f = record { low = let l = f.low in omega (arith, l); long = f.long; sound = f.sound }

@@ -10,7 +10,7 @@ use Rattle.rpy_meaning.specs.Evaluation.{values_of}
 use Rattle.flow_meaning.specs.Machine.{Bound, look, and_value, values_of as operands_of, bind, passed, taken}
 use Rattle.flow_meaning.specs.Roots.{kept, and_some}
 use Rattle.flow_stands.specs.Places.{range, shift}
-use Rattle.flow_laws.proofs.Worlds.{total, total_append, Weight}
+use Rattle.flow_stands.proofs.Worlds.{total, total_append, Weight}
 
 abbrev pub Env : Type 0
 Env = List (Option Value)

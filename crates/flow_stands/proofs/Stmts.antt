@@ -17,15 +17,15 @@ use Rattle.flow_graph.specs.declared.graph.Graphs.{Graphs}
 use Rattle.flow_meaning.specs.Machine.{Frame}
 use Rattle.flow_stands.specs.Places.{range, Aim, Hand, Scope, Ways, onto, Jump, Go, first, first_and, stored, on_to}
 use Rattle.flow_stands.specs.Stands.{Is, Acts, MarkIf, Mark, NewAt, WhileAt, ForAt, TurnsAt, step_of, within, hands_of, LocalIn, never_block, HasExpr, HasTest, HasSubject, HasBind, HasTargets, HasAugment, HasStmt, HasBlock, HasClauses, Stand}
-use Rattle.flow_laws.proofs.Worlds.{total, Weight, Later, same, Sound, Thrown, thrown_on}
-use Rattle.flow_laws.proofs.Lists.{Env, pick, pick_take, pick_kept_and, take_first, get_at}
-use Rattle.flow_laws.proofs.Core.{Place, place, env, env_push, IsBound, After, at_once, after_on, Fit, fit_on, stored_value, Below, hand_place, Catches, Ends, Leads, stays, leads_on, enter, wrong_run, Reached, Holds, Sim, Runs, before, moved, seq, seq_is, led, hold, loosen, reheld, here, same_place}
-use Rattle.flow_laws.proofs.Calls.{Any, Good, flow_place, Keeps}
-use Rattle.flow_laws.proofs.Parts.{wide, land_first, land_result, land_at, land_last, jump_first, jump_and, assoc, catches_more, take_less, below_more, vals, stay_at, same_as, jumps, gives_on, strays_on, throws_on, raised_again, acts}
-use Rattle.flow_laws.proofs.Tests.{local_sim}
-use Rattle.flow_laws.proofs.Walks.{lower, after_low, turn_paid, pay_sim, turns_sim}
-use Rattle.flow_laws.proofs.Forms.{test_place, set_bound, last_sim}
-use Rattle.flow_laws.proofs.Trees.{walk_place, Steps, sim_value, sim_test, sim_subject, sim_bind}
+use Rattle.flow_stands.proofs.Worlds.{total, Weight, Later, same, Sound, Thrown, thrown_on}
+use Rattle.flow_stands.proofs.Lists.{Env, pick, pick_take, pick_kept_and, take_first, get_at}
+use Rattle.flow_stands.proofs.Core.{Place, place, env, env_push, IsBound, After, at_once, after_on, Fit, fit_on, stored_value, Below, hand_place, Catches, Ends, Leads, stays, leads_on, enter, wrong_run, Reached, Holds, Sim, Runs, before, moved, seq, seq_is, led, hold, loosen, reheld, here, same_place}
+use Rattle.flow_stands.proofs.Calls.{Any, Good, flow_place, Keeps}
+use Rattle.flow_stands.proofs.Parts.{wide, land_first, land_result, land_at, land_last, jump_first, jump_and, assoc, catches_more, take_less, below_more, vals, stay_at, same_as, jumps, gives_on, strays_on, throws_on, raised_again, acts}
+use Rattle.flow_stands.proofs.Tests.{local_sim}
+use Rattle.flow_stands.proofs.Walks.{lower, after_low, turn_paid, pay_sim, turns_sim}
+use Rattle.flow_stands.proofs.Forms.{test_place, set_bound, last_sim}
+use Rattle.flow_stands.proofs.Trees.{walk_place, Steps, sim_value, sim_test, sim_subject, sim_bind}
 
 keeps_onto : {t : Ways} {m : ℕ} (k : ℕ) → Keeps t m → Keeps (onto t k) m
 keeps_onto k h = record { brk = h.brk; cont = h.cont; ret = h.ret }

@@ -16,12 +16,12 @@ use Rattle.flow_graph.specs.declared.graph.Graphs.{Graphs}
 use Rattle.flow_meaning.specs.Machine.{Frame}
 use Rattle.flow_stands.specs.Places.{range, Scope, Jump, first, first_and, stored}
 use Rattle.flow_stands.specs.Stands.{Is, Acts, Meets, Reads, is_local, some_is_local, Branch, plainly, with_value, Asks, Truth, AppliedAt, NotAt, SidesAt, AndAt, OrAt, onward, count, Stand}
-use Rattle.flow_laws.proofs.Worlds.{total, Weight, Later, same, Sound, Thrown}
-use Rattle.flow_laws.proofs.Lists.{Env, pick}
-use Rattle.flow_laws.proofs.Core.{Place, place, env, env_push, IsBound, After, at_once, after_on, Fit, fit_on, Catches, Ends, Leads, stays, leads_on, enter, wrong_run, Reached, Holds, Runs, before, moved, seq, led, hold, here, same_place}
-use Rattle.flow_laws.proofs.Calls.{Any, Good}
-use Rattle.flow_laws.proofs.Parts.{wide, land_first, land_result, land_at, land_last, land_local, jump_first, jump_and, land_store, assoc, catches_more, vals, lists, stay_at, ReadBy, same_as, jumps, gives_on, strays_on, acts, raises_sim}
-use Rattle.flow_laws.proofs.Tests.{branch_place, by_truth, gives_value, meets, truth_sim}
+use Rattle.flow_stands.proofs.Worlds.{total, Weight, Later, same, Sound, Thrown}
+use Rattle.flow_stands.proofs.Lists.{Env, pick}
+use Rattle.flow_stands.proofs.Core.{Place, place, env, env_push, IsBound, After, at_once, after_on, Fit, fit_on, Catches, Ends, Leads, stays, leads_on, enter, wrong_run, Reached, Holds, Runs, before, moved, seq, led, hold, here, same_place}
+use Rattle.flow_stands.proofs.Calls.{Any, Good}
+use Rattle.flow_stands.proofs.Parts.{wide, land_first, land_result, land_at, land_last, land_local, jump_first, jump_and, land_store, assoc, catches_more, vals, lists, stay_at, ReadBy, same_as, jumps, gives_on, strays_on, acts, raises_sim}
+use Rattle.flow_stands.proofs.Tests.{branch_place, by_truth, gives_value, meets, truth_sim}
 
 -- where a test leads
 abbrev pub test_place : ℕ → ℕ → List Value → Bool → State → Place

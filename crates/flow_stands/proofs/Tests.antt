@@ -20,11 +20,11 @@ use Rattle.flow_graph.specs.declared.graph.Graphs.{Graphs}
 use Rattle.flow_meaning.specs.Machine.{Bound, bind, look, Frame, State as Spot, At, Next, Goes, Stops, Strays, block_in, jump, chooses, truth_of, step}
 use Rattle.flow_stands.specs.Places.{range, Aim, Hand, Scope, Jump, first, first_and, stored, hand_jumps, Shape, Go, Fork, Does, link, links, act, numbered, shift}
 use Rattle.flow_stands.specs.Stands.{Is, Acts, Meets, Reads, Branch, branch_jump, plainly, with_value, Narrows, Way, Truth, Asks, LocalAt, ConstantAt, never_block, onward, Stand}
-use Rattle.flow_laws.proofs.Worlds.{total, Weight, Later, same, Sound, Thrown}
-use Rattle.flow_laws.proofs.Lists.{Env, pick, named, look_named, pick_first, pick_set, set_same}
-use Rattle.flow_laws.proofs.Core.{Place, place, env, env_push, IsBound, After, at_once, after_on, Fit, fit_on, Catches, Ends, Leads, stays, leads_on, step_go, step_strays, enter, jump_to, enter_block, wrong_run, Reached, Holds, Runs, before, moved, seq, hold, here, same_place}
-use Rattle.flow_laws.proofs.Calls.{Any, Good}
-use Rattle.flow_laws.proofs.Parts.{wide, land_first, land_result, land_at, land_last, land_local, jump_first, jump_and, land_store, bound_at, bound_read, assoc, catches_more, vals, lists, stay_at, ReadBy, Follow, go_in, To, Holding, same_as, jumps, gives_on, strays_on, acts, unbound_on}
+use Rattle.flow_stands.proofs.Worlds.{total, Weight, Later, same, Sound, Thrown}
+use Rattle.flow_stands.proofs.Lists.{Env, pick, named, look_named, pick_first, pick_set, set_same}
+use Rattle.flow_stands.proofs.Core.{Place, place, env, env_push, IsBound, After, at_once, after_on, Fit, fit_on, Catches, Ends, Leads, stays, leads_on, step_go, step_strays, enter, jump_to, enter_block, wrong_run, Reached, Holds, Runs, before, moved, seq, hold, here, same_place}
+use Rattle.flow_stands.proofs.Calls.{Any, Good}
+use Rattle.flow_stands.proofs.Parts.{wide, land_first, land_result, land_at, land_last, land_local, jump_first, jump_and, land_store, bound_at, bound_read, assoc, catches_more, vals, lists, stay_at, ReadBy, Follow, go_in, To, Holding, same_as, jumps, gives_on, strays_on, acts, unbound_on}
 
 -- where a branch leads, with the value that was tested
 abbrev pub branch_place : Branch → List Value → Value → State → Place

@@ -26,8 +26,8 @@ use Rattle.flow_meaning.specs.Meaning.{Ran, Ended, follow, run, run_of, no_world
 use Rattle.flow_meaning.specs.Roots.{live, kept, and_some, waiting_roots, roots}
 use Rattle.flow_meaning.proofs.One.{one_more}
 use Rattle.flow_stands.specs.Places.{range, Aim, Hand, Scope, Jump, first, first_and, stored_if_any, hand_jumps, Shape, Go, Fork, Does, Plain, GiveBack, GiveUp, shift, link, links, act, numbered}
-use Rattle.flow_laws.proofs.Worlds.{total, total_append, Weight, class_of, class_at, Later, same, later_on, Sound, sound_on, Thrown, Passes, Fine}
-use Rattle.flow_laws.proofs.Lists.{Env, pick, named, bound, passed_is, bound_named, named_push, look_named, picks_named, operands_named, pick_kept, pick_kept_and, pick_set, get_at, values_append, values_some, total_some, total_kept, total_env}
+use Rattle.flow_stands.proofs.Worlds.{total, total_append, Weight, class_of, class_at, Later, same, later_on, Sound, sound_on, Thrown, Passes, Fine}
+use Rattle.flow_stands.proofs.Lists.{Env, pick, named, bound, passed_is, bound_named, named_push, look_named, picks_named, operands_named, pick_kept, pick_kept_and, pick_set, get_at, values_append, values_some, total_some, total_kept, total_env}
 
 -- a block, and the values with which it is entered
 pub record Place : Type 0 where

@@ -21,9 +21,9 @@ use Rattle.flow_meaning.specs.Machine.{Bound, bind, look, Frame, State as Spot, 
 use Rattle.flow_meaning.specs.Roots.{and_some, waiting_roots, roots}
 use Rattle.flow_stands.specs.Places.{range, Aim, Hand, Scope, Ways, Jump, first, first_and, Shape, Go, Plain, GiveBack, GiveUp, shift, link, act, numbered}
 use Rattle.flow_stands.specs.Stands.{head_block, return_block, raise_block, end_block, Is, HasExpr, HasTest, HasBind, HasCondition, HasBlock, WhileAt, ForAt, GathersAt, outside, no_try, HasFunction, IfFunction}
-use Rattle.flow_laws.proofs.Worlds.{total, total_append, Weight, Later, later_on, Sound, sound_on, Thrown, Passes}
-use Rattle.flow_laws.proofs.Lists.{Env, pick, named, bound, taken_is, bound_short, named_push, look_named, pick_first, pick_kept_and, get_at, take_first, total_some}
-use Rattle.flow_laws.proofs.Core.{Place, place, env, IsBound, After, at_once, after_on, Fit, fit_on, length_env, hand_place, Catches, Ends, Leads, stays, leads_on, step_go, step_ends, step_stops, step_strays, enter, jump_to, enter_block, block_point, wrong_run, Reached, Holds, Sim, Runs, before, moved, seq, here, same_place}
+use Rattle.flow_stands.proofs.Worlds.{total, total_append, Weight, Later, later_on, Sound, sound_on, Thrown, Passes}
+use Rattle.flow_stands.proofs.Lists.{Env, pick, named, bound, taken_is, bound_short, named_push, look_named, pick_first, pick_kept_and, get_at, take_first, total_some}
+use Rattle.flow_stands.proofs.Core.{Place, place, env, IsBound, After, at_once, after_on, Fit, fit_on, length_env, hand_place, Catches, Ends, Leads, stays, leads_on, step_go, step_ends, step_stops, step_strays, enter, jump_to, enter_block, block_point, wrong_run, Reached, Holds, Sim, Runs, before, moved, seq, here, same_place}
 
 abbrev pub Any : {A : Type 0} → A → State → Type 0
 Any a t = Unit {0}

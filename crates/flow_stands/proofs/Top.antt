@@ -23,11 +23,11 @@ use Rattle.rpy_meaning.specs.declared.row.RowOp.TheVariants as row
 use Rattle.flow_stands.specs.Places.{first_and, Plain, GiveBack, GiveUp}
 use Rattle.flow_stands.specs.Stands.{Is, outside, no_try, return_block, raise_block, end_block, HasExpr, HasBind, HasCondition, HasBlock, Stand}
 use Rattle.flow_stands.specs.Follows.{HasBuiltins, EndsLike, HoldsNoMore, UsesNoMore}
-use Rattle.flow_laws.proofs.Worlds.{total, total_append, Weight, class_of, class_at, Later, Sound}
-use Rattle.flow_laws.proofs.Core.{Fit, Catches, Leads, leads_on, Ends, step_ends, Sim, Runs}
-use Rattle.flow_laws.proofs.Calls.{Any, Good, Keeps, leaves_by, left_at, raises_value, called_any, flow_place}
-use Rattle.flow_laws.proofs.Trees.{sim_value, sim_bind, sim_condition, gathers_sim}
-use Rattle.flow_laws.proofs.Stmts.{sim_block, loop_sim, for_sim}
+use Rattle.flow_stands.proofs.Worlds.{total, total_append, Weight, class_of, class_at, Later, Sound}
+use Rattle.flow_stands.proofs.Core.{Fit, Catches, Leads, leads_on, Ends, step_ends, Sim, Runs}
+use Rattle.flow_stands.proofs.Calls.{Any, Good, Keeps, leaves_by, left_at, raises_value, called_any, flow_place}
+use Rattle.flow_stands.proofs.Trees.{sim_value, sim_bind, sim_condition, gathers_sim}
+use Rattle.flow_stands.proofs.Stmts.{sim_block, loop_sim, for_sim}
 
 -- ---- levels
 

@@ -23,11 +23,11 @@ use Rattle.flow_meaning.specs.Machine.{Bound, bind, look, Frame, State as Spot, 
 use Rattle.flow_meaning.specs.Roots.{waits_for, and_some, waiting_roots}
 use Rattle.flow_stands.specs.Places.{range, Aim, Hand, Scope, Jump, first, first_and, stored, stored_if_any, hand_jumps, Shape, Go, Fork, Does, link, links, act, numbered, shift}
 use Rattle.flow_stands.specs.Stands.{Is, Acts, Meets, Reads, Branch, branch_jump, plainly, with_value, Narrows, Way, Truth, Asks, never_block, onward, Stand}
-use Rattle.flow_laws.proofs.Worlds.{total, total_append, Weight, class_of, Later, same, Sound, sound_on, Thrown, Passes, Fine}
-use Rattle.flow_laws.proofs.Lists.{Env, pick, named, bound, named_push, look_named, operands_named, operand_none, pick_last, pick_first, pick_kept, pick_kept_and, pick_set, take_first, get_at, set_same, total_some, total_kept, total_env}
-use Rattle.flow_laws.proofs.Core.{Place, place, env, env_push, IsBound, After, at_once, after_on, Fit, fit_on, length_env, stored_value, Below, hand_place, Catches, Ends, Leads, stays, leads_on, step_go, step_ends, step_stops, step_strays, enter, jump_to, enter_block, block_point, wrong_run, Reached, Holds, Runs, before, moved, seq, hold, here, same_place}
-use Rattle.flow_laws.proofs.Acts.{goes_on, throws, told_sim, frame, used_here}
-use Rattle.flow_laws.proofs.Calls.{Any, Good, called_sim}
+use Rattle.flow_stands.proofs.Worlds.{total, total_append, Weight, class_of, Later, same, Sound, sound_on, Thrown, Passes, Fine}
+use Rattle.flow_stands.proofs.Lists.{Env, pick, named, bound, named_push, look_named, operands_named, operand_none, pick_last, pick_first, pick_kept, pick_kept_and, pick_set, take_first, get_at, set_same, total_some, total_kept, total_env}
+use Rattle.flow_stands.proofs.Core.{Place, place, env, env_push, IsBound, After, at_once, after_on, Fit, fit_on, length_env, stored_value, Below, hand_place, Catches, Ends, Leads, stays, leads_on, step_go, step_ends, step_stops, step_strays, enter, jump_to, enter_block, block_point, wrong_run, Reached, Holds, Runs, before, moved, seq, hold, here, same_place}
+use Rattle.flow_stands.proofs.Acts.{goes_on, throws, told_sim, frame, used_here}
+use Rattle.flow_stands.proofs.Calls.{Any, Good, called_sim}
 
 -- ---- what stands where
 

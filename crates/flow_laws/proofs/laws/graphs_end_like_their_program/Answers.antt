@@ -1,5 +1,0 @@
-use Rattle.flow_laws.proofs.Top.{only_ending}
-use Rattle.flow_laws.proofs.laws.graphs_end_like_their_program.Goals as goal
-
-pub returns : goal.returns
-returns c = λ p gs named builtins stand. only_ending p gs named builtins stand

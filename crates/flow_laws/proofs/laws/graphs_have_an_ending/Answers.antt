@@ -1,5 +1,0 @@
-use Rattle.flow_laws.proofs.Top.{has_ending}
-use Rattle.flow_laws.proofs.laws.graphs_have_an_ending.Goals as goal
-
-pub returns : goal.returns
-returns c = λ p gs named builtins stand. has_ending p gs named builtins stand

@@ -1,5 +1,0 @@
-use Rattle.flow_laws.proofs.Top.{uses}
-use Rattle.flow_laws.proofs.laws.graphs_use_no_more.Goals as goal
-
-pub returns : goal.returns
-returns c = λ p gs builtins stand. uses p gs builtins stand

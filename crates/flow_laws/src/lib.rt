@@ -1,8 +1,0 @@
-//! Flow graphs that stand for the functions of a program mean what the program means.
-#![tactic(auto)]
-
-mod laws;
-
-pub use laws::{
-    graphs_end_like_their_program, graphs_have_an_ending, graphs_use_no_more,
-};
