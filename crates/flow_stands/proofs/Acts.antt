@@ -1,28 +1,25 @@
 -- The machine does an operation as the tree does.
-use Rattle.std.proofs.Common.{◌≡◌, ℕ, zero, suc, ◌+◌, ◌-◌, ◌<◌, ◌≤◌, Bool, true, false, cond, List, [], ◌∷◌, ◌++◌, length, get_or, take, Some, None, Option, refl, sym, ap, ◌∙◌, subst, arith, append_assoc, length-append}
-use Rattle.std.specs.Prelude.{map, slice_get, slice_set, nat_lt, ◌==◌, if◌then◌else◌}
-use Rattle.std.proofs.lemmas.List.{append-nil, length-map, map-append, length-set}
-use Rattle.rpy_base.specs.declared.outcome.Outcome.TheVariants as outcome
+use Rattle.std.proofs.Common.{◌≡◌, ℕ, ◌+◌, ◌<◌, ◌≤◌, Bool, true, false, cond, List, [], ◌∷◌, ◌++◌, length, get_or, take, Some, None, Option, refl, sym, ap, ◌∙◌, arith, append_assoc}
+use Rattle.std.specs.Prelude.{map, slice_get, slice_set}
 use Rattle.rpy_tree.specs.Value.{Value, Ref}
-use Rattle.rpy_meaning.specs.declared.row.Covers.{Covers}
 use Rattle.rpy_meaning.specs.declared.row.RowOp.{RowOp}
-use Rattle.rpy_meaning.specs.Tree.{Program, Function}
+use Rattle.rpy_meaning.specs.Tree.{Program}
 use Rattle.rpy_meaning.specs.World.{World, Answer, Gives, Throws, Fails, Lacks, Enters, Bad}
 use Rattle.rpy_meaning.specs.Classes.{is_below}
 use Rattle.rpy_meaning.specs.Operations.{op, builtin_classes}
-use Rattle.rpy_meaning.specs.Evaluation.{State, Ending, Done, Raised, Failed, Running, Wrong, Eval, then_go, add_held, values_of}
-use Rattle.rpy_meaning.specs.Meaning.{Run, over, class_in, Sem, unwatched, called, answered as told, operate}
+use Rattle.rpy_meaning.specs.Evaluation.{State, Ending, values_of}
+use Rattle.rpy_meaning.specs.Meaning.{Run, class_in, Sem, unwatched, called, answered as told, operate}
 use Rattle.flow_graph.specs.declared.graph.Exit.{Exit}
 use Rattle.flow_graph.specs.declared.graph.Exit.TheVariants as exit
 use Rattle.flow_graph.specs.declared.graph.Op.{Op}
 use Rattle.flow_graph.specs.declared.graph.Graphs.{Graphs}
-use Rattle.flow_meaning.specs.Machine.{Bound, bind, Frame, State as Spot, Calling, At, Returning, Throwing, Next, Goes, Stops, Strays, block_in, jump, catching, caught_on, caught, waiting, answered, operates, step}
-use Rattle.flow_meaning.specs.Roots.{live, kept, waits_for, and_some, waiting_roots, roots}
-use Rattle.flow_stands.specs.Places.{range, Aim, Hand, Scope, Jump, first_and, stored_if_any, hand_jumps, Does, link, links, act, numbered}
-use Rattle.flow_stands.proofs.Worlds.{total, total_append, Weight, Later, Sound, Thrown, Passes, Fine}
+use Rattle.flow_meaning.specs.Machine.{bind, Frame, State as Spot, Calling, At, Next, Goes, jump, catching, caught_on, caught, waiting, answered, operates, step}
+use Rattle.flow_meaning.specs.Roots.{live, kept, and_some, waiting_roots, roots}
+use Rattle.flow_stands.specs.Places.{Hand, Scope, Jump, first_and, stored_if_any, hand_jumps, link, links, act}
+use Rattle.flow_stands.proofs.Worlds.{total, total_append, Weight, Later, Passes, Fine}
 use Rattle.flow_stands.proofs.Answering.{fine}
-use Rattle.flow_stands.proofs.Lists.{Env, pick, named, bound, named_push, operands_named, pick_kept, pick_kept_and, pick_set, get_at, total_some, total_kept, total_env}
-use Rattle.flow_stands.proofs.Core.{Place, place, env, IsBound, After, at_once, after_on, Fit, fit_on, length_env, stored_value, Below, hand_place, Catches, Ends, Leads, stays, leads_on, step_go, step_ends, step_stops, step_strays, enter, jump_to, enter_block, Reached, Holds, Runs, before, moved, seq, here, same_place}
+use Rattle.flow_stands.proofs.Lists.{Env, pick, named, named_push, operands_named, pick_kept, pick_kept_and, pick_set, get_at, total_kept, total_env}
+use Rattle.flow_stands.proofs.Core.{Place, place, env, Fit, length_env, stored_value, Below, hand_place, Catches, Ends, Leads, stays, leads_on, step_go, step_ends, step_stops, step_strays, enter, jump_to, Runs, before, seq, here, same_place}
 
 module _ (p : Program) (gs : Graphs) (named_if : Bool) (builtins : (k : ℕ) → k < builtin_classes → is_below p.classes k 0 ≡ true) (f : ℕ) (instead : Option Value) (frs : List Frame) where
   abbrev Follow : {A : Type 0} → (Run → Type 0) → List Value → State → (A → State → Place) → (ℕ → State → Place) → (A → State → Type 0) → Ending A → Type 0
@@ -113,8 +110,8 @@ module _ (p : Program) (gs : Graphs) (named_if : Bool) (builtins : (k : ℕ) →
           omega (arith, total_append wt.of (kept uses (named base vars)) (and_some instead (waiting_roots frs)), total_kept wt.of uses base vars, total_env wt.of s.locals held xs)
 
       module _ (prev : Sem) (hold : List Value) (D : Value → State → Place) (X : Value → State → Type 0) (small : (wt : Weight) → total wt.of xs ≤ total wt.of hold)
-        (lands : (v : Value) (w : World) → op p sc.covers o vs s.world ≡ Gives v w → (place norm.to (pick (vars ++ Some v ∷ []) norm.places) ≡ D v (record s { world = w })) × X v (record s { world = w }))
-        (calls : (g : ℕ) (us : List Value) (other : Option Value) (w : World) → op p sc.covers o vs s.world ≡ Enters g us other w → Later s.world w → Passes vs us other → Follow (Ends p gs named_if (Calling g us other (frame ∷ frs) w)) held (record s { world = w }) D R X (called p unwatched prev (slice_get p.functions g) us other (record s { world = w }))) where
+          (lands : (v : Value) (w : World) → op p sc.covers o vs s.world ≡ Gives v w → (place norm.to (pick (vars ++ Some v ∷ []) norm.places) ≡ D v (record s { world = w })) × X v (record s { world = w }))
+          (calls : (g : ℕ) (us : List Value) (other : Option Value) (w : World) → op p sc.covers o vs s.world ≡ Enters g us other w → Later s.world w → Passes vs us other → Follow (Ends p gs named_if (Calling g us other (frame ∷ frs) w)) held (record s { world = w }) D R X (called p unwatched prev (slice_get p.functions g) us other (record s { world = w }))) where
         answers : (a : Answer) → op p sc.covers o vs s.world ≡ a → Fine p vs s.world a → Follow (Ends p gs named_if (spot s.world)) held s D R X (told p unwatched prev a hold s)
         answers (Gives v w) e h =
             let l = lands v w e in

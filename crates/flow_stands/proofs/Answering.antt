@@ -1,6 +1,6 @@
 -- Each operation answers so, by its parts.
-use Rattle.std.proofs.Common.{◌≡◌, ℕ, ◌+◌, ◌≤◌, List, [], ◌∷◌, ◌++◌, Bool, true, false, Some, None, Option, refl, sym, ap, ◌∙◌, subst, arith, ◌<◌, ◌-◌}
-use Rattle.std.specs.Prelude.{nat_lt, ℤ, pos, negsuc, min, nat_eq, length, slice_get, remove, option_map, not, if◌then◌else◌, codes}
+use Rattle.std.proofs.Common.{◌≡◌, ℕ, List, [], ◌∷◌, ◌++◌, Bool, true, false, Some, None, Option, refl, sym, ap, ◌∙◌, subst, arith, ◌<◌, ◌-◌}
+use Rattle.std.specs.Prelude.{nat_lt, ℤ, pos, negsuc, nat_eq, length, slice_get, remove, option_map, not, if◌then◌else◌, codes}
 use Rattle.std.specs.List.{join_by, slice_split}
 use Rattle.std.specs.Str.{bytes_eq}
 use Rattle.rpy_base.specs.declared.outcome.FailName.{FailName}
@@ -15,16 +15,14 @@ use Rattle.rpy_meaning.specs.declared.row.RowOp.TheVariants as row
 use Rattle.rpy_meaning.specs.Tree.{Program}
 use Rattle.rpy_meaning.specs.Compare.{truth}
 use Rattle.rpy_meaning.specs.Classes.{named, method_of, first_attributes, is_below}
-use Rattle.rpy_meaning.specs.World.{World, Op, Answer, Gives, Throws, Fails, Lacks, Enters, Bad, bad, give, throw, flag_if_any, paying, write, new_object, set_object, at_object, on_list, with_list, new_text, new_list, failure, index_error, attribute_error, negative_slice, if_some}
+use Rattle.rpy_meaning.specs.World.{World, Op, Fails, Lacks, Enters, bad, give, throw, flag_if_any, paying, write, new_object, set_object, at_object, on_list, with_list, new_text, new_list, failure, index_error, attribute_error, negative_slice, if_some}
 use Rattle.rpy_meaning.specs.Arithmetic.{word, word_that_fits, arithmetic, on_word, on_words}
 use Rattle.rpy_base.specs.Number.{trimmed}
-use Rattle.rpy_meaning.specs.Sequences.{count, tuple, place, item_at, index_object, index, store_object, store_index, delete_object, delete_index, Cut, part, part_between, between, slice, but_last, plus, times, binary, extend, add_to, is_in_object}
+use Rattle.rpy_meaning.specs.Sequences.{place, item_at, index_object, index, store_object, store_index, delete_object, delete_index, Cut, part, part_between, between, slice, but_last, plus, times, binary, extend, add_to, is_in_object}
 use Rattle.rpy_meaning.specs.Walks.{walk_object, walk, has_item, item, advance}
 use Rattle.rpy_meaning.specs.Methods.{texts_of, new_parts, join, split, find, begins, ends, strip, is_byte, text_methods, append, insert_at, extend_by, reverse_list, taken_out, pop, list_methods, get, keys, values, items, dict_methods, object_length, len, ord, chr, to_text, number, to_word}
 use Rattle.rpy_meaning.specs.Operations.{with_none, with_one, with_two, with_three, within, compare, write_if_any, os_write, unpack, add_item, read_attribute, attribute, set_attribute, store_attribute, is_instance_object, is_instance, raise_object, raise, builtin_classes, initialised, new_instance, new, call_value, object_method, method, op}
-
-use Rattle.flow_meaning.specs.Roots.{and_some}
-use Rattle.flow_stands.proofs.Worlds.{total, Weight, class_of, class_at, Later, same, later_on, Sound, Thrown, Passes, Fine, set_kinds, new_kinds, fine_on}
+use Rattle.flow_stands.proofs.Worlds.{total, class_of, same, Sound, Thrown, Passes, Fine, set_kinds, new_kinds, fine_on}
 
 -- what a call passes on, by its operands
 record Passing (operands vs : List Value) : Type 0 where

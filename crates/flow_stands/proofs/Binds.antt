@@ -1,5 +1,5 @@
 -- What names and tuples of names take is never in want of steps.
-use Rattle.std.proofs.Common.{◌≡◌, ℕ, zero, suc, Bool, true, false, List, [], ◌∷◌, Some, None, Option, refl}
+use Rattle.std.proofs.Common.{◌≡◌, ℕ, suc, Bool, true, false, [], ◌∷◌, Some, None, Option}
 use Rattle.std.specs.Prelude.{length, slice_get, ◌==◌, if◌then◌else◌}
 use Rattle.rpy_tree.specs.Value.{Value, Tuple}
 use Rattle.rpy_meaning.specs.declared.row.Covers.{Covers}

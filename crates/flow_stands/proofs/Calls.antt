@@ -1,29 +1,25 @@
 -- The machine calls a function as the tree does.
-use Rattle.std.proofs.Common.{◌≡◌, ℕ, zero, suc, ◌+◌, ◌-◌, ◌<◌, ◌≤◌, Bool, true, false, cond, List, [], ◌∷◌, ◌++◌, length, get_or, take, Some, None, Option, refl, sym, ap, ◌∙◌, subst, arith, append_assoc, length-append}
-use Rattle.std.specs.Prelude.{map, slice_get, slice_set, nat_lt, ◌==◌, if◌then◌else◌, replicate, unwrap_or}
-use Rattle.std.proofs.lemmas.List.{append-nil, length-map, map-append, length-replicate}
+use Rattle.std.proofs.Common.{◌≡◌, ℕ, suc, ◌+◌, ◌-◌, ◌<◌, ◌≤◌, Bool, true, false, cond, List, [], ◌∷◌, ◌++◌, length, take, Some, None, Option, refl, sym, ap, ◌∙◌, subst, arith, length-append}
+use Rattle.std.specs.Prelude.{map, slice_get, nat_lt, if◌then◌else◌, replicate, unwrap_or}
+use Rattle.std.proofs.lemmas.List.{append-nil, length-map, length-replicate}
 use Rattle.std.proofs.lemmas.Bool.{ltb-false}
 use Rattle.rpy_base.specs.declared.outcome.Outcome.TheVariants as outcome
 use Rattle.rpy_tree.specs.Value.{Value, Ref, Nothing}
-use Rattle.rpy_meaning.specs.declared.row.Covers.{Covers}
-use Rattle.rpy_meaning.specs.declared.row.RowOp.{RowOp}
 use Rattle.rpy_meaning.specs.declared.row.RowOp.TheVariants as row
-use Rattle.rpy_meaning.specs.Tree.{Expr, Target, Condition, Stmt, Block, Program, Function}
+use Rattle.rpy_meaning.specs.Tree.{Expr, Target, Condition, Block, Program, Function}
 use Rattle.rpy_meaning.specs.World.{World}
-use Rattle.rpy_meaning.specs.Operations.{builtin_classes}
-use Rattle.rpy_meaning.specs.Evaluation.{State, Ending, Done, Raised, Failed, Running, Wrong, Eval, then_go, wrong, values_of, Flow, Next as Onward, Broken, Continued, Returned, parameters, with_value, leaving, result_of}
-use Rattle.rpy_meaning.specs.Meaning.{Run, Task, Body, Loop, Turns, Gather, Walking, walk_holds, over, Sem, unwatched, called, entered as entering, frame as locals_of}
-use Rattle.flow_graph.specs.declared.graph.Exit.{Exit}
+use Rattle.rpy_meaning.specs.Evaluation.{State, Ending, Done, Raised, Failed, Running, Wrong, then_go, wrong, values_of, Flow, Next as Onward, Broken, Continued, Returned, parameters, with_value, leaving, result_of}
+use Rattle.rpy_meaning.specs.Meaning.{Run, Body, Loop, Turns, Gather, Walking, walk_holds, over, Sem, unwatched, called, entered as entering, frame as locals_of}
 use Rattle.flow_graph.specs.declared.graph.Exit.TheVariants as exit
 use Rattle.flow_graph.specs.declared.graph.Block as graph
 use Rattle.flow_graph.specs.declared.graph.Graphs.{Graphs}
-use Rattle.flow_meaning.specs.Machine.{Bound, bind, look, Frame, State as Spot, Calling, At, Returning, Throwing, Next, Goes, Stops, Strays, block_in, jump, taken, begun, given, entered, returns, raises, gives, caught, step}
+use Rattle.flow_meaning.specs.Machine.{bind, Frame, State as Spot, Calling, At, Returning, Throwing, Goes, Stops, Strays, block_in, jump, taken, begun, given, entered, returns, raises, step}
 use Rattle.flow_meaning.specs.Roots.{and_some, waiting_roots, roots}
-use Rattle.flow_stands.specs.Places.{range, Aim, Hand, Scope, Ways, Jump, first, first_and, Shape, Go, Plain, GiveBack, GiveUp, shift, link, act, numbered}
+use Rattle.flow_stands.specs.Places.{range, Scope, Ways, first, first_and, Go, Plain, GiveBack, GiveUp, link, act, numbered}
 use Rattle.flow_stands.specs.Stands.{head_block, return_block, raise_block, end_block, Is, HasExpr, HasTest, HasBind, HasCondition, HasBlock, WhileAt, ForAt, GathersAt, outside, no_try, HasFunction, IfFunction}
-use Rattle.flow_stands.proofs.Worlds.{total, total_append, Weight, Later, later_on, Sound, sound_on, Thrown, Passes}
-use Rattle.flow_stands.proofs.Lists.{Env, pick, named, bound, taken_is, bound_short, named_push, look_named, pick_first, pick_kept_and, get_at, take_first, total_some}
-use Rattle.flow_stands.proofs.Core.{Place, place, env, IsBound, After, at_once, after_on, Fit, fit_on, length_env, hand_place, Catches, Ends, Leads, stays, leads_on, step_go, step_ends, step_stops, step_strays, enter, jump_to, enter_block, block_point, wrong_run, Reached, Holds, Sim, Runs, before, moved, seq, here, same_place}
+use Rattle.flow_stands.proofs.Worlds.{total, total_append, Weight, Later, later_on, Sound, Passes}
+use Rattle.flow_stands.proofs.Lists.{Env, pick, named, bound, taken_is, bound_short, named_push, look_named, pick_first, get_at, take_first, total_some}
+use Rattle.flow_stands.proofs.Core.{Place, place, env, Fit, Catches, Ends, Leads, leads_on, step_go, step_stops, step_strays, enter, jump_to, enter_block, block_point, wrong_run, Sim, Runs, moved, same_place}
 
 abbrev pub Any : {A : Type 0} → A → State → Type 0
 Any a t = Unit {0}
@@ -121,9 +117,9 @@ module _ (p : Program) (gs : Graphs) (named_if : Bool) where
 
   -- The function g is called, is entered, runs and is left. Q says of an ending what is asked.
   module _ (frames : List Frame) (g : ℕ) (args : List Value) (other : Option Value) (s0 : State) (prev : Sem) (top : ℕ) (good : Good prev top) (Q : World → (Run → Type 0) → Ending Value → Type 0)
-    (wrong_so : (at : Spot) (w : World) → Ends p gs named_if at (wrong_run p gs named_if) → Q w (Ends p gs named_if at) Wrong)
-    (stops_so : (at : Spot) (w : World) → roots at ≡ roots (Calling g args other frames w) → Ends p gs named_if at (over (Some outcome.Running) (roots at) (record s0 { world = w })) → Q w (Ends p gs named_if at) (Running args (record s0 { world = w })))
-    (leaves_so : (at : Spot) (w : World) (s1 : State) (n : ℕ) (is_return : Is p gs named_if g n return_block 1 GiveBack) (is_raise : Is p gs named_if g n raise_block 1 GiveUp) (is_end : Is p gs named_if g n end_block n (Plain row.None (first_and return_block 0 n))) (e : Ending Flow) → Later w s1.world → length s1.locals ≡ n
+      (wrong_so : (at : Spot) (w : World) → Ends p gs named_if at (wrong_run p gs named_if) → Q w (Ends p gs named_if at) Wrong)
+      (stops_so : (at : Spot) (w : World) → roots at ≡ roots (Calling g args other frames w) → Ends p gs named_if at (over (Some outcome.Running) (roots at) (record s0 { world = w })) → Q w (Ends p gs named_if at) (Running args (record s0 { world = w })))
+      (leaves_so : (at : Spot) (w : World) (s1 : State) (n : ℕ) (is_return : Is p gs named_if g n return_block 1 GiveBack) (is_raise : Is p gs named_if g n raise_block 1 GiveUp) (is_end : Is p gs named_if g n end_block n (Plain row.None (first_and return_block 0 n))) (e : Ending Flow) → Later w s1.world → length s1.locals ≡ n
       → Sim p gs named_if g other frames (Ends p gs named_if at) [] s1 (flow_place (outside n) []) leaves_by Any e → Q w (Ends p gs named_if at) (leaving s0.locals args other e)) where
     abbrev inside_of : Place → World → Run → Type 0
     inside_of = enter p gs named_if g other frames
@@ -205,11 +201,10 @@ module _ (p : Program) (gs : Graphs) (named_if : Bool) where
 
   -- the function g was called: who waits goes on with what D and R say
   module _ (f : ℕ) (instead : Option Value) (frs : List Frame) (frame : Frame) (held vs : List Value) (s0 : State) (D : Value → State → Place) (R : ℕ → State → Place) (X : Value → State → Type 0)
-    (given_back : (v : Value) (w : World) (k : ℕ) → Leads p gs named_if (Ends p gs named_if (Returning v (frame ∷ frs) w)) (enter p gs named_if f instead frs (D v (record s0 { world = w; moments = k })) w))
-    (thrown_back : (r : ℕ) (w : World) (k : ℕ) → Leads p gs named_if (Ends p gs named_if (Throwing r (frame ∷ frs) w)) (enter p gs named_if f instead frs (R r (record s0 { world = w; moments = k })) w))
-    (posts : (v : Value) (w : World) (k : ℕ) → X v (record s0 { world = w; moments = k }))
-    (used : (wt : Weight) → total wt.of (waiting_roots (frame ∷ frs)) ≤ total wt.of (values_of s0.locals) + total wt.of held + total wt.of vs + total wt.of (and_some instead (waiting_roots frs))) where
-
+      (given_back : (v : Value) (w : World) (k : ℕ) → Leads p gs named_if (Ends p gs named_if (Returning v (frame ∷ frs) w)) (enter p gs named_if f instead frs (D v (record s0 { world = w; moments = k })) w))
+      (thrown_back : (r : ℕ) (w : World) (k : ℕ) → Leads p gs named_if (Ends p gs named_if (Throwing r (frame ∷ frs) w)) (enter p gs named_if f instead frs (R r (record s0 { world = w; moments = k })) w))
+      (posts : (v : Value) (w : World) (k : ℕ) → X v (record s0 { world = w; moments = k }))
+      (used : (wt : Weight) → total wt.of (waiting_roots (frame ∷ frs)) ≤ total wt.of (values_of s0.locals) + total wt.of held + total wt.of vs + total wt.of (and_some instead (waiting_roots frs))) where
     module _ (g : ℕ) (args : List Value) (other : Option Value) (passes : Passes vs args other) where
       used_all : (wt : Weight) → total wt.of (and_some other (waiting_roots (frame ∷ frs))) ≤ total wt.of args + total wt.of (values_of s0.locals) + total wt.of held + total wt.of (and_some instead (waiting_roots frs))
       used_all wt = omega (arith, total_some wt.of other (waiting_roots (frame ∷ frs)), used wt, passes wt)

@@ -1,33 +1,25 @@
 -- What it is that the machine follows a part of a tree, and how that is put together.
-use Rattle.std.proofs.Common.{◌≡◌, ℕ, zero, suc, ◌+◌, ◌-◌, ◌<◌, ◌≤◌, Bool, true, false, cond, List, [], ◌∷◌, ◌++◌, length, get_or, take, Some, None, Option, refl, sym, ap, ◌∙◌, subst, arith, append_assoc, length-append}
-use Rattle.std.specs.Prelude.{map, slice_get, slice_set, nat_lt, ◌==◌, if◌then◌else◌}
-use Rattle.std.proofs.lemmas.List.{append-nil, length-map, map-append, length-set}
-use Rattle.std.proofs.Math.Seq.{get_or-append_seam}
-use Rattle.std.proofs.lemmas.Option.{get_or_from_slice_get}
+use Rattle.std.proofs.Common.{◌≡◌, ℕ, suc, ◌+◌, ◌<◌, ◌≤◌, Bool, true, cond, List, [], ◌∷◌, ◌++◌, length, take, Some, None, Option, refl, sym, ap, ◌∙◌, subst, arith, append_assoc, length-append}
+use Rattle.std.specs.Prelude.{map, slice_get, slice_set}
+use Rattle.std.proofs.lemmas.List.{length-map, map-append}
 use Rattle.rpy_base.specs.declared.outcome.Outcome.{Outcome}
 use Rattle.rpy_base.specs.declared.outcome.Outcome.TheVariants as outcome
 use Rattle.rpy_tree.specs.Value.{Value, Ref}
-use Rattle.rpy_meaning.specs.declared.row.Covers.{Covers}
-use Rattle.rpy_meaning.specs.declared.row.RowOp.{RowOp}
 use Rattle.rpy_meaning.specs.Tree.{Program}
-use Rattle.rpy_meaning.specs.World.{World, Answer, Gives, Throws, Fails, Lacks, Enters, Bad}
+use Rattle.rpy_meaning.specs.World.{World}
 use Rattle.rpy_meaning.specs.Classes.{is_below}
-use Rattle.rpy_meaning.specs.Operations.{op}
 use Rattle.rpy_meaning.specs.Evaluation.{State, Ending, Done, Raised, Failed, Running, Wrong, Eval, then_go, add_held, values_of}
 use Rattle.rpy_meaning.specs.Meaning.{Run, over, class_in}
 use Rattle.flow_graph.specs.declared.graph.Link.{Link}
-use Rattle.flow_graph.specs.declared.graph.Exit.{Exit}
-use Rattle.flow_graph.specs.declared.graph.Exit.TheVariants as exit
-use Rattle.flow_graph.specs.declared.graph.Op.{Op}
 use Rattle.flow_graph.specs.declared.graph.Block.{Block}
 use Rattle.flow_graph.specs.declared.graph.Graphs.{Graphs}
-use Rattle.flow_meaning.specs.Machine.{Bound, look, bind, values_of as operands_of, passed, Frame, State as Spot, Calling, At, Returning, Throwing, Next, Goes, Ends as Stands, Stops, Strays, block_in, begins, jump, catching, caught_on, caught, gives, waiting, answered, operates, leaves, step}
-use Rattle.flow_meaning.specs.Meaning.{Ran, Ended, follow, run, run_of, no_world}
-use Rattle.flow_meaning.specs.Roots.{live, kept, and_some, waiting_roots, roots}
+use Rattle.flow_meaning.specs.Machine.{Bound, look, Frame, State as Spot, At, Goes, Ends as Stands, Stops, Strays, block_in, begins, jump, step}
+use Rattle.flow_meaning.specs.Meaning.{Ended, follow, run, run_of, no_world}
+use Rattle.flow_meaning.specs.Roots.{and_some, waiting_roots, roots}
 use Rattle.flow_meaning.proofs.One.{one_more}
-use Rattle.flow_stands.specs.Places.{range, Aim, Hand, Scope, Jump, first, first_and, stored_if_any, hand_jumps, Shape, Go, Fork, Does, Plain, GiveBack, GiveUp, shift, link, links, act, numbered}
-use Rattle.flow_stands.proofs.Worlds.{total, total_append, Weight, class_of, class_at, Later, same, later_on, Sound, sound_on, Thrown, Passes, Fine}
-use Rattle.flow_stands.proofs.Lists.{Env, pick, named, bound, passed_is, bound_named, named_push, look_named, picks_named, operands_named, pick_kept, pick_kept_and, pick_set, get_at, values_append, values_some, total_some, total_kept, total_env}
+use Rattle.flow_stands.specs.Places.{range, Aim, Hand, Scope, Jump, Shape, Go, Fork, Does, Plain, GiveBack, GiveUp, shift, link, numbered}
+use Rattle.flow_stands.proofs.Worlds.{total, total_append, Weight, Later, same, later_on, Sound, sound_on, Thrown}
+use Rattle.flow_stands.proofs.Lists.{Env, pick, named, bound, passed_is, bound_named, picks_named}
 
 -- a block, and the values with which it is entered
 pub record Place : Type 0 where

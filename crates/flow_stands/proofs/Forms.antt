@@ -1,26 +1,25 @@
 -- The machine follows each form of expression, where it follows the parts.
-use Rattle.std.proofs.Common.{◌≡◌, ℕ, zero, suc, ◌+◌, ◌-◌, ◌<◌, ◌≤◌, Bool, true, false, cond, List, [], ◌∷◌, ◌++◌, ◌⊎◌, inl, inr, length, get_or, take, Some, None, Option, refl, sym, ap, ◌∙◌, subst, arith, append_assoc, length-append}
-use Rattle.std.specs.Prelude.{map, slice_get, slice_set, ◌==◌, if◌then◌else◌, pos, ℤ, not}
-use Rattle.std.proofs.lemmas.List.{append-nil, length-map, map-append, length-set, set-append_left}
-use Rattle.rpy_tree.specs.Value.{Value, Ref, Flag, Word}
+use Rattle.std.proofs.Common.{◌≡◌, ℕ, zero, suc, ◌+◌, ◌<◌, Bool, true, false, cond, List, [], ◌∷◌, ◌++◌, ◌⊎◌, inl, inr, length, Some, None, Option, refl, sym, ap, ◌∙◌, subst, arith, append_assoc, length-append}
+use Rattle.std.specs.Prelude.{slice_set, if◌then◌else◌, not}
+use Rattle.std.proofs.lemmas.List.{append-nil}
+use Rattle.rpy_tree.specs.Value.{Value, Flag}
 use Rattle.rpy_meaning.specs.declared.row.Covers.{Covers}
 use Rattle.rpy_meaning.specs.declared.row.RowOp.{RowOp}
 use Rattle.rpy_meaning.specs.declared.row.RowOp.TheVariants as row
-use Rattle.rpy_meaning.specs.Tree.{Expr, Local, Constant, Apply, And, Or, Exprs, none, more, Program, Target}
-use Rattle.rpy_meaning.specs.World.{World, Answer, Gives, Throws, Fails, Lacks, Enters, Bad, flag_if_any}
+use Rattle.rpy_meaning.specs.Tree.{Expr, Local, Apply, And, Or, Exprs, none, more, Program}
+use Rattle.rpy_meaning.specs.World.{World, flag_if_any}
 use Rattle.rpy_meaning.specs.Classes.{is_below}
-use Rattle.rpy_meaning.specs.Operations.{op, builtin_classes, truth_in, opposite}
-use Rattle.rpy_meaning.specs.Evaluation.{State, Ending, Done, Raised, Failed, Running, Wrong, Eval, then_go, add_held, values_of, is_so, known, pure, set_local}
-use Rattle.rpy_meaning.specs.Meaning.{Run, Sem, unwatched, answered as told, operate, perform, value, values}
+use Rattle.rpy_meaning.specs.Operations.{builtin_classes, truth_in, opposite}
+use Rattle.rpy_meaning.specs.Evaluation.{State, Ending, Done, Raised, Failed, Running, Wrong, Eval, then_go, is_so, known, pure}
+use Rattle.rpy_meaning.specs.Meaning.{Run, Sem, unwatched, answered as told, perform, value, values}
 use Rattle.flow_graph.specs.declared.graph.Graphs.{Graphs}
 use Rattle.flow_meaning.specs.Machine.{Frame}
-use Rattle.flow_stands.specs.Places.{range, Scope, Jump, first, first_and, stored}
-use Rattle.flow_stands.specs.Stands.{Is, Acts, Meets, Reads, is_local, some_is_local, Branch, plainly, with_value, Asks, Truth, AppliedAt, NotAt, SidesAt, AndAt, OrAt, onward, count, Stand}
-use Rattle.flow_stands.proofs.Worlds.{total, Weight, Later, same, Sound, Thrown}
+use Rattle.flow_stands.specs.Places.{range, Scope, first_and}
+use Rattle.flow_stands.specs.Stands.{Acts, Reads, is_local, some_is_local, Branch, plainly, with_value, Asks, AppliedAt, NotAt, SidesAt, AndAt, OrAt, onward, count, Stand}
 use Rattle.flow_stands.proofs.Lists.{Env, pick}
-use Rattle.flow_stands.proofs.Core.{Place, place, env, env_push, IsBound, After, at_once, after_on, Fit, fit_on, Catches, Ends, Leads, stays, leads_on, enter, wrong_run, Reached, Holds, Runs, before, moved, seq, led, hold, here, same_place}
+use Rattle.flow_stands.proofs.Core.{Place, place, env, IsBound, After, after_on, Fit, fit_on, Catches, Leads, stays, leads_on, enter, Runs, seq, led, here}
 use Rattle.flow_stands.proofs.Calls.{Any, Good}
-use Rattle.flow_stands.proofs.Parts.{wide, land_first, land_result, land_at, land_last, land_local, jump_first, jump_and, land_store, assoc, catches_more, vals, lists, stay_at, ReadBy, same_as, jumps, gives_on, strays_on, acts, raises_sim}
+use Rattle.flow_stands.proofs.Parts.{land_result, land_last, assoc, vals, lists, ReadBy, acts, raises_sim}
 use Rattle.flow_stands.proofs.Tests.{branch_place, by_truth, gives_value, meets, truth_sim}
 
 -- where a test leads
@@ -273,6 +272,7 @@ module _ (p : Program) (gs : Graphs) (named_if : Bool) (builtins : (k : ℕ) →
     where
       Never : Value → State → Type 0
       Never = ReadBy (Apply row.Not es)
+
       ways : (go : Bool) (t : State) → After s t → Unit {0} → F (at_place (test_place has.1 has.2 held go t) t.world) held t (vals q held) R Never (Done (Flag (not go)) t)
       ways true t after x =
           let fit_t = fit_on fit after in

@@ -12,3 +12,4 @@ pub mod Binds
 pub mod Trees
 pub mod Stmts
 pub mod Top
+mod Rows

@@ -1,16 +1,16 @@
 -- What links pick, what blocks bind, and what roots weigh.
-use Rattle.std.proofs.Common.{◌≡◌, ℕ, zero, suc, ◌+◌, ◌<◌, ◌≤◌, ◌≢◌, Bool, true, false, cond, List, [], ◌∷◌, ◌++◌, length, get_or, take, drop, set, Some, None, Option, refl, sym, ap, ◌∙◌, subst, arith, append_assoc, length-append}
-use Rattle.std.specs.Prelude.{map, slice_get, slice_set, replicate, ◌==◌}
+use Rattle.std.proofs.Common.{◌≡◌, ℕ, zero, suc, ◌+◌, ◌≤◌, ◌≢◌, Bool, true, false, cond, List, [], ◌∷◌, ◌++◌, length, get_or, take, drop, Some, None, Option, refl, sym, ap, ◌∙◌, subst, arith, append_assoc, length-append}
+use Rattle.std.specs.Prelude.{map, slice_get, slice_set, replicate}
 use Rattle.std.proofs.lemmas.Bool.{eq-eqb, ne_eqb}
 use Rattle.std.proofs.Math.Seq.{get_or-append_seam, take-length}
-use Rattle.std.proofs.lemmas.List.{append-nil, length-take-le, take-append-drop, take-append-le, map-append, map-set, set-append_left, length-map, set-get_or, get_or_append_left}
+use Rattle.std.proofs.lemmas.List.{append-nil, length-take-le, take-append-drop, take-append-le, map-append, map-set, set-get_or}
 use Rattle.std.proofs.lemmas.Option.{get_or_from_slice_get}
 use Rattle.rpy_tree.specs.Value.{Value}
 use Rattle.rpy_meaning.specs.Evaluation.{values_of}
 use Rattle.flow_meaning.specs.Machine.{Bound, look, and_value, values_of as operands_of, bind, passed, taken}
 use Rattle.flow_meaning.specs.Roots.{kept, and_some}
 use Rattle.flow_stands.specs.Places.{range, shift}
-use Rattle.flow_stands.proofs.Worlds.{total, total_append, Weight}
+use Rattle.flow_stands.proofs.Worlds.{total, total_append}
 
 abbrev pub Env : Type 0
 Env = List (Option Value)

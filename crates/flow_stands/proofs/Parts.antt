@@ -1,33 +1,31 @@
 -- The machine follows what parts of trees are made of.
-use Rattle.std.proofs.Common.{◌≡◌, ℕ, zero, suc, ◌+◌, ◌-◌, ◌<◌, ◌≤◌, Bool, true, false, cond, List, [], ◌∷◌, ◌++◌, ◌⊎◌, inl, inr, length, get_or, take, Some, None, Option, refl, sym, ap, ◌∙◌, subst, arith, append_assoc, length-append}
-use Rattle.std.specs.Prelude.{map, slice_get, slice_set, nat_lt, ◌==◌, if◌then◌else◌, pos}
-use Rattle.std.proofs.lemmas.List.{append-nil, length-map, map-append, length-set, set-append_left, take-append-le}
-use Rattle.std.proofs.lemmas.Option.{get_or_from_slice_get, slice_get-get_or}
+use Rattle.std.proofs.Common.{◌≡◌, ℕ, zero, suc, ◌+◌, ◌<◌, ◌≤◌, Bool, true, false, cond, List, [], ◌∷◌, ◌++◌, length, get_or, take, Some, None, Option, refl, sym, ap, ◌∙◌, subst, arith, append_assoc, length-append}
+use Rattle.std.specs.Prelude.{map, slice_get, slice_set, if◌then◌else◌}
+use Rattle.std.proofs.lemmas.List.{append-nil, length-map, take-append-le}
+use Rattle.std.proofs.lemmas.Option.{get_or_from_slice_get}
 use Rattle.std.proofs.lemmas.List.{get_or_append_left}
 use Rattle.rpy_base.specs.declared.outcome.FailName.{FailName}
-use Rattle.rpy_tree.specs.Value.{Value, Ref, Flag, Nothing, Object, Listed, Mapped, Instance}
+use Rattle.rpy_tree.specs.Value.{Value, Ref, Nothing, Object, Listed, Mapped, Instance}
 use Rattle.rpy_meaning.specs.declared.row.Covers.{Covers}
 use Rattle.rpy_meaning.specs.declared.row.RowOp.{RowOp}
 use Rattle.rpy_meaning.specs.declared.row.RowOp.TheVariants as row
-use Rattle.rpy_meaning.specs.Tree.{Expr, Program, Function}
-use Rattle.rpy_meaning.specs.World.{World, Answer, Gives, Throws, Fails, Lacks, Enters, Bad, flag_if_any, throw, bad, failure}
+use Rattle.rpy_meaning.specs.Tree.{Expr, Program}
+use Rattle.rpy_meaning.specs.World.{World, Answer, Gives, Throws, Enters, Bad, throw, bad, failure}
 use Rattle.rpy_meaning.specs.Classes.{is_below}
 use Rattle.rpy_meaning.specs.Operations.{op, builtin_classes, truth_in, raise_object, raise}
-use Rattle.rpy_meaning.specs.Evaluation.{State, Ending, Done, Raised, Failed, Running, Wrong, Eval, then_go, add_held, values_of, is_so, known, local, pure}
-use Rattle.rpy_meaning.specs.Meaning.{Run, over, class_in, Sem, unwatched, called, operate}
-use Rattle.flow_graph.specs.declared.graph.Exit.{Exit}
+use Rattle.rpy_meaning.specs.Evaluation.{State, Ending, Done, Raised, Failed, Running, Wrong, Eval, then_go}
+use Rattle.rpy_meaning.specs.Meaning.{Run, class_in, Sem, unwatched, operate}
 use Rattle.flow_graph.specs.declared.graph.Exit.TheVariants as exit
-use Rattle.flow_graph.specs.declared.graph.Op.{Op}
 use Rattle.flow_graph.specs.declared.graph.Graphs.{Graphs}
-use Rattle.flow_meaning.specs.Machine.{Bound, bind, look, Frame, State as Spot, Calling, At, Returning, Throwing, Next, Goes, Stops, Strays, block_in, jump, waiting, answered, operates, chooses, truth_of, step}
-use Rattle.flow_meaning.specs.Roots.{waits_for, and_some, waiting_roots}
-use Rattle.flow_stands.specs.Places.{range, Aim, Hand, Scope, Jump, first, first_and, stored, stored_if_any, hand_jumps, Shape, Go, Fork, Does, link, links, act, numbered, shift}
-use Rattle.flow_stands.specs.Stands.{Is, Acts, Meets, Reads, Branch, branch_jump, plainly, with_value, Narrows, Way, Truth, Asks, never_block, onward, Stand}
-use Rattle.flow_stands.proofs.Worlds.{total, total_append, Weight, class_of, Later, same, Sound, sound_on, Thrown, Passes, Fine}
-use Rattle.flow_stands.proofs.Lists.{Env, pick, named, bound, named_push, look_named, operands_named, operand_none, pick_last, pick_first, pick_kept, pick_kept_and, pick_set, take_first, get_at, set_same, total_some, total_kept, total_env}
-use Rattle.flow_stands.proofs.Core.{Place, place, env, env_push, IsBound, After, at_once, after_on, Fit, fit_on, length_env, stored_value, Below, hand_place, Catches, Ends, Leads, stays, leads_on, step_go, step_ends, step_stops, step_strays, enter, jump_to, enter_block, block_point, wrong_run, Reached, Holds, Runs, before, moved, seq, hold, here, same_place}
+use Rattle.flow_meaning.specs.Machine.{Frame, State as Spot, Calling, At, Returning, Throwing, answered, operates, chooses, truth_of, step}
+use Rattle.flow_meaning.specs.Roots.{waits_for}
+use Rattle.flow_stands.specs.Places.{range, Aim, Hand, Scope, Jump, first_and, hand_jumps, Go, Fork, Does, link, links, act}
+use Rattle.flow_stands.specs.Stands.{Is, Acts, Reads, Stand}
+use Rattle.flow_stands.proofs.Worlds.{total, Weight, class_of, same, sound_on, Thrown}
+use Rattle.flow_stands.proofs.Lists.{Env, pick, named, look_named, operands_named, operand_none, pick_last, pick_first, pick_kept_and, pick_set, take_first, get_at}
+use Rattle.flow_stands.proofs.Core.{Place, place, env, env_push, IsBound, Fit, stored_value, Below, hand_place, Catches, Ends, Leads, leads_on, step_strays, enter, jump_to, enter_block, wrong_run, Runs, moved, hold, same_place}
 use Rattle.flow_stands.proofs.Acts.{goes_on, throws, told_sim, frame, used_here}
-use Rattle.flow_stands.proofs.Calls.{Any, Good, called_sim}
+use Rattle.flow_stands.proofs.Calls.{Good, called_sim}
 
 -- ---- what stands where
 

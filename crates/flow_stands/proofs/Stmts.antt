@@ -1,31 +1,30 @@
 -- The machine follows each form of statement, where it follows the parts.
-use Rattle.std.proofs.Common.{◌≡◌, ℕ, zero, suc, ◌+◌, ◌-◌, ◌<◌, ◌≤◌, Bool, true, false, cond, List, [], ◌∷◌, ◌++◌, ◌⊎◌, inl, inr, length, get_or, take, Some, None, Option, refl, sym, ap, ◌∙◌, subst, arith, append_assoc, length-append}
-use Rattle.std.specs.Prelude.{map, slice_get, slice_set, ◌==◌, ◌||◌, if◌then◌else◌, pos, ℤ}
+use Rattle.std.proofs.Common.{◌≡◌, ℕ, suc, ◌+◌, ◌<◌, ◌≤◌, Bool, true, false, cond, List, [], ◌∷◌, ◌++◌, length, take, Some, None, Option, refl, sym, ap, ◌∙◌, subst, arith, append_assoc, length-append}
+use Rattle.std.specs.Prelude.{map, slice_set, ◌||◌, if◌then◌else◌}
 use Rattle.std.specs.List.{list_any}
-use Rattle.std.proofs.lemmas.List.{append-nil, length-map, map-append, length-set, set-append_left}
+use Rattle.std.proofs.lemmas.List.{append-nil, length-set, set-append_left}
 use Rattle.rpy_tree.specs.Value.{Value, Ref, Nothing}
-use Rattle.rpy_meaning.specs.declared.row.Covers.{Covers}
 use Rattle.rpy_meaning.specs.declared.row.RowOp.{RowOp}
 use Rattle.rpy_meaning.specs.declared.row.RowOp.TheVariants as row
-use Rattle.rpy_meaning.specs.Tree.{Expr, Local, Target, Name, Attribute, Item, Parts, Targets, no_targets, more_targets, Subject, Stmt, Pass, Break, Continue, Return, Do, Assign, Augment, If, While, For, Try, Finally, Block, done, line, Clauses, no_clauses, clause, Program}
-use Rattle.rpy_meaning.specs.World.{World, Bad}
-use Rattle.rpy_meaning.specs.Classes.{is_below, takes, covers_within, no_covers}
-use Rattle.rpy_meaning.specs.Operations.{op, builtin_classes}
-use Rattle.rpy_meaning.specs.Evaluation.{State, Ending, Done, Raised, Failed, Running, Wrong, Eval, then_go, add_held, is_so, pure, wrong, raised, set_local, set_local_if_any, local, Flow, Next as Onward, Broken, Continued, Returned, next_or, after_turn, pending, finally}
-use Rattle.rpy_meaning.specs.Meaning.{Run, Sem, Loop, Turns, unwatched, operate, perform, value, begin, bind, assign, augment, loop, each_item, tried, statement, block, handle, class_in, Walking, walk_holds, turns}
+use Rattle.rpy_meaning.specs.Tree.{Expr, Target, Name, Attribute, Item, Parts, Targets, no_targets, more_targets, Subject, Stmt, Pass, Break, Continue, Return, Do, Assign, Augment, If, While, For, Try, Finally, Block, done, line, Clauses, no_clauses, clause, Program}
+use Rattle.rpy_meaning.specs.World.{World}
+use Rattle.rpy_meaning.specs.Classes.{is_below, covers_within, no_covers}
+use Rattle.rpy_meaning.specs.Operations.{builtin_classes}
+use Rattle.rpy_meaning.specs.Evaluation.{State, Ending, Done, Raised, Failed, Running, Wrong, Eval, then_go, add_held, is_so, pure, raised, set_local_if_any, local, Flow, Next as Onward, Broken, Continued, Returned, next_or, after_turn, finally}
+use Rattle.rpy_meaning.specs.Meaning.{Run, Sem, Loop, Turns, unwatched, perform, value, bind, assign, augment, loop, each_item, tried, statement, block, handle, class_in, Walking, walk_holds, turns}
 use Rattle.flow_graph.specs.declared.graph.Graphs.{Graphs}
 use Rattle.flow_meaning.specs.Machine.{Frame}
-use Rattle.flow_stands.specs.Places.{range, Aim, Hand, Scope, Ways, onto, Jump, Go, first, first_and, stored, on_to}
-use Rattle.flow_stands.specs.Stands.{Is, Acts, MarkIf, Mark, NewAt, WhileAt, ForAt, TurnsAt, step_of, within, hands_of, LocalIn, never_block, HasExpr, HasTest, HasSubject, HasBind, HasTargets, HasAugment, HasStmt, HasBlock, HasClauses, Stand}
-use Rattle.flow_stands.proofs.Worlds.{total, Weight, Later, same, Sound, Thrown, thrown_on}
+use Rattle.flow_stands.specs.Places.{range, Aim, Hand, Scope, Ways, onto, Go, first, first_and, on_to}
+use Rattle.flow_stands.specs.Stands.{Is, Acts, MarkIf, WhileAt, ForAt, within, hands_of, LocalIn, never_block, HasTest, HasBind, HasTargets, HasAugment, HasStmt, HasBlock, HasClauses, Stand}
+use Rattle.flow_stands.proofs.Worlds.{same, Thrown, thrown_on}
 use Rattle.flow_stands.proofs.Lists.{Env, pick, pick_take, pick_kept_and, take_first, get_at}
-use Rattle.flow_stands.proofs.Core.{Place, place, env, env_push, IsBound, After, at_once, after_on, Fit, fit_on, stored_value, Below, hand_place, Catches, Ends, Leads, stays, leads_on, enter, wrong_run, Reached, Holds, Sim, Runs, before, moved, seq, seq_is, led, hold, loosen, reheld, here, same_place}
+use Rattle.flow_stands.proofs.Core.{Place, place, env, env_push, After, at_once, Fit, fit_on, stored_value, Below, hand_place, Catches, Leads, stays, leads_on, enter, Sim, Runs, before, moved, seq, seq_is, hold, loosen, reheld, here}
 use Rattle.flow_stands.proofs.Calls.{Any, Good, flow_place, Keeps}
-use Rattle.flow_stands.proofs.Parts.{wide, land_first, land_result, land_at, land_last, jump_first, jump_and, assoc, catches_more, take_less, below_more, vals, stay_at, same_as, jumps, gives_on, strays_on, throws_on, raised_again, acts}
+use Rattle.flow_stands.proofs.Parts.{wide, land_first, land_result, land_at, land_last, jump_first, catches_more, take_less, vals, stay_at, same_as, jumps, gives_on, strays_on, throws_on, raised_again, acts}
 use Rattle.flow_stands.proofs.Tests.{local_sim}
 use Rattle.flow_stands.proofs.Walks.{lower, after_low, turn_paid, pay_sim, turns_sim}
 use Rattle.flow_stands.proofs.Forms.{test_place, set_bound, last_sim}
-use Rattle.flow_stands.proofs.Trees.{walk_place, Steps, sim_value, sim_test, sim_subject, sim_bind}
+use Rattle.flow_stands.proofs.Trees.{sim_value, sim_test, sim_subject, sim_bind}
 
 keeps_onto : {t : Ways} {m : ℕ} (k : ℕ) → Keeps t m → Keeps (onto t k) m
 keeps_onto k h = record { brk = h.brk; cont = h.cont; ret = h.ret }
@@ -205,13 +204,16 @@ module _ (p : Program) (gs : Graphs) (named_if : Bool) (builtins : (k : ℕ) →
     where
       inner : Ways
       inner = within p gs named_if f n t (record { to = b; keep = m }) (record { to = t.norm; keep = m })
+
       rest_sim : (u : State) → Fit top n u → F (at_place (place b (env u held)) u.world) held u (flow_place t held) R Any (prev (Loop sc.covers e body) u)
       rest_sim u fit_u = good.loop f n instead frs m sc held R b t e body u has c keeps fit_u
+
       flow_by : (flow : Flow) (u : State) → Fit top n u → F (at_place (flow_place (within p gs named_if f n t (record { to = b; keep = m }) (record { to = t.norm; keep = m })) held flow u) u.world) held u (flow_place t held) R Any (after_turn flow (prev (Loop sc.covers e body)) u)
       flow_by Onward u fit_u = rest_sim u fit_u
       flow_by Continued u fit_u = moved p gs named_if f instead frs (at_same (place b (take m (env u held))) (place b (env u held)) u.world (ap (place b) (all_there c u fit_u.long))) (rest_sim u fit_u)
       flow_by Broken u fit_u = here p gs named_if f instead frs (at_same (place t.norm (take m (env u held))) (place t.norm (env u held)) u.world (ap (place t.norm) (all_there c u fit_u.long))) tt
       flow_by (Returned v) u fit_u = here p gs named_if f instead frs (stays p gs named_if) tt
+
       turns_by : (go : Bool) (u : State) → Fit (suc top) n u → F (at_place (test_place has.1 t.norm held go u) u.world) held u (flow_place t held) R Any
           ((if go then (λ s. then_go (perform p unwatched prev no_covers row.Turn [] s) (λ a s. then_go (block p unwatched prev sc.covers body s) (λ flow. after_turn flow (prev (Loop sc.covers e body))))) else pure Onward) u)
       turns_by false u fit_u = here p gs named_if f instead frs (stays p gs named_if) tt
@@ -269,6 +271,7 @@ module _ (p : Program) (gs : Graphs) (named_if : Bool) (builtins : (k : ℕ) →
     where
       to : Place
       to = place aim.to (stored_value (take aim.keep vs) local r)
+
       either : (x : Bool) → hand_place p gs named_if (hands_of local aim classes others) d vs r class ≡ cond (list_any (is_below p.classes class) classes) (place aim.to (stored_value (take aim.keep vs) local r)) (hand_place p gs named_if others d vs r class)
           → cond x (place aim.to (stored_value (take aim.keep vs) local r)) (hand_place p gs named_if (hands_of local aim classes others) d vs r class) ≡ cond (x || list_any (is_below p.classes class) classes) (place aim.to (stored_value (take aim.keep vs) local r)) (hand_place p gs named_if others d vs r class)
       either true ih = refl
@@ -310,7 +313,7 @@ module _ (p : Program) (gs : Graphs) (named_if : Bool) (builtins : (k : ℕ) →
       record {
         sim = record {
           leads = at_same (hand_place p gs named_if hands default (env u held) r (class_in u.world r)) (R r u) u.world
-            (ap (λ h. hand_place p gs named_if h default (env u held) r (class_in u.world r)) has.0 ∙ ap (λ d. hand_place p gs named_if sc.hands d (env u held) r (class_in u.world r)) has.1 ∙ c.taken r u fit.long);
+              (ap (λ h. hand_place p gs named_if h default (env u held) r (class_in u.world r)) has.0 ∙ ap (λ d. hand_place p gs named_if sc.hands d (env u held) r (class_in u.world r)) has.1 ∙ c.taken r u fit.long);
           after = at_once u;
           post = thrown;
         };
@@ -353,6 +356,7 @@ module _ (p : Program) (gs : Graphs) (named_if : Bool) (builtins : (k : ℕ) →
     where
       less : (w : State) → After u w → (j : ℕ) → j ≤ m → take j (env w (held ++ vs)) ≡ take j (env w held)
       less w after j le = take_less p gs named_if n w held vs j m (after.long ∙ fit.long) c.all le
+
       by : (flow : Flow) (w : State) → After u w → F (at_place (flow_place (onto t k) (held ++ vs) flow w) w.world) held w (flow_place t held) R Any (next_or flow remains w)
       by Onward w after = go w (fit_on fit after) after
       by Broken w after = here p gs named_if f instead frs (at_same (place t.brk.to (take t.brk.keep (env w (held ++ vs)))) (place t.brk.to (take t.brk.keep (env w held))) w.world (ap (place t.brk.to) (less w after t.brk.keep keeps.brk))) tt
@@ -360,12 +364,12 @@ module _ (p : Program) (gs : Graphs) (named_if : Bool) (builtins : (k : ℕ) →
       by (Returned v) w after = here p gs named_if f instead frs (at_same (place t.ret.to (take t.ret.keep (env w (held ++ vs)) ++ Some v ∷ [])) (place t.ret.to (take t.ret.keep (env w held) ++ Some v ∷ [])) w.world (ap (λ l. place t.ret.to (l ++ Some v ∷ [])) (less w after t.ret.keep keeps.ret))) tt
 
   module _ (sc : Scope) (last : Block) (sim : FlowSim (block p unwatched prev sc.covers last) sc (HasBlock p gs named_if f n sc last)) (m : ℕ) (held : List Value) (R : ℕ → State → Place) (c : Keep m sc held R) (t : Ways) (keeps : Keeps t m)
-    (norm brk cont ret exc to_brk to_cont to_ret to_exc : ℕ)
-    (has_norm : HasBlock p gs named_if f n sc last norm m t)
-    (has_brk : HasBlock p gs named_if f n sc last brk m (onto t to_brk)) (is_brk : Is p gs named_if f n to_brk m (Go (on_to t.brk)))
-    (has_cont : HasBlock p gs named_if f n sc last cont m (onto t to_cont)) (is_cont : Is p gs named_if f n to_cont m (Go (on_to t.cont)))
-    (has_ret : HasBlock p gs named_if f n sc last ret (m + 1) (onto t to_ret)) (is_ret : Is p gs named_if f n to_ret (m + 1) (Go (first_and t.ret.to t.ret.keep m)))
-    (has_exc : HasBlock p gs named_if f n sc last exc (m + 1) (onto t to_exc)) (is_exc : Acts p gs named_if f n sc to_exc row.Raise (m ∷ []) (m + 1) (first never_block 0)) where
+      (norm brk cont ret exc to_brk to_cont to_ret to_exc : ℕ)
+      (has_norm : HasBlock p gs named_if f n sc last norm m t)
+      (has_brk : HasBlock p gs named_if f n sc last brk m (onto t to_brk)) (is_brk : Is p gs named_if f n to_brk m (Go (on_to t.brk)))
+      (has_cont : HasBlock p gs named_if f n sc last cont m (onto t to_cont)) (is_cont : Is p gs named_if f n to_cont m (Go (on_to t.cont)))
+      (has_ret : HasBlock p gs named_if f n sc last ret (m + 1) (onto t to_ret)) (is_ret : Is p gs named_if f n to_ret (m + 1) (Go (first_and t.ret.to t.ret.keep m)))
+      (has_exc : HasBlock p gs named_if f n sc last exc (m + 1) (onto t to_exc)) (is_exc : Acts p gs named_if f n sc to_exc row.Raise (m ∷ []) (m + 1) (first never_block 0)) where
     abbrev copies : Ways
     copies = record { norm = norm; brk = record { to = brk; keep = m }; cont = record { to = cont; keep = m }; ret = record { to = ret; keep = m } }
 

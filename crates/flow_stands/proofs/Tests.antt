@@ -1,30 +1,26 @@
 -- The machine follows what expressions are made of: leaves, tests and the ways on from them.
-use Rattle.std.proofs.Common.{◌≡◌, ℕ, zero, suc, ◌+◌, ◌-◌, ◌<◌, ◌≤◌, Bool, true, false, cond, List, [], ◌∷◌, ◌++◌, ◌⊎◌, inl, inr, length, get_or, take, Some, None, Option, refl, sym, ap, ◌∙◌, subst, arith, append_assoc, length-append}
-use Rattle.std.specs.Prelude.{map, slice_get, slice_set, ◌==◌, if◌then◌else◌, pos}
-use Rattle.std.proofs.lemmas.List.{append-nil, length-map, map-append, set-append_left}
+use Rattle.std.proofs.Common.{◌≡◌, ℕ, suc, ◌+◌, ◌<◌, Bool, true, false, cond, List, [], ◌∷◌, ◌++◌, inl, inr, length, get_or, Some, None, Option, refl, sym, ap, ◌∙◌, subst, arith, append_assoc, length-append}
+use Rattle.std.specs.Prelude.{map, slice_get, slice_set}
+use Rattle.std.proofs.lemmas.List.{append-nil, set-append_left}
 use Rattle.std.proofs.lemmas.Option.{get_or_from_slice_get, slice_get-get_or}
-use Rattle.rpy_tree.specs.Value.{Value, Ref, Flag}
-use Rattle.rpy_meaning.specs.declared.row.Covers.{Covers}
+use Rattle.rpy_tree.specs.Value.{Value, Flag}
 use Rattle.rpy_meaning.specs.declared.row.RowOp.{RowOp}
 use Rattle.rpy_meaning.specs.declared.row.RowOp.TheVariants as row
-use Rattle.rpy_meaning.specs.Tree.{Expr, Local, Constant, Apply, Program, Function}
-use Rattle.rpy_meaning.specs.World.{World, Answer, Gives, Throws, Fails, Lacks, Enters, Bad, flag_if_any}
+use Rattle.rpy_meaning.specs.Tree.{Expr, Local, Constant, Program}
+use Rattle.rpy_meaning.specs.World.{World, Gives, flag_if_any}
 use Rattle.rpy_meaning.specs.Classes.{is_below}
-use Rattle.rpy_meaning.specs.Operations.{op, builtin_classes, truth_in, constant}
-use Rattle.rpy_meaning.specs.Evaluation.{State, Ending, Done, Raised, Failed, Running, Wrong, Eval, then_go, add_held, values_of, is_so, known, local, bound as bound_value, pure}
-use Rattle.rpy_meaning.specs.Meaning.{Run, Sem, unwatched, operate, value}
-use Rattle.flow_graph.specs.declared.graph.Exit.{Exit}
+use Rattle.rpy_meaning.specs.Operations.{op, builtin_classes, truth_in}
+use Rattle.rpy_meaning.specs.Evaluation.{State, Ending, Eval, then_go, is_so, known, bound as bound_value}
+use Rattle.rpy_meaning.specs.Meaning.{Run, Sem, unwatched, value}
 use Rattle.flow_graph.specs.declared.graph.Exit.TheVariants as exit
-use Rattle.flow_graph.specs.declared.graph.Op.{Op}
 use Rattle.flow_graph.specs.declared.graph.Graphs.{Graphs}
-use Rattle.flow_meaning.specs.Machine.{Bound, bind, look, Frame, State as Spot, At, Next, Goes, Stops, Strays, block_in, jump, chooses, truth_of, step}
-use Rattle.flow_stands.specs.Places.{range, Aim, Hand, Scope, Jump, first, first_and, stored, hand_jumps, Shape, Go, Fork, Does, link, links, act, numbered, shift}
-use Rattle.flow_stands.specs.Stands.{Is, Acts, Meets, Reads, Branch, branch_jump, plainly, with_value, Narrows, Way, Truth, Asks, LocalAt, ConstantAt, never_block, onward, Stand}
-use Rattle.flow_stands.proofs.Worlds.{total, Weight, Later, same, Sound, Thrown}
-use Rattle.flow_stands.proofs.Lists.{Env, pick, named, look_named, pick_first, pick_set, set_same}
-use Rattle.flow_stands.proofs.Core.{Place, place, env, env_push, IsBound, After, at_once, after_on, Fit, fit_on, Catches, Ends, Leads, stays, leads_on, step_go, step_strays, enter, jump_to, enter_block, wrong_run, Reached, Holds, Runs, before, moved, seq, hold, here, same_place}
-use Rattle.flow_stands.proofs.Calls.{Any, Good}
-use Rattle.flow_stands.proofs.Parts.{wide, land_first, land_result, land_at, land_last, land_local, jump_first, jump_and, land_store, bound_at, bound_read, assoc, catches_more, vals, lists, stay_at, ReadBy, Follow, go_in, To, Holding, same_as, jumps, gives_on, strays_on, acts, unbound_on}
+use Rattle.flow_meaning.specs.Machine.{look, Frame, State as Spot, At, chooses, truth_of, step}
+use Rattle.flow_stands.specs.Places.{range, Scope, Jump, first, first_and, stored, Fork, link}
+use Rattle.flow_stands.specs.Stands.{Acts, Meets, Branch, Narrows, Way, Truth, LocalAt, ConstantAt, Stand}
+use Rattle.flow_stands.proofs.Lists.{pick, named, look_named, set_same}
+use Rattle.flow_stands.proofs.Core.{Place, place, env, env_push, IsBound, Fit, Catches, Ends, Leads, leads_on, enter, jump_to, enter_block, Runs, moved, here}
+use Rattle.flow_stands.proofs.Calls.{Good}
+use Rattle.flow_stands.proofs.Parts.{wide, land_result, land_at, land_local, jump_first, jump_and, land_store, bound_at, bound_read, vals, ReadBy, same_as, gives_on, strays_on, unbound_on}
 
 -- where a branch leads, with the value that was tested
 abbrev pub branch_place : Branch → List Value → Value → State → Place

@@ -1,31 +1,28 @@
 -- Graphs that stand for the functions of a program mean what it means.
-use Rattle.std.proofs.Common.{◌≡◌, ℕ, zero, suc, ◌+◌, ◌-◌, ◌<◌, ◌≤◌, Bool, true, false, List, [], ◌∷◌, ◌++◌, length, Some, None, Option, refl, sym, ap, ◌∙◌, subst, arith, append_assoc}
-use Rattle.std.specs.Prelude.{map, slice_get, sum_by, filter, filter_map, if◌then◌else◌}
+use Rattle.std.proofs.Common.{◌≡◌, ℕ, zero, suc, ◌+◌, ◌-◌, ◌<◌, ◌≤◌, Bool, true, List, [], ◌∷◌, ◌++◌, length, Some, None, refl, sym, ap, ◌∙◌, subst, arith, append_assoc}
+use Rattle.std.specs.Prelude.{map, slice_get, sum_by, filter, filter_map}
 use Rattle.std.specs.List.{flat_map, range_with_len}
-use Rattle.std.proofs.lemmas.List.{append-nil}
 use Rattle.std.proofs.lemmas.List.Sums.{sum_by-cons}
-use Rattle.rpy_tree.specs.Value.{Value, Word, Flag, Text, Nothing, Tuple, Fun, Ref, Object, Listed, Instance, Heap}
-use Rattle.rpy_tree.specs.Held.{refs, texts, values_at, is_among, with_next, reached, on_cycles, held_objects}
+use Rattle.rpy_tree.specs.Value.{Value, Word, Flag, Text, Nothing, Tuple, Fun, Ref, Listed, Heap}
+use Rattle.rpy_tree.specs.Held.{refs, texts, values_at, is_among, with_next, reached, on_cycles}
 use Rattle.rpy_meaning.specs.Tree.{Program}
-use Rattle.rpy_meaning.specs.World.{World}
-use Rattle.rpy_meaning.specs.Classes.{is_below}
 use Rattle.rpy_meaning.specs.Operations.{builtin_classes}
 use Rattle.rpy_meaning.specs.Evaluation.{State, Ending, Done, Raised, Failed, Running, Wrong, Flow, wrong, values_of, leaving, result_of}
-use Rattle.rpy_meaning.specs.Meaning.{Run, Sem, Task, Body, Loop, Turns, Gather, unwatched, task, within, called, over, ended as ending_of, exceptions_from, prebuilt, start as begin, mean}
-use Rattle.rpy_meaning.specs.Moments.{counted, held, references, held_by, references_of, NoMore}
+use Rattle.rpy_meaning.specs.Meaning.{Run, Sem, unwatched, task, within, over, ended as ending_of, exceptions_from, prebuilt, start as begin, mean}
+use Rattle.rpy_meaning.specs.Moments.{held, references, held_by, references_of, NoMore}
 use Rattle.rpy_meaning.proofs.Held.{held_no_more, references_no_more}
 use Rattle.flow_graph.specs.declared.graph.Graphs.{Graphs}
-use Rattle.flow_meaning.specs.Machine.{State as Spot, Calling, Returning, Throwing}
+use Rattle.flow_meaning.specs.Machine.{State as Spot, Returning, Throwing}
 use Rattle.flow_meaning.specs.Meaning.{ended, start, GMeans}
-use Rattle.flow_meaning.specs.Roots.{and_some, roots}
+use Rattle.flow_meaning.specs.Roots.{roots}
 use Rattle.flow_meaning.proofs.One.{one_meaning}
 use Rattle.rpy_meaning.specs.declared.row.RowOp.TheVariants as row
 use Rattle.flow_stands.specs.Places.{first_and, Plain, GiveBack, GiveUp}
-use Rattle.flow_stands.specs.Stands.{Is, outside, no_try, return_block, raise_block, end_block, HasExpr, HasBind, HasCondition, HasBlock, Stand}
-use Rattle.flow_stands.specs.Follows.{HasBuiltins, EndsLike, HoldsNoMore, UsesNoMore}
-use Rattle.flow_stands.proofs.Worlds.{total, total_append, Weight, class_of, class_at, Later, Sound}
-use Rattle.flow_stands.proofs.Core.{Fit, Catches, Leads, leads_on, Ends, step_ends, Sim, Runs}
-use Rattle.flow_stands.proofs.Calls.{Any, Good, Keeps, leaves_by, left_at, raises_value, called_any, flow_place}
+use Rattle.flow_stands.specs.Stands.{Is, outside, no_try, return_block, raise_block, end_block, HasExpr, HasBind, HasCondition, Stand}
+use Rattle.flow_stands.specs.Follows.{HasBuiltins, EndsLike, UsesNoMore}
+use Rattle.flow_stands.proofs.Worlds.{total, total_append, Weight, class_at, Sound}
+use Rattle.flow_stands.proofs.Core.{leads_on, Ends, step_ends, Sim}
+use Rattle.flow_stands.proofs.Calls.{Any, Good, leaves_by, left_at, raises_value, called_any, flow_place}
 use Rattle.flow_stands.proofs.Trees.{sim_value, sim_bind, sim_condition, gathers_sim}
 use Rattle.flow_stands.proofs.Stmts.{sim_block, loop_sim, for_sim}
 

@@ -1,29 +1,28 @@
 -- The machine follows each expression and each target.
-use Rattle.std.proofs.Common.{◌≡◌, ℕ, zero, suc, ◌+◌, ◌-◌, ◌<◌, ◌≤◌, Bool, true, false, cond, List, [], ◌∷◌, ◌++◌, ◌⊎◌, inl, inr, length, get_or, take, Some, None, Option, refl, sym, ap, ◌∙◌, subst, arith, append_assoc, length-append}
-use Rattle.std.specs.Prelude.{map, slice_get, slice_set, ◌==◌, if◌then◌else◌, pos, ℤ}
-use Rattle.std.proofs.lemmas.List.{append-nil, length-map, map-append, length-set, set-append_left}
-use Rattle.rpy_tree.specs.Value.{Value, Ref, Flag, Word}
-use Rattle.rpy_meaning.specs.declared.row.Covers.{Covers}
+use Rattle.std.proofs.Common.{◌≡◌, ℕ, suc, ◌+◌, ◌<◌, Bool, true, false, List, [], ◌∷◌, ◌++◌, ◌⊎◌, inl, inr, length, get_or, Some, None, Option, refl, sym, ap, ◌∙◌, subst, arith, append_assoc, length-append}
+use Rattle.std.specs.Prelude.{map, slice_set, if◌then◌else◌, pos, ℤ}
+use Rattle.std.proofs.lemmas.List.{append-nil, map-append, length-set, set-append_left}
+use Rattle.rpy_tree.specs.Value.{Value, Word}
 use Rattle.rpy_meaning.specs.declared.row.RowOp.{RowOp}
 use Rattle.rpy_meaning.specs.declared.row.RowOp.TheVariants as row
 use Rattle.rpy_meaning.specs.Tree.{Expr, Local, Constant, Apply, And, Or, Display, Comprehension, Exprs, none, more, Pairs, no_pairs, pair, Subject, Over, UpTo, FromTo, Condition, Always, Where, Target, Name, Attribute, Item, Parts, Targets, no_targets, more_targets, Program}
-use Rattle.rpy_meaning.specs.World.{World, Gives}
+use Rattle.rpy_meaning.specs.World.{World}
 use Rattle.rpy_meaning.specs.Classes.{is_below}
-use Rattle.rpy_meaning.specs.Operations.{op, builtin_classes}
-use Rattle.rpy_meaning.specs.Evaluation.{State, Ending, Done, Raised, Failed, Running, Wrong, Eval, then_go, add_held, is_so, pure, set_local, Flow, Next as Onward}
-use Rattle.rpy_meaning.specs.Meaning.{Run, Sem, unwatched, operate, perform, value, values, store_pairs, begin, keeps, bind, bind_parts, target_count, Walking, walk_holds, turns, gather, Gather}
+use Rattle.rpy_meaning.specs.Operations.{builtin_classes}
+use Rattle.rpy_meaning.specs.Evaluation.{State, Ending, Done, then_go, is_so, pure, Next as Onward}
+use Rattle.rpy_meaning.specs.Meaning.{Run, Sem, unwatched, operate, value, store_pairs, begin, keeps, bind, bind_parts, target_count, Walking, walk_holds, turns, gather, Gather}
 use Rattle.flow_graph.specs.declared.graph.Graphs.{Graphs}
 use Rattle.flow_meaning.specs.Machine.{Frame}
-use Rattle.flow_stands.specs.Places.{range, Scope, Ways, Jump, Go, first, first_and, stored}
-use Rattle.flow_stands.specs.Stands.{Is, Acts, Meets, Reads, is_local, some_is_local, Asks, AppliedAt, ApplyAt, NotAt, SidesAt, LocalAt, ConstantAt, DisplayAt, ComprehensionAt, GathersAt, GatherAt, TurnsAt, step_of, within, count, AllNamed, HasExpr, HasExprs, HasSides, HasTest, HasNegated, HasPairs, HasSubject, HasCondition, HasBind, HasItems, Stand}
-use Rattle.flow_stands.proofs.Worlds.{total, Weight, Later, same, Sound, Thrown}
-use Rattle.flow_stands.proofs.Lists.{Env, pick}
-use Rattle.flow_stands.proofs.Core.{Place, place, env, env_push, IsBound, After, at_once, after_on, Fit, fit_on, Catches, Ends, Leads, stays, leads_on, enter, wrong_run, Reached, Holds, Runs, before, moved, seq, led, hold, loosen, here, same_place}
-use Rattle.flow_stands.proofs.Calls.{Any, Good, flow_place, Keeps, gathered, IsOnward}
-use Rattle.flow_stands.proofs.Parts.{wide, land_first, land_result, land_at, land_last, land_local, jump_first, jump_and, land_store, assoc, catches_more, vals, lists, stay_at, ReadBy, same_as, jumps, gives_on, strays_on, acts}
+use Rattle.flow_stands.specs.Places.{range, Scope, Ways, Go, first, first_and, stored}
+use Rattle.flow_stands.specs.Stands.{Is, Acts, is_local, some_is_local, ApplyAt, SidesAt, LocalAt, ConstantAt, DisplayAt, ComprehensionAt, GathersAt, GatherAt, step_of, within, count, AllNamed, HasExpr, HasExprs, HasSides, HasTest, HasNegated, HasPairs, HasSubject, HasCondition, HasBind, HasItems, Stand}
+use Rattle.flow_stands.proofs.Worlds.{same}
+use Rattle.flow_stands.proofs.Lists.{pick}
+use Rattle.flow_stands.proofs.Core.{Place, place, env, env_push, IsBound, After, Fit, fit_on, Catches, Leads, stays, leads_on, enter, Runs, before, moved, seq, led, hold, loosen, here}
+use Rattle.flow_stands.proofs.Calls.{Any, Good, flow_place, gathered, IsOnward}
+use Rattle.flow_stands.proofs.Parts.{wide, land_first, land_result, land_at, jump_first, jump_and, land_store, catches_more, vals, stay_at, ReadBy, same_as, jumps, gives_on, acts}
 use Rattle.flow_stands.proofs.Tests.{gives_value, meets, local_sim, constant_sim}
-use Rattle.flow_stands.proofs.Walks.{lower, turns_sim}
-use Rattle.flow_stands.proofs.Forms.{test_place, Many, local_reads, set_bound, tested, not_is, ValueSim, ValuesSim, SidesSim, TestSim, NegatedSim, leaf_sim, last_sim, applied_sim, sides_sim, asks_sim, tests_sim, and_sim, or_sim, and_tests_sim, or_tests_sim, not_sim, not_tests_sim}
+use Rattle.flow_stands.proofs.Walks.{turns_sim}
+use Rattle.flow_stands.proofs.Forms.{test_place, local_reads, set_bound, not_is, ValueSim, ValuesSim, SidesSim, TestSim, NegatedSim, leaf_sim, last_sim, applied_sim, sides_sim, tests_sim, and_sim, or_sim, and_tests_sim, or_tests_sim, not_sim, not_tests_sim}
 use Rattle.flow_stands.proofs.Binds.{named_of, quiet_bind}
 
 module _ (p : Program) (gs : Graphs) (named_if : Bool) (builtins : (k : ℕ) → k < builtin_classes → is_below p.classes k 0 ≡ true) (stand : Stand p gs named_if) (prev : Sem) (top : ℕ) (good : Good p gs named_if prev top) (f n : ℕ) (instead : Option Value) (frs : List Frame) where
@@ -150,11 +149,11 @@ module _ (p : Program) (gs : Graphs) (named_if : Bool) (builtins : (k : ℕ) →
       let W = (held ++ x ∷ []) ++ v ∷ [] in
       let W_is : W ≡ held ++ (x ∷ v ∷ []) = append_assoc held (x ∷ []) (v ∷ []) in
       let swapped : pick (env u W) ((range 0 m ++ (m + 1) ∷ []) ++ m ∷ []) ≡ env u (held ++ v ∷ x ∷ []) =
-          map-append (λ i. get_or (env u W) i None) (range 0 m ++ (m + 1) ∷ []) (m ∷ [])
-          ∙ ap (λ l. l ++ get_or (env u W) m None ∷ []) (jump_and n u fit_u.long W held (x ∷ v ∷ []) m (m + 1) v W_is c.all (land_at n u fit_u.long W (held ++ x ∷ []) [] v (m + 1) refl c1.all))
-          ∙ ap (λ z. env u (held ++ v ∷ []) ++ z ∷ []) (land_at n u fit_u.long W held (v ∷ []) x m W_is c.all)
-          ∙ sym (env_push u (held ++ v ∷ []) (x ∷ []))
-          ∙ ap (env u) (append_assoc held (v ∷ []) (x ∷ [])) in
+      map-append (λ i. get_or (env u W) i None) (range 0 m ++ (m + 1) ∷ []) (m ∷ [])
+      ∙ ap (λ l. l ++ get_or (env u W) m None ∷ []) (jump_and n u fit_u.long W held (x ∷ v ∷ []) m (m + 1) v W_is c.all (land_at n u fit_u.long W (held ++ x ∷ []) [] v (m + 1) refl c1.all))
+      ∙ ap (λ z. env u (held ++ v ∷ []) ++ z ∷ []) (land_at n u fit_u.long W held (v ∷ []) x m W_is c.all)
+      ∙ sym (env_push u (held ++ v ∷ []) (x ∷ []))
+      ∙ ap (env u) (append_assoc held (v ∷ []) (x ∷ [])) in
       here p gs named_if f instead frs
       (jumps p gs named_if builtins stand prev top good f n instead frs has.1 (m + 2) (record { to = q; places = (range 0 m ++ (m + 1) ∷ []) ++ m ∷ [] }) W u (env u (held ++ v ∷ x ∷ [])) has.4
       (wide n u fit_u.long W ∙ (let z = length-append (held ++ x ∷ []) (v ∷ []) in let a = c1.all in omega (arith, z, a))) swapped)
@@ -172,8 +171,8 @@ module _ (p : Program) (gs : Graphs) (named_if : Bool) (builtins : (k : ℕ) →
   name_sim sc i m at keep b q held hs rest before behind R c s fit v is_v at_v is_hs at_hs has =
       let t : State = record s { locals = slice_set s.locals i (Some v) } in
       let l = gives_on p gs named_if builtins stand prev top good f n instead frs m sc held R c s fit held [] (sym (append-nil held)) b m row.Copy (at ∷ []) (stored q keep i m) (v ∷ []) has.1 (omega arith)
-          (ap (λ z. z ∷ []) (land_at n s fit.long held before behind v at is_v at_v)) v (env t hs) refl
-          (land_store n s fit.long held hs rest keep m i v is_hs at_hs c.all ∙ set-append_left s.locals (map Some hs) i (Some v) (let z = fit.long in let y = has.0 in omega (arith, z, y))) in
+      (ap (λ z. z ∷ []) (land_at n s fit.long held before behind v at is_v at_v)) v (env t hs) refl
+      (land_store n s fit.long held hs rest keep m i v is_hs at_hs c.all ∙ set-append_left s.locals (map Some hs) i (Some v) (let z = fit.long in let y = has.0 in omega (arith, z, y))) in
       record {
         sim = record {
           leads = l;
@@ -262,7 +261,7 @@ module _ (p : Program) (gs : Graphs) (named_if : Bool) (builtins : (k : ℕ) →
       → Bind all (all + 1) all turn bound → GatherAt p gs named_if f n sc E Test m bound all advance
       → (v : Value) (s : State) → Fit (suc top) n s
       → F (at_place (place turn (env s (((held ++ list ∷ []) ++ vs) ++ v ∷ []))) s.world) ((held ++ list ∷ []) ++ vs) s (flow_place t ((held ++ list ∷ []) ++ vs)) R IsOnward
-        (gather p unwatched prev (bind p unwatched prev sc.covers target) (keeps p unwatched prev sc.covers condition) (value p unwatched prev sc.covers item) sc.covers list v s)
+      (gather p unwatched prev (bind p unwatched prev sc.covers target) (keeps p unwatched prev sc.covers condition) (value p unwatched prev sc.covers item) sc.covers list v s)
   gather_sim sc item target condition E Bind Test sim sim_b sim_c m all turn bound advance held vs list R c c2 t is_norm at_bind has v s fit =
       let W = (held ++ list ∷ []) ++ vs in
       seq p gs named_if f instead frs
@@ -274,8 +273,10 @@ module _ (p : Program) (gs : Graphs) (named_if : Bool) (builtins : (k : ℕ) →
     where
       W : List Value
       W = (held ++ list ∷ []) ++ vs
+
       onward : (u : State) → Leads p gs named_if (at_place (place advance (env u ((held ++ list ∷ []) ++ vs))) u.world) (at_place (flow_place t ((held ++ list ∷ []) ++ vs) Onward u) u.world)
       onward u = same_as p gs named_if builtins stand prev top good f n instead frs (place advance (env u ((held ++ list ∷ []) ++ vs))) (place t.norm (env u ((held ++ list ∷ []) ++ vs))) u.world (ap (λ k. place k (env u ((held ++ list ∷ []) ++ vs))) (sym is_norm))
+
       ways : (wanted : Bool) (u : State) → Fit (suc top) n u → F (at_place (test_place has.0 advance ((held ++ list ∷ []) ++ vs) wanted u) u.world) ((held ++ list ∷ []) ++ vs) u (flow_place t ((held ++ list ∷ []) ++ vs)) R IsOnward
           ((if wanted then (λ u. then_go (value p unwatched prev sc.covers item u) (λ x u. then_go (operate p unwatched prev (x ∷ []) sc.covers row.AddItem (list ∷ x ∷ []) u) (λ a u. Done Onward u))) else pure Onward) u)
       ways false u fit_u = here p gs named_if f instead frs (onward u) refl
@@ -299,7 +300,7 @@ module _ (p : Program) (gs : Graphs) (named_if : Bool) (builtins : (k : ℕ) →
       → ((next : Value) (s : State) → Fit top n s → F (at_place (place head (env s ((held ++ list ∷ []) ++ walking.over ∷ next ∷ []))) s.world) (held ++ list ∷ []) s (flow_place (gathered whole (m + 1)) (held ++ list ∷ [])) R IsOnward (prev (Gather sc.covers item target condition list (record walking { at = next })) s))
       → GathersAt p gs named_if f n sc walking.step E Bind Test head m whole → (s : State) → Fit (suc top) n s
       → F (at_place (place head (env s ((held ++ list ∷ []) ++ walk_holds walking))) s.world) (held ++ list ∷ []) s (flow_place (gathered whole (m + 1)) (held ++ list ∷ [])) R IsOnward
-        (turns p unwatched prev (gather p unwatched prev (bind p unwatched prev sc.covers target) (keeps p unwatched prev sc.covers condition) (value p unwatched prev sc.covers item) sc.covers list) (λ rest. prev (Gather sc.covers item target condition list rest)) walking s)
+      (turns p unwatched prev (gather p unwatched prev (bind p unwatched prev sc.covers target) (keeps p unwatched prev sc.covers condition) (value p unwatched prev sc.covers item) sc.covers list) (λ rest. prev (Gather sc.covers item target condition list rest)) walking s)
   gathers_sim sc item target condition E Bind Test sim sim_b sim_c m head whole held list R c walking rest has s fit =
       let c1 = more_held list c in
       turns_sim p gs named_if builtins stand prev top good f n instead frs (m + 1) sc (held ++ list ∷ []) R c1 (gathered whole (m + 1)) (record { brk = omega arith; cont = omega arith; ret = omega arith })
@@ -313,7 +314,7 @@ module _ (p : Program) (gs : Graphs) (named_if : Bool) (builtins : (k : ℕ) →
   comprehension_sim : (sc : Scope) (site : ℕ) (item : Expr) (target : Target) (subject : Subject) (condition : Condition)
       → VSim sc item (HasExpr p gs named_if f n sc item) → BindSim sc target (HasBind p gs named_if f n sc target) → SubjectSim sc subject (HasSubject p gs named_if f n sc subject) → ConditionSim sc condition (HasCondition p gs named_if f n sc condition)
       → VSim sc (Comprehension site item target subject condition)
-        (ComprehensionAt p gs named_if f n sc site (HasSubject p gs named_if f n sc subject) (GathersAt p gs named_if f n sc (step_of subject) (HasExpr p gs named_if f n sc item) (HasBind p gs named_if f n sc target) (HasCondition p gs named_if f n sc condition)))
+      (ComprehensionAt p gs named_if f n sc site (HasSubject p gs named_if f n sc subject) (GathersAt p gs named_if f n sc (step_of subject) (HasExpr p gs named_if f n sc item) (HasBind p gs named_if f n sc target) (HasCondition p gs named_if f n sc condition)))
   comprehension_sim sc site item target subject condition sim sim_b sim_s sim_c m b q held R c s fit has =
       seq p gs named_if f instead frs (leaf_sim p gs named_if builtins stand prev top good f n instead frs m sc held R c s fit b has.0 (row.Comprehension site) has.3)
       (λ list t after y.

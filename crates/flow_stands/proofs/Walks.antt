@@ -1,27 +1,25 @@
 -- The machine follows the turns of a walk.
-use Rattle.std.proofs.Common.{◌≡◌, ℕ, zero, suc, ◌+◌, ◌-◌, ◌<◌, ◌≤◌, Bool, true, false, cond, List, [], ◌∷◌, ◌++◌, ◌⊎◌, inl, inr, length, get_or, take, Some, None, Option, refl, sym, ap, ◌∙◌, subst, arith, append_assoc, length-append}
-use Rattle.std.specs.Prelude.{map, slice_get, slice_set, nat_lt, ◌==◌, if◌then◌else◌, pos, ℤ}
-use Rattle.std.proofs.lemmas.List.{append-nil, length-map, map-append, length-set, set-append_left, take-append-le}
+use Rattle.std.proofs.Common.{◌≡◌, ℕ, suc, ◌+◌, ◌-◌, ◌<◌, Bool, true, false, List, [], ◌∷◌, ◌++◌, length, get_or, take, Some, None, Option, refl, sym, ap, ◌∙◌, subst, arith, append_assoc, length-append}
+use Rattle.std.specs.Prelude.{map, nat_lt, if◌then◌else◌}
+use Rattle.std.proofs.lemmas.List.{append-nil}
 use Rattle.std.proofs.lemmas.Bool.{ltb-false}
-use Rattle.rpy_tree.specs.Value.{Value, Ref, Flag, Nothing}
-use Rattle.rpy_meaning.specs.declared.row.Covers.{Covers}
+use Rattle.rpy_tree.specs.Value.{Value, Nothing}
 use Rattle.rpy_meaning.specs.declared.row.RowOp.{RowOp}
 use Rattle.rpy_meaning.specs.declared.row.RowOp.TheVariants as row
 use Rattle.rpy_meaning.specs.Tree.{Program}
-use Rattle.rpy_meaning.specs.World.{World, Answer, Gives, Throws, Fails, Lacks, Enters, Bad}
+use Rattle.rpy_meaning.specs.World.{World, Gives, Lacks}
 use Rattle.rpy_meaning.specs.Classes.{is_below, no_covers}
-use Rattle.rpy_meaning.specs.Operations.{op, builtin_classes, truth_in}
-use Rattle.rpy_meaning.specs.Evaluation.{State, Ending, Done, Raised, Failed, Running, Wrong, Eval, then_go, add_held, values_of, is_so, known, pure, Flow, Next as Onward, Broken, Continued, Returned, after_turn}
-use Rattle.rpy_meaning.specs.Meaning.{Run, Sem, unwatched, answered as told, operate, perform, Walking, walk_holds, turn, turns, on_walk}
+use Rattle.rpy_meaning.specs.Operations.{builtin_classes, truth_in}
+use Rattle.rpy_meaning.specs.Evaluation.{State, Ending, Done, Eval, then_go, add_held, is_so, known, pure, Flow, Next as Onward, Broken, Continued, Returned, after_turn}
+use Rattle.rpy_meaning.specs.Meaning.{Run, Sem, unwatched, answered as told, perform, Walking, walk_holds, turn, turns, on_walk}
 use Rattle.flow_graph.specs.declared.graph.Graphs.{Graphs}
 use Rattle.flow_meaning.specs.Machine.{Frame}
-use Rattle.flow_stands.specs.Places.{range, Scope, Ways, Jump, first, first_and}
-use Rattle.flow_stands.specs.Stands.{Is, Acts, TurnsAt, within, Stand}
-use Rattle.flow_stands.proofs.Worlds.{total, Weight, Later, same, Sound, Thrown}
-use Rattle.flow_stands.proofs.Lists.{Env, pick, take_first}
-use Rattle.flow_stands.proofs.Core.{Place, place, env, env_push, IsBound, After, at_once, after_on, Fit, fit_on, Catches, Ends, Leads, stays, leads_on, enter, wrong_run, Reached, Holds, Runs, before, moved, seq, seq_is, hold, here, same_place}
+use Rattle.flow_stands.specs.Places.{range, Scope, Ways, first, first_and}
+use Rattle.flow_stands.specs.Stands.{Acts, TurnsAt, within, Stand}
+use Rattle.flow_stands.proofs.Lists.{pick, take_first}
+use Rattle.flow_stands.proofs.Core.{Place, place, env, env_push, After, Fit, fit_on, Catches, leads_on, enter, Runs, moved, seq, seq_is, hold, here}
 use Rattle.flow_stands.proofs.Calls.{Any, Good, flow_place, Keeps}
-use Rattle.flow_stands.proofs.Parts.{wide, land_first, land_result, land_at, land_last, land_local, jump_first, jump_and, land_store, assoc, catches_more, take_less, vals, lists, stay_at, Follow, go_in, To, Holding, same_as, jumps, gives_on, strays_on, acts, fork_on, fork_strays}
+use Rattle.flow_stands.proofs.Parts.{wide, land_first, land_result, land_at, jump_first, assoc, catches_more, take_less, vals, stay_at, same_as, jumps, acts, fork_on, fork_strays}
 
 pub lower : {top n : ℕ} {s : State} → Fit top n s → Fit (suc top) n s
 lower f = record { low = let l = f.low in omega (arith, l); long = f.long; sound = f.sound }
@@ -100,17 +98,19 @@ module _ (p : Program) (gs : Graphs) (named_if : Bool) (builtins : (k : ℕ) →
         → F (at_place (place b (env s walked)) s.world) held s (λ next t. place q (env t (held ++ over ∷ next ∷ []))) R Any (perform p unwatched prev sc.covers o (over ∷ at ∷ []) s)
     advance_sim s fit b q o is =
         acts p gs named_if builtins stand prev top good f n instead frs m sc held R c s fit walked (over ∷ at ∷ []) refl b (m + 2) o (m ∷ (m + 1) ∷ []) (first_and q (m + 1) (m + 2)) (over ∷ at ∷ []) is (omega arith) (operands s fit.long) (over ∷ at ∷ []) (λ next t. place q (env t (held ++ over ∷ next ∷ []))) Any (λ wt. omega arith) (λ wt. omega arith)
-        (λ v w k.
-        (ap (place q) (
-        land_result n s fit.long walked (held ++ over ∷ []) (at ∷ []) (m + 1) (m + 2) v (sym (append_assoc held (over ∷ []) (at ∷ []))) (let z = length-append held (over ∷ []) in let a = c.all in omega (arith, z, a)) many
-        ∙ ap (env s) (append_assoc held (over ∷ []) (v ∷ []))), tt))
+        (λ v w k. (
+          ap (place q) (
+              land_result n s fit.long walked (held ++ over ∷ []) (at ∷ []) (m + 1) (m + 2) v (sym (append_assoc held (over ∷ []) (at ∷ []))) (let z = length-append held (over ∷ []) in let a = c.all in omega (arith, z, a)) many
+              ∙ ap (env s) (append_assoc held (over ∷ []) (v ∷ []))),
+          tt,
+        ))
 
   -- all turns
   module _ (m : ℕ) (sc : Scope) (held : List Value) (R : ℕ → State → Place) (c : Keep m sc held R) (t : Ways) (keeps : Keeps t m) (each : Value → Eval Flow) (rest : Walking → Eval Flow) (X Xe : Flow → State → Type 0) (head turn_at advance : ℕ)
-    (none_left : (s : State) → X Onward s) (broken : (s : State) → Xe Broken s → X Onward s) (returned : (v : Value) (s : State) → Xe (Returned v) s → X (Returned v) s) (walking : Walking)
-    (is : TurnsAt p gs named_if f n sc walking.step m head turn_at (first t.norm m) advance)
-    (each_sim : (v : Value) (s : State) → Fit (suc top) n s → F (at_place (place turn_at (env s ((held ++ walk_holds walking) ++ v ∷ []))) s.world) (held ++ walk_holds walking) s (flow_place (within p gs named_if f n t (record { to = advance; keep = m + 2 }) (record { to = t.norm; keep = m })) (held ++ walk_holds walking)) R Xe (each v s))
-    (rest_sim : (next : Value) (s : State) → Fit top n s → F (at_place (place head (env s (held ++ walking.over ∷ next ∷ []))) s.world) held s (flow_place t held) R X (rest (record walking { at = next }) s)) where
+      (none_left : (s : State) → X Onward s) (broken : (s : State) → Xe Broken s → X Onward s) (returned : (v : Value) (s : State) → Xe (Returned v) s → X (Returned v) s) (walking : Walking)
+      (is : TurnsAt p gs named_if f n sc walking.step m head turn_at (first t.norm m) advance)
+      (each_sim : (v : Value) (s : State) → Fit (suc top) n s → F (at_place (place turn_at (env s ((held ++ walk_holds walking) ++ v ∷ []))) s.world) (held ++ walk_holds walking) s (flow_place (within p gs named_if f n t (record { to = advance; keep = m + 2 }) (record { to = t.norm; keep = m })) (held ++ walk_holds walking)) R Xe (each v s))
+      (rest_sim : (next : Value) (s : State) → Fit top n s → F (at_place (place head (env s (held ++ walking.over ∷ next ∷ []))) s.world) held s (flow_place t held) R X (rest (record walking { at = next }) s)) where
     abbrev W : List Value
     W = held ++ walk_holds walking
 

@@ -1,7 +1,7 @@
 -- Worlds before and after a part of a run, and what operations answer.
-use Rattle.std.proofs.Common.{◌≡◌, ℕ, zero, suc, ◌+◌, ◌<◌, ◌≤◌, List, [], ◌∷◌, ◌++◌, Bool, true, false, Some, None, Option, refl, sym, ap, ◌∙◌, subst, arith}
+use Rattle.std.proofs.Common.{◌≡◌, ℕ, zero, suc, ◌+◌, ◌<◌, ◌≤◌, List, [], ◌∷◌, ◌++◌, true, Some, None, Option, refl, sym, ap, ◌∙◌, arith}
 use Rattle.std.specs.Prelude.{slice_get, slice_set}
-use Rattle.rpy_tree.specs.Value.{Value, Fun, Object, Listed, Mapped, Instance, Heap}
+use Rattle.rpy_tree.specs.Value.{Value, Fun, Object, Instance, Heap}
 use Rattle.rpy_meaning.specs.Tree.{Program}
 use Rattle.rpy_meaning.specs.World.{World, Answer, Gives, Throws, Fails, Lacks, Enters, Bad}
 use Rattle.rpy_meaning.specs.Classes.{is_below}
