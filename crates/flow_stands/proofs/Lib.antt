@@ -13,3 +13,4 @@ pub mod Trees
 pub mod Stmts
 pub mod Top
 mod Rows
+mod Wide
