@@ -19,7 +19,7 @@ use Rattle.flow_stands.specs.Stands.{Acts, Reads, is_local, some_is_local, Branc
 use Rattle.flow_stands.proofs.Lists.{Env, pick}
 use Rattle.flow_stands.proofs.Core.{Place, place, env, IsBound, After, after_on, Fit, fit_on, Catches, Leads, stays, leads_on, enter, Runs, seq, led, here}
 use Rattle.flow_stands.proofs.Calls.{Any, Good}
-use Rattle.flow_stands.proofs.Parts.{land_result, land_last, assoc, vals, lists, ReadBy, acts, raises_sim}
+use Rattle.flow_stands.proofs.Parts.{land_result, land_last, assoc, vals, lists, ReadBy, Reading, acts, raises_sim}
 use Rattle.flow_stands.proofs.Tests.{branch_place, by_truth, gives_value, meets, truth_sim}
 
 -- where a test leads
@@ -135,13 +135,13 @@ module _ (p : Program) (gs : Graphs) (named_if : Bool) (builtins : (k : ℕ) →
   SidesSim B sc e Sides =
       (m b c q : ℕ) (held : List Value) (R : ℕ → State → Place) → Keep m sc held R → (s : State) → Fit (suc top) n s → Sides b m c q
       → (D : B → State → Place) (K : Value → Eval B)
-      → ((x : Value) (t : State) (ys : List Value) → After s t → length ys ≡ c → ReadBy e x t → F (at_place (place q (env t (held ++ (ys ++ x ∷ [])))) t.world) held t D R Any (K x t))
-      → F (at_place (place b (env s held)) s.world) held s D R Any (then_go (value p unwatched prev sc.covers e s) K)
+      → ((x : Value) (t : State) (ys : List Value) → After s t → length ys ≡ c → ReadBy e x t → F (at_place (place q (env t (held ++ (ys ++ x ∷ [])))) t.world) held t D R (Reading e) (K x t))
+      → F (at_place (place b (env s held)) s.world) held s D R (Reading e) (then_go (value p unwatched prev sc.covers e s) K)
 
   abbrev pub TestSim : Scope → Expr → (ℕ → ℕ → ℕ → ℕ → Type 0) → Type 0
   TestSim sc e Test =
       (m b so other : ℕ) (held : List Value) (R : ℕ → State → Place) → Keep m sc held R → (s : State) → Fit (suc top) n s → Test b m so other
-      → F (at_place (place b (env s held)) s.world) held s (test_place so other held) R Any (then_go (value p unwatched prev sc.covers e s) is_so)
+      → F (at_place (place b (env s held)) s.world) held s (test_place so other held) R (Reading e) (then_go (value p unwatched prev sc.covers e s) is_so)
 
   -- an operation without operands
   pub leaf_sim : (m : ℕ) (sc : Scope) (held : List Value) (R : ℕ → State → Place) → Keep m sc held R → (s : State) → Fit (suc top) n s → (b q : ℕ) (o : RowOp) → Acts p gs named_if f n sc b o [] m (first_and q m m)
@@ -178,7 +178,7 @@ module _ (p : Program) (gs : Graphs) (named_if : Bool) (builtins : (k : ℕ) →
 
   pub sides_sim : (B : Type 0) (sc : Scope) (o : RowOp) (es : Exprs) (Es : ℕ → ℕ → ℕ → Type 0) → ValuesSim sc es Es → SidesSim B sc (Apply o es) (SidesAt p gs named_if f n sc o (count es) Es)
   sides_sim B sc o es Es sims m b k q held R c s fit has D K go =
-      subst (λ e. F (at_place (place b (env s held)) s.world) held s D R Any e) (sym (assoc (values p unwatched prev sc.covers es s) (perform p unwatched prev sc.covers o) K))
+      subst (λ e. F (at_place (place b (env s held)) s.world) held s D R (Reading (Apply o es)) e) (sym (assoc (values p unwatched prev sc.covers es s) (perform p unwatched prev sc.covers o) K))
       (seq p gs named_if f instead frs (sims m b has.1.0 held R c s fit has.1.1)
       (λ vs t after many.
       let fit_t = fit_on fit after in
@@ -194,21 +194,21 @@ module _ (p : Program) (gs : Graphs) (named_if : Bool) (builtins : (k : ℕ) →
   pub asks_sim : {B : Type 0} (sc : Scope) (e : Expr) (E : ℕ → ℕ → ℕ → Type 0) (Sides : ℕ → ℕ → ℕ → ℕ → Type 0) → ValueSim sc e E → SidesSim B sc e Sides
       → (m b : ℕ) (so other : Branch) (held : List Value) (R : ℕ → State → Place) → Keep m sc held R → (s : State) → Fit (suc top) n s → Asks p gs named_if f n sc e E Sides b m so other
       → (D : B → State → Place) (K : Value → Bool → Eval B)
-      → ((x : Value) (go : Bool) (t : State) → After s t → F (at_place (branch_place (by_truth go so other) held x t) t.world) held t D R Any (K x go t))
-      → F (at_place (place b (env s held)) s.world) held s D R Any (then_go (value p unwatched prev sc.covers e s) (λ x t. then_go (is_so x t) (K x)))
+      → ((x : Value) (go : Bool) (t : State) → After s t → ReadBy e x t → F (at_place (branch_place (by_truth go so other) held x t) t.world) held t D R (Reading e) (K x go t))
+      → F (at_place (place b (env s held)) s.world) held s D R (Reading e) (then_go (value p unwatched prev sc.covers e s) (λ x t. then_go (is_so x t) (K x)))
   asks_sim sc e E Sides sim sides m b so other held R c s fit (inl (k, at_e, truth)) D K go =
       seq p gs named_if f instead frs (sim m b k held R c s fit at_e)
-      (λ x t after reads. truth_sim p gs named_if builtins stand prev top good f n instead frs m sc held R c t (fit_on fit after) e x [] (held ++ x ∷ []) refl reads D Any (K x) m (omega arith) k so other truth (λ g. go x g t after))
+      (λ x t after reads. truth_sim p gs named_if builtins stand prev top good f n instead frs m sc held R c t (fit_on fit after) e x [] (held ++ x ∷ []) refl reads D (Reading e) (K x) m (omega arith) k so other truth (λ g. go x g t after reads))
   asks_sim {B} sc e E Sides sim sides m b so other held R c s fit (inr (k, j, at_sides, truth)) D K go =
       sides m b j k held R c s fit at_sides D (λ x t. then_go (is_so x t) (K x))
-      (λ x t ys after len reads. truth_sim p gs named_if builtins stand prev top good f n instead frs m sc held R c t (fit_on fit after) e x ys (held ++ (ys ++ x ∷ [])) refl reads D Any (K x) (m + j) (omega (arith, len)) k so other truth (λ g. go x g t after))
+      (λ x t ys after len reads. truth_sim p gs named_if builtins stand prev top good f n instead frs m sc held R c t (fit_on fit after) e x ys (held ++ (ys ++ x ∷ [])) refl reads D (Reading e) (K x) (m + j) (omega (arith, len)) k so other truth (λ g. go x g t after reads))
 
   -- a test
   pub tests_sim : (sc : Scope) (e : Expr) (E : ℕ → ℕ → ℕ → Type 0) (Sides : ℕ → ℕ → ℕ → ℕ → Type 0) → ValueSim sc e E → SidesSim Bool sc e Sides → TestSim sc e (λ b m so other. Asks p gs named_if f n sc e E Sides b m (plainly so) (plainly other))
   tests_sim sc e E Sides sim sides m b so other held R c s fit has =
-      subst (λ z. F (at_place (place b (env s held)) s.world) held s (test_place so other held) R Any z) (tested_is (value p unwatched prev sc.covers e s))
+      subst (λ z. F (at_place (place b (env s held)) s.world) held s (test_place so other held) R (Reading e) z) (tested_is (value p unwatched prev sc.covers e s))
       (asks_sim sc e E Sides sim sides m b (plainly so) (plainly other) held R c s fit has (test_place so other held) (λ x go u. Done go u)
-      (λ x go t after. here p gs named_if f instead frs (ways go x t) tt))
+      (λ x go t after reads. here p gs named_if f instead frs (ways go x t) reads))
     where
       ways : (go : Bool) (x : Value) (t : State) → Leads p gs named_if (at_place (branch_place (by_truth go (plainly so) (plainly other)) held x t) t.world) (at_place (test_place so other held go t) t.world)
       ways true x t = stays p gs named_if
@@ -221,50 +221,50 @@ module _ (p : Program) (gs : Graphs) (named_if : Bool) (builtins : (k : ℕ) →
   and_sim sc a e E Right Sides sim sides right m b q held R c s fit has =
       led p gs named_if f instead frs (asks_sim sc a E Sides sim sides m b (plainly has.1) (with_value has.0) held R c s fit has.4 (vals q held) (λ x go. if go then value p unwatched prev sc.covers e else pure x) ways) (λ v t after x. (stays p gs named_if, λ i h. absurd h))
     where
-      ways : (x : Value) (go : Bool) (t : State) → After s t → F (at_place (branch_place (by_truth go (plainly has.1) (with_value has.0)) held x t) t.world) held t (vals q held) R Any ((if go then value p unwatched prev sc.covers e else pure x) t)
-      ways x true t after =
+      ways : (x : Value) (go : Bool) (t : State) → After s t → ReadBy a x t → F (at_place (branch_place (by_truth go (plainly has.1) (with_value has.0)) held x t) t.world) held t (vals q held) R (Reading a) ((if go then value p unwatched prev sc.covers e else pure x) t)
+      ways x true t after reads =
           led p gs named_if f instead frs (right m has.1 has.0 held R c t (fit_on fit after) has.3)
-          (λ v u after2 reads. (meets p gs named_if builtins stand prev top good f n instead frs m sc held R c u (fit_on (fit_on fit after) after2) v has.0 q has.2, tt))
-      ways x false t after =
-          here p gs named_if f instead frs (meets p gs named_if builtins stand prev top good f n instead frs m sc held R c t (fit_on fit after) x has.0 q has.2) tt
+          (λ v u after2 y. (meets p gs named_if builtins stand prev top good f n instead frs m sc held R c u (fit_on (fit_on fit after) after2) v has.0 q has.2, λ i h. after2.bound i (reads i h)))
+      ways x false t after reads =
+          here p gs named_if f instead frs (meets p gs named_if builtins stand prev top good f n instead frs m sc held R c t (fit_on fit after) x has.0 q has.2) reads
 
   pub or_sim : (sc : Scope) (a e : Expr) (E Right : ℕ → ℕ → ℕ → Type 0) (Sides : ℕ → ℕ → ℕ → ℕ → Type 0) → ValueSim sc a E → SidesSim Value sc a Sides → ValueSim sc e Right
       → ValueSim sc (Or a e) (OrAt p gs named_if f n sc (Asks p gs named_if f n sc a E Sides) Right)
   or_sim sc a e E Right Sides sim sides right m b q held R c s fit has =
       led p gs named_if f instead frs (asks_sim sc a E Sides sim sides m b (with_value has.0) (plainly has.1) held R c s fit has.4 (vals q held) (λ x stop. if stop then pure x else value p unwatched prev sc.covers e) ways) (λ v t after x. (stays p gs named_if, λ i h. absurd h))
     where
-      ways : (x : Value) (stop : Bool) (t : State) → After s t → F (at_place (branch_place (by_truth stop (with_value has.0) (plainly has.1)) held x t) t.world) held t (vals q held) R Any ((if stop then pure x else value p unwatched prev sc.covers e) t)
-      ways x false t after =
+      ways : (x : Value) (stop : Bool) (t : State) → After s t → ReadBy a x t → F (at_place (branch_place (by_truth stop (with_value has.0) (plainly has.1)) held x t) t.world) held t (vals q held) R (Reading a) ((if stop then pure x else value p unwatched prev sc.covers e) t)
+      ways x false t after reads =
           led p gs named_if f instead frs (right m has.1 has.0 held R c t (fit_on fit after) has.3)
-          (λ v u after2 reads. (meets p gs named_if builtins stand prev top good f n instead frs m sc held R c u (fit_on (fit_on fit after) after2) v has.0 q has.2, tt))
-      ways x true t after =
-          here p gs named_if f instead frs (meets p gs named_if builtins stand prev top good f n instead frs m sc held R c t (fit_on fit after) x has.0 q has.2) tt
+          (λ v u after2 y. (meets p gs named_if builtins stand prev top good f n instead frs m sc held R c u (fit_on (fit_on fit after) after2) v has.0 q has.2, λ i h. after2.bound i (reads i h)))
+      ways x true t after reads =
+          here p gs named_if f instead frs (meets p gs named_if builtins stand prev top good f n instead frs m sc held R c t (fit_on fit after) x has.0 q has.2) reads
 
   pub and_tests_sim : (sc : Scope) (a e : Expr) (Left Right : ℕ → ℕ → ℕ → ℕ → Type 0) → TestSim sc a Left → TestSim sc e Right → TestSim sc (And a e) (λ b m so other. (k : ℕ) × Left b m k other × Right k m so other)
   and_tests_sim sc a e Left Right left right m b so other held R c s fit has =
-      subst (λ z. F (at_place (place b (env s held)) s.world) held s (test_place so other held) R Any z) (sym (and_test p prev sc.covers a e s))
+      subst (λ z. F (at_place (place b (env s held)) s.world) held s (test_place so other held) R (Reading (And a e)) z) (sym (and_test p prev sc.covers a e s))
       (seq p gs named_if f instead frs (left m b has.0 other held R c s fit has.1) ways)
     where
-      ways : (go : Bool) (t : State) → After s t → Unit {0} → F (at_place (test_place has.0 other held go t) t.world) held t (test_place so other held) R Any ((if go then (λ u. then_go (value p unwatched prev sc.covers e u) is_so) else pure false) t)
-      ways true t after x = right m has.0 so other held R c t (fit_on fit after) has.2
-      ways false t after x = here p gs named_if f instead frs (stays p gs named_if) tt
+      ways : (go : Bool) (t : State) → After s t → ((i : ℕ) → Reads a i → IsBound t.locals i) → F (at_place (test_place has.0 other held go t) t.world) held t (test_place so other held) R (Reading (And a e)) ((if go then (λ u. then_go (value p unwatched prev sc.covers e u) is_so) else pure false) t)
+      ways true t after x = led p gs named_if f instead frs (right m has.0 so other held R c t (fit_on fit after) has.2) (λ go u after2 y. (stays p gs named_if, λ i h. absurd h))
+      ways false t after x = here p gs named_if f instead frs (stays p gs named_if) (λ i h. absurd h)
 
   pub or_tests_sim : (sc : Scope) (a e : Expr) (Left Right : ℕ → ℕ → ℕ → ℕ → Type 0) → TestSim sc a Left → TestSim sc e Right → TestSim sc (Or a e) (λ b m so other. (k : ℕ) × Left b m so k × Right k m so other)
   or_tests_sim sc a e Left Right left right m b so other held R c s fit has =
-      subst (λ z. F (at_place (place b (env s held)) s.world) held s (test_place so other held) R Any z) (sym (or_test p prev sc.covers a e s))
+      subst (λ z. F (at_place (place b (env s held)) s.world) held s (test_place so other held) R (Reading (Or a e)) z) (sym (or_test p prev sc.covers a e s))
       (seq p gs named_if f instead frs (left m b so has.0 held R c s fit has.1) ways)
     where
-      ways : (stop : Bool) (t : State) → After s t → Unit {0} → F (at_place (test_place so has.0 held stop t) t.world) held t (test_place so other held) R Any ((if stop then pure true else (λ u. then_go (value p unwatched prev sc.covers e u) is_so)) t)
-      ways true t after x = here p gs named_if f instead frs (stays p gs named_if) tt
-      ways false t after x = right m has.0 so other held R c t (fit_on fit after) has.2
+      ways : (stop : Bool) (t : State) → After s t → ((i : ℕ) → Reads a i → IsBound t.locals i) → F (at_place (test_place so has.0 held stop t) t.world) held t (test_place so other held) R (Reading (Or a e)) ((if stop then pure true else (λ u. then_go (value p unwatched prev sc.covers e u) is_so)) t)
+      ways true t after x = here p gs named_if f instead frs (stays p gs named_if) (λ i h. absurd h)
+      ways false t after x = led p gs named_if f instead frs (right m has.0 so other held R c t (fit_on fit after) has.2) (λ go u after2 y. (stays p gs named_if, λ i h. absurd h))
 
   abbrev pub NegatedSim : Scope → Exprs → (ℕ → ℕ → ℕ → ℕ → Type 0) → Type 0
   NegatedSim sc es Test =
       (m b so other : ℕ) (held : List Value) (R : ℕ → State → Place) → Keep m sc held R → (s : State) → Fit (suc top) n s → Test b m so other
-      → F (at_place (place b (env s held)) s.world) held s (test_place so other held) R Any (tested p prev sc.covers es s) × (value p unwatched prev sc.covers (Apply row.Not es) s ≡ then_go (tested p prev sc.covers es s) (λ go u. Done (Flag (not go)) u))
+      → F (at_place (place b (env s held)) s.world) held s (test_place so other held) R (Reading (Apply row.Not es)) (tested p prev sc.covers es s) × (value p unwatched prev sc.covers (Apply row.Not es) s ≡ then_go (tested p prev sc.covers es s) (λ go u. Done (Flag (not go)) u))
 
-  pub not_sim : (sc : Scope) (es : Exprs) (Test : ℕ → ℕ → ℕ → ℕ → Type 0) → NegatedSim sc es Test → ((i : ℕ) → some_is_local es i → ⊥) → ValueSim sc (Apply row.Not es) (NotAt p gs named_if f n sc Test)
-  not_sim sc es Test sim bare m b q held R c s fit has =
+  pub not_sim : (sc : Scope) (es : Exprs) (Test : ℕ → ℕ → ℕ → ℕ → Type 0) → NegatedSim sc es Test → ValueSim sc (Apply row.Not es) (NotAt p gs named_if f n sc Test)
+  not_sim sc es Test sim m b q held R c s fit has =
       let r = sim m b has.1 has.2 held R c s fit has.6 in
       record {
         sim = (subst (λ e. F (at_place (place b (env s held)) s.world) held s (vals q held) R Never e) (sym r.1) (seq p gs named_if f instead frs r.0 ways)).sim;
@@ -273,29 +273,29 @@ module _ (p : Program) (gs : Graphs) (named_if : Bool) (builtins : (k : ℕ) →
       Never : Value → State → Type 0
       Never = ReadBy (Apply row.Not es)
 
-      ways : (go : Bool) (t : State) → After s t → Unit {0} → F (at_place (test_place has.1 has.2 held go t) t.world) held t (vals q held) R Never (Done (Flag (not go)) t)
+      ways : (go : Bool) (t : State) → After s t → ((i : ℕ) → some_is_local es i → IsBound t.locals i) → F (at_place (test_place has.1 has.2 held go t) t.world) held t (vals q held) R Never (Done (Flag (not go)) t)
       ways true t after x =
           let fit_t = fit_on fit after in
           here p gs named_if f instead frs
           (leads_on p gs named_if
           (gives_value p gs named_if builtins stand prev top good f n instead frs m sc held R c t fit_t held [] (sym (append-nil held)) has.1 m (row.Bool false) [] has.0 [] (Flag false) has.5 (omega arith) refl refl)
           (meets p gs named_if builtins stand prev top good f n instead frs m sc held R c t fit_t (Flag false) has.0 q has.3))
-          (λ i h. absurd (bare i h))
+          x
       ways false t after x =
           let fit_t = fit_on fit after in
           here p gs named_if f instead frs
           (leads_on p gs named_if
           (gives_value p gs named_if builtins stand prev top good f n instead frs m sc held R c t fit_t held [] (sym (append-nil held)) has.2 m (row.Bool true) [] has.0 [] (Flag true) has.4 (omega arith) refl refl)
           (meets p gs named_if builtins stand prev top good f n instead frs m sc held R c t fit_t (Flag true) has.0 q has.3))
-          (λ i h. absurd (bare i h))
+          x
 
   pub not_tests_sim : (sc : Scope) (es : Exprs) (Test : ℕ → ℕ → ℕ → ℕ → Type 0) → NegatedSim sc es Test → TestSim sc (Apply row.Not es) (λ b m so other. Test b m other so)
   not_tests_sim sc es Test sim m b so other held R c s fit has =
       let r = sim m b other so held R c s fit has in
-      subst (λ z. F (at_place (place b (env s held)) s.world) held s (test_place so other held) R Any z)
+      subst (λ z. F (at_place (place b (env s held)) s.world) held s (test_place so other held) R (Reading (Apply row.Not es)) z)
       (sym (ap (λ e. then_go e is_so) r.1 ∙ assoc (tested p prev sc.covers es s) (λ go u. Done (Flag (not go)) u) is_so))
       (seq p gs named_if f instead frs r.0 ways)
     where
-      ways : (go : Bool) (t : State) → After s t → Unit {0} → F (at_place (test_place other so held go t) t.world) held t (test_place so other held) R Any (is_so (Flag (not go)) t)
-      ways true t after x = here p gs named_if f instead frs (stays p gs named_if) tt
-      ways false t after x = here p gs named_if f instead frs (stays p gs named_if) tt
+      ways : (go : Bool) (t : State) → After s t → ((i : ℕ) → some_is_local es i → IsBound t.locals i) → F (at_place (test_place other so held go t) t.world) held t (test_place so other held) R (Reading (Apply row.Not es)) (is_so (Flag (not go)) t)
+      ways true t after x = here p gs named_if f instead frs (stays p gs named_if) x
+      ways false t after x = here p gs named_if f instead frs (stays p gs named_if) x

@@ -148,6 +148,10 @@ lists q held vs t = place q (env t (held ++ vs))
 abbrev pub stay_at : ℕ → List Value → {A : Type 0} → A → State → Place
 stay_at q held a t = place q (env t held)
 
+-- the locals that a test reads are bound behind it
+abbrev pub Reading : Expr → {A : Type 0} → A → State → Type 0
+Reading e a t = (i : ℕ) → Reads e i → IsBound t.locals i
+
 -- the locals that were read are bound
 abbrev pub ReadBy : Expr → Value → State → Type 0
 ReadBy e v t = (i : ℕ) → Reads e i → IsBound t.locals i

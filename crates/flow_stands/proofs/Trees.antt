@@ -14,12 +14,12 @@ use Rattle.rpy_meaning.specs.Meaning.{Run, Sem, unwatched, operate, value, store
 use Rattle.flow_graph.specs.declared.graph.Graphs.{Graphs}
 use Rattle.flow_meaning.specs.Machine.{Frame}
 use Rattle.flow_stands.specs.Places.{range, Scope, Ways, Go, first, first_and, stored}
-use Rattle.flow_stands.specs.Stands.{Is, Acts, is_local, some_is_local, ApplyAt, SidesAt, LocalAt, ConstantAt, DisplayAt, ComprehensionAt, GathersAt, GatherAt, step_of, within, count, AllNamed, HasExpr, HasExprs, HasSides, HasTest, HasNegated, HasPairs, HasSubject, HasCondition, HasBind, HasItems, Stand}
+use Rattle.flow_stands.specs.Stands.{Is, Acts, is_local, some_is_local, Reads, ApplyAt, SidesAt, LocalAt, ConstantAt, DisplayAt, ComprehensionAt, GathersAt, GatherAt, step_of, within, count, AllNamed, HasExpr, HasExprs, HasSides, HasTest, HasNegated, HasPairs, HasSubject, HasCondition, HasBind, HasItems, Stand}
 use Rattle.flow_stands.proofs.Worlds.{same}
 use Rattle.flow_stands.proofs.Lists.{pick}
 use Rattle.flow_stands.proofs.Core.{Place, place, env, env_push, IsBound, After, Fit, fit_on, Catches, Leads, stays, leads_on, enter, Runs, before, moved, seq, led, hold, loosen, here}
 use Rattle.flow_stands.proofs.Calls.{Any, Good, flow_place, gathered, IsOnward}
-use Rattle.flow_stands.proofs.Parts.{wide, land_first, land_result, land_at, jump_first, jump_and, land_store, catches_more, vals, stay_at, ReadBy, same_as, jumps, gives_on, acts}
+use Rattle.flow_stands.proofs.Parts.{wide, land_first, land_result, land_at, jump_first, jump_and, land_store, catches_more, vals, stay_at, ReadBy, Reading, same_as, jumps, gives_on, acts}
 use Rattle.flow_stands.proofs.Tests.{gives_value, meets, local_sim, constant_sim}
 use Rattle.flow_stands.proofs.Walks.{turns_sim}
 use Rattle.flow_stands.proofs.Forms.{test_place, local_reads, set_bound, not_is, ValueSim, ValuesSim, SidesSim, TestSim, NegatedSim, leaf_sim, last_sim, applied_sim, sides_sim, tests_sim, and_sim, or_sim, and_tests_sim, or_tests_sim, not_sim, not_tests_sim}
@@ -220,11 +220,11 @@ module _ (p : Program) (gs : Graphs) (named_if : Bool) (builtins : (k : ℕ) →
   abbrev ItemsSim : Scope → Targets → (ℕ → ℕ → ℕ → ℕ → ℕ → ℕ → Type 0) → Type 0
   ItemsSim sc parts Items =
       (m at k i b q : ℕ) (held before behind : List Value) (R : ℕ → State → Place) → Keep m sc held R → (s : State) → Fit (suc top) n s → (v : Value)
-      → held ≡ before ++ (v ∷ behind) → n + length before ≡ at → (named_if ≡ true → AllNamed parts) → Items k i at b m q
+      → held ≡ before ++ (v ∷ behind) → n + length before ≡ at → (named_if ≡ true → AllNamed parts) → Items k i at m b q
       → F (at_place (place b (env s held)) s.world) held s (stay_at q held) R Any (bind_parts p unwatched prev sc.covers k i parts v s)
 
   parts_sim : (sc : Scope) (parts : Targets) (Items : ℕ → ℕ → ℕ → ℕ → ℕ → ℕ → Type 0) → ItemsSim sc parts Items
-      → BindSim sc (Parts parts) (λ at m keep b q. (k l : ℕ) × Acts p gs named_if f n sc b row.Copy (at ∷ []) m (first k m) × Items (target_count parts) 0 at k m l × Is p gs named_if f n l m (Go (first q keep)) × (named_if ≡ true → AllNamed parts))
+      → BindSim sc (Parts parts) (λ at m keep b q. (k l : ℕ) × Acts p gs named_if f n sc b row.Copy (at ∷ []) m (first k m) × Items (target_count parts) 0 at m k l × Is p gs named_if f n l m (Go (first q keep)) × (named_if ≡ true → AllNamed parts))
   parts_sim sc parts Items sims m at keep b q held hs rest before behind R c s fit v is_v at_v is_hs at_hs has =
       moved p gs named_if f instead frs
       (gives_on p gs named_if builtins stand prev top good f n instead frs m sc held R c s fit held [] (sym (append-nil held)) b m row.Copy (at ∷ []) (first has.0 m) (v ∷ []) has.2 (omega arith)
@@ -235,7 +235,7 @@ module _ (p : Program) (gs : Graphs) (named_if : Bool) (builtins : (k : ℕ) →
       (jumps p gs named_if builtins stand prev top good f n instead frs has.1 m (first q keep) held t (env t hs) has.4 (wide n t fit_t.long held ∙ c.all) (jump_first n t fit_t.long held hs rest keep is_hs at_hs), tt)))
 
   items_sim : (sc : Scope) (t : Target) (ts : Targets) (Bind : ℕ → ℕ → ℕ → ℕ → ℕ → Type 0) (Items : ℕ → ℕ → ℕ → ℕ → ℕ → ℕ → Type 0) → BindSim sc t Bind → ItemsSim sc ts Items
-      → ItemsSim sc (more_targets t ts) (λ k i at b m q. (j l : ℕ) × Acts p gs named_if f n sc b (row.Unpack k i) (at ∷ []) m (first_and j m m) × Bind m (m + 1) m j l × Items k (suc i) at l m q)
+      → ItemsSim sc (more_targets t ts) (λ k i at m b q. (j l : ℕ) × Acts p gs named_if f n sc b (row.Unpack k i) (at ∷ []) m (first_and j m m) × Bind m (m + 1) m j l × Items k (suc i) at m l q)
   items_sim sc target ts Bind Items sim sims m at k i b q held before behind R c s fit v is_v at_v nm has =
       seq p gs named_if f instead frs
       (acts p gs named_if builtins stand prev top good f n instead frs m sc held R c s fit held [] (sym (append-nil held)) b m (row.Unpack k i) (at ∷ []) (first_and has.0 m m) (v ∷ []) has.2 (omega arith)
@@ -338,24 +338,28 @@ module _ (p : Program) (gs : Graphs) (named_if : Bool) (builtins : (k : ℕ) →
 
   -- ---- all expressions
 
+  read_one : (a : Expr) (t : State) → ((i : ℕ) → Reads a i → IsBound t.locals i) → (i : ℕ) → is_local a i ⊎ ⊥ → IsBound t.locals i
+  read_one a t reads i (inl h) = reads i (local_reads a i h)
+  read_one a t reads i (inr h) = absurd h
+
   no_sides : (B : Type 0) (sc : Scope) (e : Expr) → SidesSim p gs named_if builtins stand prev top good f n instead frs B sc e (λ b m c q. ⊥)
   no_sides B sc e m b c q held R k s fit has D K go = absurd has
 
   apply_sim : (sc : Scope) (o : RowOp) (es : Exprs) → ValuesSim p gs named_if builtins stand prev top good f n instead frs sc es (HasExprs p gs named_if f n sc es) → NegatedSim p gs named_if builtins stand prev top good f n instead frs sc es (HasNegated p gs named_if f n sc es)
-      → VSim sc (Apply o es) (ApplyAt p gs named_if f n sc o es (HasExprs p gs named_if f n sc es) (HasNegated p gs named_if f n sc es))
+      → VSim sc (Apply o es) (ApplyAt p gs named_if f n sc o (count es) (HasExprs p gs named_if f n sc es) (HasNegated p gs named_if f n sc es))
   apply_sim sc o es sims negated m b q held R c s fit (inl has) =
       applied_sim p gs named_if builtins stand prev top good f n instead frs sc o es (HasExprs p gs named_if f n sc es) sims m b q held R c s fit has
-  apply_sim sc o es sims negated m b q held R c s fit (inr (e, bare, has)) =
+  apply_sim sc o es sims negated m b q held R c s fit (inr (e, has)) =
       subst (λ o. F (at_place (place b (env s held)) s.world) held s (vals q held) R (ReadBy (Apply o es)) (value p unwatched prev sc.covers (Apply o es) s)) (sym e)
-      (not_sim p gs named_if builtins stand prev top good f n instead frs sc es (HasNegated p gs named_if f n sc es) negated bare m b q held R c s fit has)
+      (not_sim p gs named_if builtins stand prev top good f n instead frs sc es (HasNegated p gs named_if f n sc es) negated m b q held R c s fit has)
 
   apply_tests_sim : (sc : Scope) (o : RowOp) (es : Exprs) → ValuesSim p gs named_if builtins stand prev top good f n instead frs sc es (HasExprs p gs named_if f n sc es) → NegatedSim p gs named_if builtins stand prev top good f n instead frs sc es (HasNegated p gs named_if f n sc es)
       → TSim sc (Apply o es) (HasTest p gs named_if f n sc (Apply o es))
   apply_tests_sim sc o es sims negated m b so other held R c s fit (inl has) =
-      tests_sim p gs named_if builtins stand prev top good f n instead frs sc (Apply o es) (ApplyAt p gs named_if f n sc o es (HasExprs p gs named_if f n sc es) (HasNegated p gs named_if f n sc es)) (SidesAt p gs named_if f n sc o (count es) (HasExprs p gs named_if f n sc es))
+      tests_sim p gs named_if builtins stand prev top good f n instead frs sc (Apply o es) (ApplyAt p gs named_if f n sc o (count es) (HasExprs p gs named_if f n sc es) (HasNegated p gs named_if f n sc es)) (SidesAt p gs named_if f n sc o (count es) (HasExprs p gs named_if f n sc es))
       (apply_sim sc o es sims negated) (sides_sim p gs named_if builtins stand prev top good f n instead frs Bool sc o es (HasExprs p gs named_if f n sc es) sims) m b so other held R c s fit has
   apply_tests_sim sc o es sims negated m b so other held R c s fit (inr (e, has)) =
-      subst (λ o. F (at_place (place b (env s held)) s.world) held s (test_place so other held) R Any (then_go (value p unwatched prev sc.covers (Apply o es) s) is_so)) (sym e)
+      subst (λ o. F (at_place (place b (env s held)) s.world) held s (test_place so other held) R (Reading (Apply o es)) (then_go (value p unwatched prev sc.covers (Apply o es) s) is_so)) (sym e)
       (not_tests_sim p gs named_if builtins stand prev top good f n instead frs sc es (HasNegated p gs named_if f n sc es) negated m b so other held R c s fit has)
 
   mutual
@@ -406,7 +410,8 @@ module _ (p : Program) (gs : Graphs) (named_if : Bool) (builtins : (k : ℕ) →
 
     sim_negated : (sc : Scope) (es : Exprs) → NegatedSim p gs named_if builtins stand prev top good f n instead frs sc es (HasNegated p gs named_if f n sc es)
     sim_negated sc none m b so other held R c s fit has = absurd has
-    sim_negated sc (more a none) m b so other held R c s fit has = (sim_test sc a m b so other held R c s fit has, not_is p prev sc.covers a s)
+    sim_negated sc (more a none) m b so other held R c s fit has =
+        (led p gs named_if f instead frs (sim_test sc a m b so other held R c s fit has) (λ go t after reads. (stays p gs named_if, λ i h. read_one a t reads i h)), not_is p prev sc.covers a s)
     sim_negated sc (more a (more e es)) m b so other held R c s fit has = absurd has
 
     sim_pairs : (sc : Scope) (ps : Pairs) → PairsSim sc ps (HasPairs p gs named_if f n sc ps)
@@ -423,7 +428,7 @@ module _ (p : Program) (gs : Graphs) (named_if : Bool) (builtins : (k : ℕ) →
     pub sim_condition : (sc : Scope) (condition : Condition) → ConditionSim sc condition (HasCondition p gs named_if f n sc condition)
     sim_condition sc Always m b so other held R c s fit has =
         here p gs named_if f instead frs (same_as p gs named_if builtins stand prev top good f n instead frs (place b (env s held)) (place so (env s held)) s.world (ap (λ k. place k (env s held)) has)) tt
-    sim_condition sc (Where e) m b so other held R c s fit has = sim_test sc e m b so other held R c s fit has
+    sim_condition sc (Where e) m b so other held R c s fit has = led p gs named_if f instead frs (sim_test sc e m b so other held R c s fit has) (λ go t after reads. (stays p gs named_if, tt))
 
     pub sim_bind : (sc : Scope) (target : Target) → BindSim sc target (HasBind p gs named_if f n sc target)
     sim_bind sc (Name i) m at keep b q held hs rest before behind R c s fit v is_v at_v is_hs at_hs has = name_sim sc i m at keep b q held hs rest before behind R c s fit v is_v at_v is_hs at_hs has

@@ -37,7 +37,7 @@
 --             while isinstance(x, C):
 --                 x = None
 --         return {1: x, 2: y}
-use Rattle.std.proofs.Common.{◌≡◌, ℕ, List, [], ◌∷◌, Bool, true, false, ◌⊎◌, inl, inr, Option, Some, None, refl, sym, ap, ◌∙◌, arith, codes}
+use Rattle.std.proofs.Common.{◌≡◌, ℕ, List, [], ◌∷◌, Bool, true, false, inl, inr, Option, Some, None, refl, sym, ap, ◌∙◌, arith, codes}
 use Rattle.std.specs.Prelude.{pos}
 use Rattle.rpy_tree.specs.declared.program.Const as Const
 use Rattle.rpy_tree.specs.declared.program.Const.TheVariants as const
@@ -87,10 +87,6 @@ five = ap (constant []) (sym (views.rolls-Word (pos 5))) ∙ Const.fold-roll-Con
 
 nothing : constant [] const.None ≡ Nothing
 nothing = ap (constant []) (sym views.rolls-None) ∙ Const.fold-roll-Const Value (constant_step []) Const-F.None
-
-nowhere : ⊥ ⊎ ⊥ → ⊥
-nowhere (inl x) = x
-nowhere (inr x) = x
 
 body : Block
 body = (line (Assign (more_targets (Name 2) no_targets) (Comprehension 1 (Apply (row.Binary bin.Mul (Some 1)) (more (Local 3) (more (Apply (row.Word (pos 2)) none) none))) (Name 3) (Over 2 (Local 0)) (Where (Apply (row.Compare cmp.Gt) (more (Local 3) (more (Apply (row.Word (pos 1)) none) none)))))) (line (For (Name 4) (Over 2 (Local 1)) (line (Augment (Item (Local 1) (Local 4)) row.AddTo (Apply (row.Word (pos 1)) none)) done)) (line (For (Parts (more_targets (Name 5) (more_targets (Name 6) no_targets))) (Over 2 (Local 0)) (line (If (And (Local 5) (Apply row.Not (more (Or (Local 6) (Local 5)) none))) (line Continue done) (line Break done)) done)) (line (Assign (more_targets (Name 7) no_targets) (Apply (row.New 13) (more (Constant (Word (pos 5))) none))) (line (Augment (Attribute (Local 7) (codes "x")) (row.Binary bin.Sub None) (Apply (row.Word (pos 1)) none)) (line (Assign (more_targets (Parts (more_targets (Attribute (Local 7) (codes "x")) (more_targets (Item (Local 2) (Apply (row.Word (pos 0)) none)) no_targets))) no_targets) (Local 0)) (line (Assign (more_targets (Name 8) no_targets) (Or (Local 5) (Local 6))) (line (Assign (more_targets (Name 9) no_targets) (Apply row.Not (more (And (Local 5) (Local 6)) none))) (line (Try (line (Assign (more_targets (Name 8) no_targets) (Apply (row.Index (Some (pos 7))) (more (Local 2) (more (Apply (row.Word (pos 7)) none) none)))) done) (clause (Some (6 ∷ 7 ∷ [])) (Some 10) (line (Assign (more_targets (Name 9) no_targets) (Constant Nothing)) done) (clause (Some (8 ∷ [])) None (line (Do (Apply row.DeleteIndex (more (Local 2) (more (Apply (row.Word (pos 0)) none) none)))) done) (clause None None (line Pass done) no_clauses))) (line (Assign (more_targets (Name 8) no_targets) (Apply (row.Word (pos 1)) none)) done)) (line (For (Name 3) (FromTo (Apply (row.Word (pos 2)) none) (Local 5) (pos 3)) (line Pass done)) (line (For (Name 3) (UpTo (Local 5)) (line (If (Apply (row.Compare cmp.Lt) (more (Local 3) (more (Local 6) none))) done (line (Do (Apply row.Raise (more (Apply (row.New 10) none) none))) done)) done)) (line (If (Apply (row.Compare cmp.IsNot) (more (Local 9) (more (Constant Nothing) none))) (line (Return (Local 8)) done) done) (line (Assign (more_targets (Name 11) (more_targets (Item (Local 1) (Apply (row.Word (pos 1)) none)) no_targets)) (Apply (row.Method (codes "get") None) (more (Local 7) none))) (line (Finally (line (Do (Apply row.Raise (more (Local 7) none))) done) (line (While (Apply (row.IsInstance 13) (more (Local 11) none)) (line (Assign (more_targets (Name 11) no_targets) (Constant Nothing)) done)) done)) (line (Return (Display 1 (pair (Apply (row.Word (pos 1)) none) (Local 11) (pair (Apply (row.Word (pos 2)) none) (Local 8) no_pairs)))) done)))))))))))))))
@@ -350,4 +346,4 @@ graphs = record {
 stands : HasFunction program graphs false 0 function
 unfolding body function program graphs
 stands =
-    (236, omega arith, (0, 0, false, refl), (12, 0, false, refl), (13, 0, false, refl), (14, 0, false, refl), (14, 0, false, refl), (236, 213, 213, refl, (214, (235, 215, 228, (3405, 0, false, refl), (234, 233, (omega arith, (3391, 0, false, refl)), (3376, 0, false, refl), (3361, 0, false, refl)), (227, 226, 216, (232, 231, 230, 229, (3059, 0, false, refl), (3345, 0, false, refl), (3329, 0, false, refl), (3313, 0, false, refl), (3297, 0, false, refl), (3074, 0, false, refl)), (omega arith, (3266, 0, false, refl)), (220, 217, inl (inr (223, 2, (refl, (224, (225, (omega arith, (3250, 0, false, refl)), (224, inl (225, refl, (3233, 0, false, refl)), refl)), (3215, 0, false, refl))), (222, (first 221 18), (first 216 15), (3196, 0, false, refl), (3177, 0, false, refl), inr (221, 3, row.NonNegative, 3 ∷ 16 ∷ [], refl, omega arith, (inl refl), inr (16, refl, omega arith, omega arith, λ x y w. refl), (3158, 0, false, refl), refl), inl refl))), inl (218, (219, (omega arith, (3142, 0, false, refl)), (218, inl (219, refl, (3125, 0, false, refl)), refl)), (3107, 0, false, refl)), (3090, 0, false, refl))), (3283, 0, false, refl)), (omega arith, (3045, 0, false, refl))), refl, (213, 197, 197, refl, (198, (212, 211, (omega arith, (3032, 0, false, refl)), (3018, 0, false, refl), (3004, 0, false, refl)), (206, 205, 199, (210, 209, 208, 207, (2796, 0, false, refl), (2989, 0, false, refl), (2974, 0, false, refl), (2959, 0, false, refl), (2944, 0, false, refl), (2810, 0, false, refl)), (omega arith, (2928, 0, false, refl)), (205, 199, 199, refl, (204, 203, 202, 201, 200, (omega arith, (2913, 0, false, refl)), (omega arith, (2897, 0, false, refl)), (2880, 0, false, refl), inl (202, refl, (2862, 0, false, refl)), (2843, 0, false, refl), (2825, 0, false, refl)), refl, refl))), refl, (197, 165, 165, refl, (166, (196, 195, (omega arith, (2783, 0, false, refl)), (2769, 0, false, refl), (2755, 0, false, refl)), (190, 184, 167, (194, 193, 192, 191, (2304, 0, false, refl), (2740, 0, false, refl), (2725, 0, false, refl), (2710, 0, false, refl), (2695, 0, false, refl), (2318, 0, false, refl)), (189, 185, (2679, 0, false, refl), (188, 187, (2663, 0, false, refl), (omega arith, (2646, 0, false, refl)), (186, 185, (2630, 0, false, refl), (omega arith, (2613, 0, false, refl)), refl)), (2598, 0, false, refl), tt), (184, 167, 167, refl, (169, 168, (179, inl (183, (omega arith, (2583, 0, false, refl)), (182, (first 180 15), (first 181 15), (2567, 0, false, refl), (2551, 0, false, refl), inr (180, 5, row.DropNone, 5 ∷ [], refl, omega arith, refl, inl (refl, λ x w. refl), (2519, 0, false, refl), refl), inr (181, 5, row.FalseNone, 5 ∷ [], refl, omega arith, refl, inl (refl, λ x w. refl), (2535, 0, false, refl), refl))), inr (refl, (174, inl (178, (omega arith, (2504, 0, false, refl)), (177, (first 175 15), (first 176 15), (2488, 0, false, refl), (2472, 0, false, refl), inr (175, 6, row.DropNone, 6 ∷ [], refl, omega arith, refl, inl (refl, λ x w. refl), (2440, 0, false, refl), refl), inr (176, 6, row.FalseNone, 6 ∷ [], refl, omega arith, refl, inl (refl, λ x w. refl), (2456, 0, false, refl), refl))), inl (173, (omega arith, (2425, 0, false, refl)), (172, (first 170 15), (first 171 15), (2409, 0, false, refl), (2393, 0, false, refl), inr (170, 5, row.DropNone, 5 ∷ [], refl, omega arith, refl, inl (refl, λ x w. refl), (2361, 0, false, refl), refl), inr (171, 5, row.FalseNone, 5 ∷ [], refl, omega arith, refl, inl (refl, λ x w. refl), (2377, 0, false, refl), refl)))))), (169, 167, 167, refl, (2347, 0, false, refl), refl, refl), (168, 167, 167, refl, (2333, 0, false, refl), refl, refl)), refl, refl))), refl, (165, 162, 162, refl, (163, inl (164, (164, (const.Word (pos 5), five, (2291, 0, false, refl)), refl), (2277, 0, false, refl)), (omega arith, (2263, 0, false, refl))), refl, (162, 157, 157, refl, (161, 160, 159, 158, (omega arith, (2250, 0, false, refl)), (2236, 0, false, refl), inl (160, refl, (2221, 0, false, refl)), (2205, 0, false, refl), (2190, 0, false, refl)), refl, (157, 147, 147, refl, (156, (omega arith, (2177, 0, false, refl)), (155, 148, (2163, 0, false, refl), (154, 152, (2149, 0, false, refl), (153, (omega arith, (2134, 0, false, refl)), (2118, 0, false, refl)), (151, 148, (2104, 0, false, refl), (150, 149, (omega arith, (2089, 0, false, refl)), inl (150, refl, (2073, 0, false, refl)), (2056, 0, false, refl)), refl)), (2043, 0, false, refl), tt)), refl, (147, 140, 140, refl, (141, (142, 143, (1961, 0, false, refl), (omega arith, (1975, 0, false, refl)), inl (146, (omega arith, (2030, 0, false, refl)), (145, (first_and 142 12 12), (first 144 13), (2016, 0, false, refl), (2002, 0, false, refl), inl refl, inr (144, 5, row.FalseNone, 5 ∷ [], refl, omega arith, refl, inl (refl, λ x w. refl), (1988, 0, false, refl), refl)))), (omega arith, (1947, 0, false, refl))), refl, (140, 126, 126, refl, (127, inr (refl, λ i x. nowhere x, (128, 130, 129, (1769, 0, false, refl), (1783, 0, false, refl), (1796, 0, false, refl), (135, inl (139, (omega arith, (1934, 0, false, refl)), (138, (first 136 13), (first 137 13), (1920, 0, false, refl), (1906, 0, false, refl), inr (136, 5, row.DropNone, 5 ∷ [], refl, omega arith, refl, inl (refl, λ x w. refl), (1878, 0, false, refl), refl), inr (137, 5, row.FalseNone, 5 ∷ [], refl, omega arith, refl, inl (refl, λ x w. refl), (1892, 0, false, refl), refl))), inl (134, (omega arith, (1865, 0, false, refl)), (133, (first 131 13), (first 132 13), (1851, 0, false, refl), (1837, 0, false, refl), inr (131, 6, row.DropNone, 6 ∷ [], refl, omega arith, refl, inl (refl, λ x w. refl), (1809, 0, false, refl), refl), inr (132, 6, row.FalseNone, 6 ∷ [], refl, omega arith, refl, inl (refl, λ x w. refl), (1823, 0, false, refl), refl)))))), (omega arith, (1755, 0, false, refl))), refl, (126, 111, 111, refl, (113, (record { class = 6; local = Some 10; aim = record { to = 115; keep = 12 } } ∷ record { class = 7; local = Some 10; aim = record { to = 115; keep = 12 } } ∷ record { class = 8; local = None; aim = record { to = 119; keep = 12 } } ∷ []), record { to = 120; keep = 12 }, (113, 111, 111, refl, (112, inl (113, refl, (1565, 0, false, refl)), (omega arith, (1551, 0, false, refl))), refl, refl), (115, (record { class = 8; local = None; aim = record { to = 119; keep = 12 } } ∷ []), omega arith, (115, 111, 111, refl, (114, (const.None, nothing, (1592, 0, false, refl)), (omega arith, (1578, 0, false, refl))), refl, refl), refl, (119, ([]), tt, (119, 111, 111, refl, (116, inl (117, (118, (omega arith, (1647, 0, false, refl)), (117, inl (118, refl, (1633, 0, false, refl)), refl)), (1618, 0, false, refl)), (1605, 0, false, refl)), refl, refl), refl, (111, 120, refl, refl, (111, 111, 111, refl, refl, refl, refl), (1660, 0, false, refl), refl))), (125, 121, 113, (1742, 0, false, refl), (122, inl (123, (124, (omega arith, (1729, 0, false, refl)), (123, inl (124, refl, (1715, 0, false, refl)), refl)), (1700, 0, false, refl)), (omega arith, (1686, 0, false, refl))), (1673, 0, false, refl), refl)), refl, (111, 101, 101, refl, (102, (110, 109, inl (111, refl, (1538, 0, false, refl)), (omega arith, (1524, 0, false, refl)), (1510, 0, false, refl)), (104, 103, 103, (108, 107, 106, 105, (1405, 0, false, refl), (1495, 0, false, refl), (1480, 0, false, refl), (1465, 0, false, refl), (1450, 0, false, refl), (1419, 0, false, refl)), (omega arith, (1434, 0, false, refl)), (103, 103, 103, refl, refl, refl, refl))), refl, (101, 82, 82, refl, (83, (100, (omega arith, (1392, 0, false, refl)), (1378, 0, false, refl)), (95, 94, 84, (99, 98, 97, 96, (1107, 0, false, refl), (1363, 0, false, refl), (1348, 0, false, refl), (1333, 0, false, refl), (1318, 0, false, refl), (1121, 0, false, refl)), (omega arith, (1302, 0, false, refl)), (94, 84, 84, refl, (84, 87, inl (inr (91, 2, (refl, (92, (93, (omega arith, (1287, 0, false, refl)), (92, (omega arith, (1271, 0, false, refl)), refl)), (1254, 0, false, refl))), (90, (first 88 17), (first 89 17), (1236, 0, false, refl), (1218, 0, false, refl), inr (88, 6, row.NonNegative, 6 ∷ 14 ∷ [], refl, omega arith, (inr (inl refl)), inr (14, refl, omega arith, omega arith, λ x y w. refl), (1182, 0, false, refl), refl), inr (89, 3, row.NonNegative, 3 ∷ 15 ∷ [], refl, omega arith, (inl refl), inr (15, refl, omega arith, omega arith, λ x y w. refl), (1200, 0, false, refl), refl)))), refl, (87, 84, 84, refl, (85, inl (86, (86, inl (87, refl, (1167, 0, false, refl)), refl), (1151, 0, false, refl)), (1136, 0, false, refl)), refl, refl)), refl, refl))), refl, (82, 73, 73, refl, (75, 73, inl (inl (79, inl (80, (81, (omega arith, (1094, 0, false, refl)), (80, (const.None, nothing, (1080, 0, false, refl)), refl)), (1065, 0, false, refl)), (78, (first 76 13), (first 77 13), (1051, 0, false, refl), (1037, 0, false, refl), inr (76, 9, row.DropNone, 9 ∷ [], refl, omega arith, (inl refl), inl (refl, λ x w. refl), (1009, 0, false, refl), refl), inr (77, 9, row.OnlyNone, 9 ∷ [], refl, omega arith, (inl refl), inl (refl, λ x w. refl), (1023, 0, false, refl), refl)))), (75, 73, 73, refl, (74, (omega arith, (996, 0, false, refl)), (983, 0, false, refl)), refl, refl), refl), refl, (73, 67, 67, refl, (71, inl (72, (72, (omega arith, (970, 0, false, refl)), refl), (956, 0, false, refl)), (70, (omega arith, (942, 0, false, refl)), (69, 68, (omega arith, (928, 0, false, refl)), inl (69, refl, (913, 0, false, refl)), (897, 0, false, refl)))), refl, (67, 13, 13, refl, (14, 24, 34, 44, 54, 23, 33, 43, 53, (14, 13, 13, refl, (22, 17, 16, (157, 0, false, refl), inl (inl (20, inl (21, (21, (omega arith, (265, 0, false, refl)), refl), (251, 0, false, refl)), (19, (first 18 13), (first 13 12), (237, 0, false, refl), (223, 0, false, refl), inr (18, 11, (row.Lower 13), 11 ∷ [], refl, omega arith, (inl refl), inl (refl, λ x w. refl), (209, 0, false, refl), refl), inl refl))), (196, 0, false, refl), (16, 14, 14, refl, (15, (const.None, nothing, (183, 0, false, refl)), (omega arith, (169, 0, false, refl))), refl, refl)), refl, refl), (24, 23, 23, refl, (32, 27, 26, (290, 0, false, refl), inl (inl (30, inl (31, (31, (omega arith, (398, 0, false, refl)), refl), (384, 0, false, refl)), (29, (first 28 13), (first 23 12), (370, 0, false, refl), (356, 0, false, refl), inr (28, 11, (row.Lower 13), 11 ∷ [], refl, omega arith, (inl refl), inl (refl, λ x w. refl), (342, 0, false, refl), refl), inl refl))), (329, 0, false, refl), (26, 24, 24, refl, (25, (const.None, nothing, (316, 0, false, refl)), (omega arith, (302, 0, false, refl))), refl, refl)), refl, refl), (278, 0, false, refl), (34, 33, 33, refl, (42, 37, 36, (423, 0, false, refl), inl (inl (40, inl (41, (41, (omega arith, (531, 0, false, refl)), refl), (517, 0, false, refl)), (39, (first 38 13), (first 33 12), (503, 0, false, refl), (489, 0, false, refl), inr (38, 11, (row.Lower 13), 11 ∷ [], refl, omega arith, (inl refl), inl (refl, λ x w. refl), (475, 0, false, refl), refl), inl refl))), (462, 0, false, refl), (36, 34, 34, refl, (35, (const.None, nothing, (449, 0, false, refl)), (omega arith, (435, 0, false, refl))), refl, refl)), refl, refl), (411, 0, false, refl), (44, 43, 43, refl, (52, 47, 46, (557, 0, false, refl), inl (inl (50, inl (51, (51, (omega arith, (673, 0, false, refl)), refl), (658, 0, false, refl)), (49, (first 48 14), (first 43 13), (643, 0, false, refl), (628, 0, false, refl), inr (48, 11, (row.Lower 13), 11 ∷ [], refl, omega arith, (inl refl), inl (refl, λ x w. refl), (613, 0, false, refl), refl), inl refl))), (599, 0, false, refl), (46, 44, 44, refl, (45, (const.None, nothing, (585, 0, false, refl)), (omega arith, (570, 0, false, refl))), refl, refl)), refl, refl), (544, 0, false, refl), (54, 53, 53, refl, (62, 57, 56, (701, 0, false, refl), inl (inl (60, inl (61, (61, (omega arith, (817, 0, false, refl)), refl), (802, 0, false, refl)), (59, (first 58 14), (first 53 13), (787, 0, false, refl), (772, 0, false, refl), inr (58, 11, (row.Lower 13), 11 ∷ [], refl, omega arith, (inl refl), inl (refl, λ x w. refl), (757, 0, false, refl), refl), inl refl))), (743, 0, false, refl), (56, 54, 54, refl, (55, (const.None, nothing, (729, 0, false, refl)), (omega arith, (714, 0, false, refl))), refl, refl)), refl, refl), (687, 0, false, refl), (66, 63, 14, (884, 0, false, refl), (64, inl (65, (65, (omega arith, (871, 0, false, refl)), refl), (857, 0, false, refl)), (844, 0, false, refl)), (831, 0, false, refl), refl)), refl, (13, 4, 4, refl, (5, (12, 6, (144, 0, false, refl), (11, 10, 9, inl (12, refl, (130, 0, false, refl)), (omega arith, (115, 0, false, refl)), (99, 0, false, refl), (8, 7, 6, inl (9, refl, (85, 0, false, refl)), (omega arith, (70, 0, false, refl)), (54, 0, false, refl), refl)), (40, 0, false, refl)), (27, 0, false, refl)), refl, refl))))))))))))))))
+    (236, omega arith, (0, 0, false, refl), (12, 0, false, refl), (13, 0, false, refl), (14, 0, false, refl), (14, 0, false, refl), (236, 213, 213, refl, (214, (235, 215, 228, (3405, 0, false, refl), (234, 233, (omega arith, (3391, 0, false, refl)), (3376, 0, false, refl), (3361, 0, false, refl)), (227, 226, 216, (232, 231, 230, 229, (3059, 0, false, refl), (3345, 0, false, refl), (3329, 0, false, refl), (3313, 0, false, refl), (3297, 0, false, refl), (3074, 0, false, refl)), (omega arith, (3266, 0, false, refl)), (220, 217, inl (inr (223, 2, (refl, (224, (225, (omega arith, (3250, 0, false, refl)), (224, inl (225, refl, (3233, 0, false, refl)), refl)), (3215, 0, false, refl))), (222, (first 221 18), (first 216 15), (3196, 0, false, refl), (3177, 0, false, refl), inr (221, 3, row.NonNegative, 3 ∷ 16 ∷ [], refl, omega arith, (inl refl), inr (16, refl, omega arith, omega arith, λ x y w. refl), (3158, 0, false, refl), refl), inl refl))), inl (218, (219, (omega arith, (3142, 0, false, refl)), (218, inl (219, refl, (3125, 0, false, refl)), refl)), (3107, 0, false, refl)), (3090, 0, false, refl))), (3283, 0, false, refl)), (omega arith, (3045, 0, false, refl))), refl, (213, 197, 197, refl, (198, (212, 211, (omega arith, (3032, 0, false, refl)), (3018, 0, false, refl), (3004, 0, false, refl)), (206, 205, 199, (210, 209, 208, 207, (2796, 0, false, refl), (2989, 0, false, refl), (2974, 0, false, refl), (2959, 0, false, refl), (2944, 0, false, refl), (2810, 0, false, refl)), (omega arith, (2928, 0, false, refl)), (205, 199, 199, refl, (204, 203, 202, 201, 200, (omega arith, (2913, 0, false, refl)), (omega arith, (2897, 0, false, refl)), (2880, 0, false, refl), inl (202, refl, (2862, 0, false, refl)), (2843, 0, false, refl), (2825, 0, false, refl)), refl, refl))), refl, (197, 165, 165, refl, (166, (196, 195, (omega arith, (2783, 0, false, refl)), (2769, 0, false, refl), (2755, 0, false, refl)), (190, 184, 167, (194, 193, 192, 191, (2304, 0, false, refl), (2740, 0, false, refl), (2725, 0, false, refl), (2710, 0, false, refl), (2695, 0, false, refl), (2318, 0, false, refl)), (189, 185, (2679, 0, false, refl), (188, 187, (2663, 0, false, refl), (omega arith, (2646, 0, false, refl)), (186, 185, (2630, 0, false, refl), (omega arith, (2613, 0, false, refl)), refl)), (2598, 0, false, refl), tt), (184, 167, 167, refl, (169, 168, (179, inl (183, (omega arith, (2583, 0, false, refl)), (182, (first 180 15), (first 181 15), (2567, 0, false, refl), (2551, 0, false, refl), inr (180, 5, row.DropNone, 5 ∷ [], refl, omega arith, refl, inl (refl, λ x w. refl), (2519, 0, false, refl), refl), inr (181, 5, row.FalseNone, 5 ∷ [], refl, omega arith, refl, inl (refl, λ x w. refl), (2535, 0, false, refl), refl))), inr (refl, (174, inl (178, (omega arith, (2504, 0, false, refl)), (177, (first 175 15), (first 176 15), (2488, 0, false, refl), (2472, 0, false, refl), inr (175, 6, row.DropNone, 6 ∷ [], refl, omega arith, refl, inl (refl, λ x w. refl), (2440, 0, false, refl), refl), inr (176, 6, row.FalseNone, 6 ∷ [], refl, omega arith, refl, inl (refl, λ x w. refl), (2456, 0, false, refl), refl))), inl (173, (omega arith, (2425, 0, false, refl)), (172, (first 170 15), (first 171 15), (2409, 0, false, refl), (2393, 0, false, refl), inr (170, 5, row.DropNone, 5 ∷ [], refl, omega arith, refl, inl (refl, λ x w. refl), (2361, 0, false, refl), refl), inr (171, 5, row.FalseNone, 5 ∷ [], refl, omega arith, refl, inl (refl, λ x w. refl), (2377, 0, false, refl), refl)))))), (169, 167, 167, refl, (2347, 0, false, refl), refl, refl), (168, 167, 167, refl, (2333, 0, false, refl), refl, refl)), refl, refl))), refl, (165, 162, 162, refl, (163, inl (164, (164, (const.Word (pos 5), five, (2291, 0, false, refl)), refl), (2277, 0, false, refl)), (omega arith, (2263, 0, false, refl))), refl, (162, 157, 157, refl, (161, 160, 159, 158, (omega arith, (2250, 0, false, refl)), (2236, 0, false, refl), inl (160, refl, (2221, 0, false, refl)), (2205, 0, false, refl), (2190, 0, false, refl)), refl, (157, 147, 147, refl, (156, (omega arith, (2177, 0, false, refl)), (155, 148, (2163, 0, false, refl), (154, 152, (2149, 0, false, refl), (153, (omega arith, (2134, 0, false, refl)), (2118, 0, false, refl)), (151, 148, (2104, 0, false, refl), (150, 149, (omega arith, (2089, 0, false, refl)), inl (150, refl, (2073, 0, false, refl)), (2056, 0, false, refl)), refl)), (2043, 0, false, refl), tt)), refl, (147, 140, 140, refl, (141, (142, 143, (1961, 0, false, refl), (omega arith, (1975, 0, false, refl)), inl (146, (omega arith, (2030, 0, false, refl)), (145, (first_and 142 12 12), (first 144 13), (2016, 0, false, refl), (2002, 0, false, refl), inl refl, inr (144, 5, row.FalseNone, 5 ∷ [], refl, omega arith, refl, inl (refl, λ x w. refl), (1988, 0, false, refl), refl)))), (omega arith, (1947, 0, false, refl))), refl, (140, 126, 126, refl, (127, inr (refl, (128, 130, 129, (1769, 0, false, refl), (1783, 0, false, refl), (1796, 0, false, refl), (135, inl (139, (omega arith, (1934, 0, false, refl)), (138, (first 136 13), (first 137 13), (1920, 0, false, refl), (1906, 0, false, refl), inr (136, 5, row.DropNone, 5 ∷ [], refl, omega arith, refl, inl (refl, λ x w. refl), (1878, 0, false, refl), refl), inr (137, 5, row.FalseNone, 5 ∷ [], refl, omega arith, refl, inl (refl, λ x w. refl), (1892, 0, false, refl), refl))), inl (134, (omega arith, (1865, 0, false, refl)), (133, (first 131 13), (first 132 13), (1851, 0, false, refl), (1837, 0, false, refl), inr (131, 6, row.DropNone, 6 ∷ [], refl, omega arith, refl, inl (refl, λ x w. refl), (1809, 0, false, refl), refl), inr (132, 6, row.FalseNone, 6 ∷ [], refl, omega arith, refl, inl (refl, λ x w. refl), (1823, 0, false, refl), refl)))))), (omega arith, (1755, 0, false, refl))), refl, (126, 111, 111, refl, (113, (record { class = 6; local = Some 10; aim = record { to = 115; keep = 12 } } ∷ record { class = 7; local = Some 10; aim = record { to = 115; keep = 12 } } ∷ record { class = 8; local = None; aim = record { to = 119; keep = 12 } } ∷ []), record { to = 120; keep = 12 }, (113, 111, 111, refl, (112, inl (113, refl, (1565, 0, false, refl)), (omega arith, (1551, 0, false, refl))), refl, refl), (115, (record { class = 8; local = None; aim = record { to = 119; keep = 12 } } ∷ []), omega arith, (115, 111, 111, refl, (114, (const.None, nothing, (1592, 0, false, refl)), (omega arith, (1578, 0, false, refl))), refl, refl), refl, (119, ([]), tt, (119, 111, 111, refl, (116, inl (117, (118, (omega arith, (1647, 0, false, refl)), (117, inl (118, refl, (1633, 0, false, refl)), refl)), (1618, 0, false, refl)), (1605, 0, false, refl)), refl, refl), refl, (111, 120, refl, refl, (111, 111, 111, refl, refl, refl, refl), (1660, 0, false, refl), refl))), (125, 121, 113, (1742, 0, false, refl), (122, inl (123, (124, (omega arith, (1729, 0, false, refl)), (123, inl (124, refl, (1715, 0, false, refl)), refl)), (1700, 0, false, refl)), (omega arith, (1686, 0, false, refl))), (1673, 0, false, refl), refl)), refl, (111, 101, 101, refl, (102, (110, 109, inl (111, refl, (1538, 0, false, refl)), (omega arith, (1524, 0, false, refl)), (1510, 0, false, refl)), (104, 103, 103, (108, 107, 106, 105, (1405, 0, false, refl), (1495, 0, false, refl), (1480, 0, false, refl), (1465, 0, false, refl), (1450, 0, false, refl), (1419, 0, false, refl)), (omega arith, (1434, 0, false, refl)), (103, 103, 103, refl, refl, refl, refl))), refl, (101, 82, 82, refl, (83, (100, (omega arith, (1392, 0, false, refl)), (1378, 0, false, refl)), (95, 94, 84, (99, 98, 97, 96, (1107, 0, false, refl), (1363, 0, false, refl), (1348, 0, false, refl), (1333, 0, false, refl), (1318, 0, false, refl), (1121, 0, false, refl)), (omega arith, (1302, 0, false, refl)), (94, 84, 84, refl, (84, 87, inl (inr (91, 2, (refl, (92, (93, (omega arith, (1287, 0, false, refl)), (92, (omega arith, (1271, 0, false, refl)), refl)), (1254, 0, false, refl))), (90, (first 88 17), (first 89 17), (1236, 0, false, refl), (1218, 0, false, refl), inr (88, 6, row.NonNegative, 6 ∷ 14 ∷ [], refl, omega arith, (inr (inl refl)), inr (14, refl, omega arith, omega arith, λ x y w. refl), (1182, 0, false, refl), refl), inr (89, 3, row.NonNegative, 3 ∷ 15 ∷ [], refl, omega arith, (inl refl), inr (15, refl, omega arith, omega arith, λ x y w. refl), (1200, 0, false, refl), refl)))), refl, (87, 84, 84, refl, (85, inl (86, (86, inl (87, refl, (1167, 0, false, refl)), refl), (1151, 0, false, refl)), (1136, 0, false, refl)), refl, refl)), refl, refl))), refl, (82, 73, 73, refl, (75, 73, inl (inl (79, inl (80, (81, (omega arith, (1094, 0, false, refl)), (80, (const.None, nothing, (1080, 0, false, refl)), refl)), (1065, 0, false, refl)), (78, (first 76 13), (first 77 13), (1051, 0, false, refl), (1037, 0, false, refl), inr (76, 9, row.DropNone, 9 ∷ [], refl, omega arith, (inl refl), inl (refl, λ x w. refl), (1009, 0, false, refl), refl), inr (77, 9, row.OnlyNone, 9 ∷ [], refl, omega arith, (inl refl), inl (refl, λ x w. refl), (1023, 0, false, refl), refl)))), (75, 73, 73, refl, (74, (omega arith, (996, 0, false, refl)), (983, 0, false, refl)), refl, refl), refl), refl, (73, 67, 67, refl, (71, inl (72, (72, (omega arith, (970, 0, false, refl)), refl), (956, 0, false, refl)), (70, (omega arith, (942, 0, false, refl)), (69, 68, (omega arith, (928, 0, false, refl)), inl (69, refl, (913, 0, false, refl)), (897, 0, false, refl)))), refl, (67, 13, 13, refl, (14, 24, 34, 44, 54, 23, 33, 43, 53, (14, 13, 13, refl, (22, 17, 16, (157, 0, false, refl), inl (inl (20, inl (21, (21, (omega arith, (265, 0, false, refl)), refl), (251, 0, false, refl)), (19, (first 18 13), (first 13 12), (237, 0, false, refl), (223, 0, false, refl), inr (18, 11, (row.Lower 13), 11 ∷ [], refl, omega arith, (inl refl), inl (refl, λ x w. refl), (209, 0, false, refl), refl), inl refl))), (196, 0, false, refl), (16, 14, 14, refl, (15, (const.None, nothing, (183, 0, false, refl)), (omega arith, (169, 0, false, refl))), refl, refl)), refl, refl), (24, 23, 23, refl, (32, 27, 26, (290, 0, false, refl), inl (inl (30, inl (31, (31, (omega arith, (398, 0, false, refl)), refl), (384, 0, false, refl)), (29, (first 28 13), (first 23 12), (370, 0, false, refl), (356, 0, false, refl), inr (28, 11, (row.Lower 13), 11 ∷ [], refl, omega arith, (inl refl), inl (refl, λ x w. refl), (342, 0, false, refl), refl), inl refl))), (329, 0, false, refl), (26, 24, 24, refl, (25, (const.None, nothing, (316, 0, false, refl)), (omega arith, (302, 0, false, refl))), refl, refl)), refl, refl), (278, 0, false, refl), (34, 33, 33, refl, (42, 37, 36, (423, 0, false, refl), inl (inl (40, inl (41, (41, (omega arith, (531, 0, false, refl)), refl), (517, 0, false, refl)), (39, (first 38 13), (first 33 12), (503, 0, false, refl), (489, 0, false, refl), inr (38, 11, (row.Lower 13), 11 ∷ [], refl, omega arith, (inl refl), inl (refl, λ x w. refl), (475, 0, false, refl), refl), inl refl))), (462, 0, false, refl), (36, 34, 34, refl, (35, (const.None, nothing, (449, 0, false, refl)), (omega arith, (435, 0, false, refl))), refl, refl)), refl, refl), (411, 0, false, refl), (44, 43, 43, refl, (52, 47, 46, (557, 0, false, refl), inl (inl (50, inl (51, (51, (omega arith, (673, 0, false, refl)), refl), (658, 0, false, refl)), (49, (first 48 14), (first 43 13), (643, 0, false, refl), (628, 0, false, refl), inr (48, 11, (row.Lower 13), 11 ∷ [], refl, omega arith, (inl refl), inl (refl, λ x w. refl), (613, 0, false, refl), refl), inl refl))), (599, 0, false, refl), (46, 44, 44, refl, (45, (const.None, nothing, (585, 0, false, refl)), (omega arith, (570, 0, false, refl))), refl, refl)), refl, refl), (544, 0, false, refl), (54, 53, 53, refl, (62, 57, 56, (701, 0, false, refl), inl (inl (60, inl (61, (61, (omega arith, (817, 0, false, refl)), refl), (802, 0, false, refl)), (59, (first 58 14), (first 53 13), (787, 0, false, refl), (772, 0, false, refl), inr (58, 11, (row.Lower 13), 11 ∷ [], refl, omega arith, (inl refl), inl (refl, λ x w. refl), (757, 0, false, refl), refl), inl refl))), (743, 0, false, refl), (56, 54, 54, refl, (55, (const.None, nothing, (729, 0, false, refl)), (omega arith, (714, 0, false, refl))), refl, refl)), refl, refl), (687, 0, false, refl), (66, 63, 14, (884, 0, false, refl), (64, inl (65, (65, (omega arith, (871, 0, false, refl)), refl), (857, 0, false, refl)), (844, 0, false, refl)), (831, 0, false, refl), refl)), refl, (13, 4, 4, refl, (5, (12, 6, (144, 0, false, refl), (11, 10, 9, inl (12, refl, (130, 0, false, refl)), (omega arith, (115, 0, false, refl)), (99, 0, false, refl), (8, 7, 6, inl (9, refl, (85, 0, false, refl)), (omega arith, (70, 0, false, refl)), (54, 0, false, refl), refl)), (40, 0, false, refl)), (27, 0, false, refl)), refl, refl))))))))))))))))

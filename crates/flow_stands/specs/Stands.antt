@@ -171,8 +171,8 @@ module _ (p : Program) (gs : Graphs) (named : Bool) (f n : ℕ) where
       × Acts sc so (row.Bool false) [] m (first_and meet m m)
       × Test b m so other_way
 
-  abbrev pub ApplyAt : Scope → RowOp → Exprs → Place → (ℕ → ℕ → ℕ → ℕ → Type 0) → Place
-  ApplyAt sc o es Es Test b m q = AppliedAt sc o (count es) Es b m q ⊎ ((o ≡ row.Not) × ((i : ℕ) → some_is_local es i → ⊥) × NotAt sc Test b m q)
+  abbrev pub ApplyAt : Scope → RowOp → ℕ → Place → (ℕ → ℕ → ℕ → ℕ → Type 0) → Place
+  ApplyAt sc o c Es Test b m q = AppliedAt sc o c Es b m q ⊎ ((o ≡ row.Not) × NotAt sc Test b m q)
 
   -- the operands of an operation with its result behind them
   abbrev pub SidesAt : Scope → RowOp → ℕ → Place → ℕ → ℕ → ℕ → ℕ → Type 0
@@ -228,7 +228,7 @@ module _ (p : Program) (gs : Graphs) (named : Bool) (f n : ℕ) where
     pub HasExpr : Scope → Expr → Place
     HasExpr sc (Local i) b m q = LocalAt sc i b m q
     HasExpr sc (Constant v) b m q = ConstantAt sc v b m q
-    HasExpr sc (Apply o es) b m q = ApplyAt sc o es (HasExprs sc es) (HasNegated sc es) b m q
+    HasExpr sc (Apply o es) b m q = ApplyAt sc o (count es) (HasExprs sc es) (HasNegated sc es) b m q
     HasExpr sc (And a e) b m q = AndAt sc (Asks sc a (HasExpr sc a) (HasSides sc a)) (HasExpr sc e) b m q
     HasExpr sc (Or a e) b m q = OrAt sc (Asks sc a (HasExpr sc a) (HasSides sc a)) (HasExpr sc e) b m q
     HasExpr sc (Display site pairs) b m q = DisplayAt sc site (HasPairs sc pairs) b m q
@@ -249,7 +249,7 @@ module _ (p : Program) (gs : Graphs) (named : Bool) (f n : ℕ) where
     HasTest sc (And a e) b m so other_way = (k : ℕ) × HasTest sc a b m k other_way × HasTest sc e k m so other_way
     HasTest sc (Or a e) b m so other_way = (k : ℕ) × HasTest sc a b m so k × HasTest sc e k m so other_way
     HasTest sc (Apply o es) b m so other_way =
-        Asks sc (Apply o es) (ApplyAt sc o es (HasExprs sc es) (HasNegated sc es)) (SidesAt sc o (count es) (HasExprs sc es)) b m (plainly so) (plainly other_way)
+        Asks sc (Apply o es) (ApplyAt sc o (count es) (HasExprs sc es) (HasNegated sc es)) (SidesAt sc o (count es) (HasExprs sc es)) b m (plainly so) (plainly other_way)
         ⊎ ((o ≡ row.Not) × HasNegated sc es b m other_way so)
     HasTest sc (Local i) b m so other_way = Asks sc (Local i) (LocalAt sc i) (λ b m c q. ⊥) b m (plainly so) (plainly other_way)
     HasTest sc (Constant v) b m so other_way = Asks sc (Constant v) (ConstantAt sc v) (λ b m c q. ⊥) b m (plainly so) (plainly other_way)
@@ -302,18 +302,18 @@ module _ (p : Program) (gs : Graphs) (named : Bool) (f n : ℕ) where
     HasBind sc (Parts parts) value m keep b q =
         (k l : ℕ)
         × Acts sc b row.Copy (value ∷ []) m (first k m)
-        × HasItems sc parts (target_count parts) 0 value k m l
+        × HasItems sc parts (target_count parts) 0 value m k l
         × Is l m (Go (first q keep))
         × NamedIf named parts
 
     -- the targets from a place on take the items of the tuple at a place of the block
     pub HasItems : Scope → Targets → ℕ → ℕ → ℕ → Place
-    HasItems sc no_targets c i value b m q = b ≡ q
-    HasItems sc (more_targets t ts) c i value b m q =
+    HasItems sc no_targets c i value m b q = b ≡ q
+    HasItems sc (more_targets t ts) c i value m b q =
         (k l : ℕ)
         × Acts sc b (row.Unpack c i) (value ∷ []) m (first_and k m m)
         × HasBind sc t m (m + 1) m k l
-        × HasItems sc ts c (suc i) value l m q
+        × HasItems sc ts c (suc i) value m l q
 
   -- ---- statements
 
