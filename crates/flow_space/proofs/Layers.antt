@@ -25,6 +25,7 @@ use Rattle.rpy_resolved.specs.declared.tree.Stmt as code_stmt
 use Rattle.rpy_resolved.specs.declared.tree.Stmt.{Stmt}
 use Rattle.rpy_resolved.specs.declared.tree.Stmt.TheOpen.{Stmt-F}
 use Rattle.rpy_resolved.specs.declared.tree.Stmt.TheViews as stmt_views
+use Rattle.rpy_resolved.specs.declared.tree.Stmt.TheFolds as stmt_folds
 use Rattle.rpy_resolved.specs.declared.tree.Stmt.TheVariants as stmt
 use Rattle.flow_space.proofs.Sites.{constant_same}
 use Rattle.flow_space.specs.Programs.{value_in}
@@ -42,7 +43,6 @@ module _ (sites : List Site) where
   pub parts_count : (ts : List Target) → target_count (targets_of sites ts) ≡ length ts
   parts_count [] = refl
   parts_count (t ∷ ts) = omega (arith, parts_count ts)
-
 
   pub local_is : (n : ℕ) (i : ℕ) → expr_of sites (e.Local n i) ≡ tree.Local i
   local_is n i = ap (expr_of sites) (sym (views.rolls-Local n i)) ∙ code.fold-roll-Expr tree.Expr tree.Subject tree.Target (expr_step sites) (subject_step sites) (target_step sites) (Expr-F.Local n i)
@@ -124,7 +124,7 @@ module _ (sites : List Site) where
   finally_is n ss last = ap (stmt_of sites) (sym (stmt_views.rolls-Finally n ss last)) ∙ code_stmt.fold-roll-Stmt tree.Stmt Head (stmt_step sites) (clause_step sites) (Stmt-F.Finally n ss last)
 
   pub clause_is : (c : Clause) → clause_of sites c ≡ record { classes = heads c.bare c.classes; local = c.local; body = block_of sites c.body }
-  clause_is c = search rules
+  clause_is c = ap (clause_of sites) (sym (stmt_views.rolls-struct-Clause (record { node = c.node; bare = c.bare; classes = c.classes; local = c.local; body = c.body }))) ∙ stmt_folds.fold-roll-Clause tree.Stmt Head (stmt_step sites) (clause_step sites) (record { node = c.node; bare = c.bare; classes = c.classes; local = c.local; body = c.body })
 
 pub tried_covers : (r program : Resolved) (cs : List Clause) (around made : Covers) → r ≡ program
     → made ≡ covers_within (program_of program).classes (clauses_of program.sites cs) around

@@ -2,6 +2,7 @@
 pub mod Bases
 pub mod Counted
 pub mod Graphs
+pub mod Hands
 pub mod Items
 pub mod Layers
 pub mod Narrows

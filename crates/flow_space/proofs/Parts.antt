@@ -74,7 +74,7 @@ part_patch {old} {c1} {c2} {P} new base m k count to head y e2 =
       grows = (b ∷ more, new_is);
       stands = λ r gs f h. (
         subst (λ n. ShapeAt k n (Go (first to n)) r gs f) head.count_is
-        (base, 0, false, h k (omega (arith, at)) (omega (arith, l1, at)) ∙ ap (λ l. slice_get l k) new_is ∙ ap (slice_get (old ++ b ∷ more)) at ∙ get_seam old b more),
+            (base, 0, false, h k (omega (arith, at)) (omega (arith, l1, at)) ∙ ap (λ l. slice_get l k) new_is ∙ ap (slice_get (old ++ b ∷ more)) at ∙ get_seam old b more),
         y.stands r gs f (λ p le lt.
             let past : length old < p = omega (arith, l3, le) in
             h p (omega (arith, past)) (omega (arith, l1, l2, lt)) ∙ ap (λ l. slice_get l p) new_is ∙ get_other old b x more p past ∙ ap (λ l. slice_get l p) (sym c2_is)),

@@ -174,12 +174,7 @@ fn hand_jump(alloc: Global, hand: Hand, place: usize) -> Result<Jump, NoMem>
     }
 }
 
-fn hand_link(
-    alloc: Global,
-    base: VarId,
-    hand: Hand,
-    place: usize,
-) -> Result<(ClassId, Link), NoMem>
+fn hand_link(alloc: Global, base: VarId, hand: Hand, place: usize) -> Result<(ClassId, Link), NoMem>
     ensures { IfOk result (λ pair. pair ≡ (hand.class, link_of base (stored_if_any (aim_of hand.aim) hand.local place))) }
 {
     let jump = hand_jump(alloc, hand, place)?;
@@ -232,8 +227,8 @@ fn ops_of(
 
 impl Code {
     pub fn new(alloc: Global) -> Code
-    ensures { result ≡ record { blocks = []; next = 0 } }
-{
+        ensures { result ≡ record { blocks = []; next = 0 } }
+    {
         Code {
             blocks: Seq::new(alloc),
             next: 0,
@@ -324,13 +319,7 @@ impl Code {
     }
 
     /// A block with m inputs and one operation that cannot raise.
-    pub fn put_plain(
-        &mut self,
-        alloc: Global,
-        of: Act,
-        m: usize,
-        norm: Jump,
-    ) -> Result<u64, NoMem>
+    pub fn put_plain(&mut self, alloc: Global, of: Act, m: usize, norm: Jump) -> Result<u64, NoMem>
         ensures at { IfOk result (λ b. b ≡ length self.old.blocks) }
         ensures count { OnOk result (length self.new.blocks ≡ length self.old.blocks + 1) }
         ensures put { IfOk result (λ b. Part self.old.blocks self.new.blocks (ShapeAt b m (Plain of.op (jump_of norm)))) }

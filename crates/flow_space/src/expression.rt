@@ -935,7 +935,18 @@ fn put_parts(
 {
     let end = jump_first(alloc, norm, keep)?;
     let end = code.put_jump(alloc, m, end)?;
-    let begin = put_items(alloc, code, scope, node, parts, parts.len(), 0, value, m, end)?;
+    let begin = put_items(
+        alloc,
+        code,
+        scope,
+        node,
+        parts,
+        parts.len(),
+        0,
+        value,
+        m,
+        end,
+    )?;
     let args = one(alloc, value)?;
     let jump = jump_first(alloc, begin, m)?;
     code.put_op(alloc, scope, op_at(node, true, RowOp::Copy), args, m, jump)

@@ -193,9 +193,15 @@ fn none_test(a: &Expr, b: &Expr, truth: bool) -> Option<Narrowing>
             if !is_none(b) {
                 None
             } else if truth {
-                Some(Narrowing { kind: Kind::OnlyNone, local })
+                Some(Narrowing {
+                    kind: Kind::OnlyNone,
+                    local,
+                })
             } else {
-                Some(Narrowing { kind: Kind::DropNone, local })
+                Some(Narrowing {
+                    kind: Kind::DropNone,
+                    local,
+                })
             }
         }
     }
@@ -220,9 +226,15 @@ fn truth_test(local: u32, truth: bool) -> Option<Narrowing>
     ensures { IfSome result (λ says. says.local ≡ local) }
 {
     if truth {
-        Some(Narrowing { kind: Kind::DropNone, local })
+        Some(Narrowing {
+            kind: Kind::DropNone,
+            local,
+        })
     } else {
-        Some(Narrowing { kind: Kind::FalseNone, local })
+        Some(Narrowing {
+            kind: Kind::FalseNone,
+            local,
+        })
     }
 }
 
@@ -234,7 +246,10 @@ fn instance_test(class: u32, a: &Expr, truth: bool) -> Option<Narrowing>
         None => None,
         Some(local) => {
             if truth {
-                Some(Narrowing { kind: Kind::Lower(class), local })
+                Some(Narrowing {
+                    kind: Kind::Lower(class),
+                    local,
+                })
             } else {
                 None
             }

@@ -6,9 +6,7 @@ ghost use Rattle.flow_stands.specs.Stands as stands;
 ghost use Rattle.flow_space.specs.Placed.{Part, ShapeAt, ActsAt, MarkAt, ReturnAt, DoAt, BindsAt, AssignAt, NewAt, AugmentNameAt, AugmentAttrAt, AugmentItemAt, AugmentAt, SimpleAt, StmtAt, BlockAt, IfAt, WhileAt, ForAt, TryAt, FinallyAt, LeftAt, RaisedAt, ClausesAt, aim_of, hands_of};
 
 use crate::NEVER;
-use crate::code::{
-    Aim, Code, Hand, Scope, jump_and, jump_first, jump_stored, local_place, op_at,
-};
+use crate::code::{Aim, Code, Hand, Scope, jump_and, jump_first, jump_stored, local_place, op_at};
 use crate::copy::copy_op;
 use crate::covers::covers_of;
 use crate::expression::{put_bind, put_expr, put_subject, put_test};
@@ -498,7 +496,28 @@ fn put_bare(
     }
 }
 
-// Nothing comes after a bare clause.
+// The hands of a clause before those of others.
+fn with_clause(
+    alloc: Global,
+    scope: &Scope,
+    clause: &Clause,
+    aim: Aim,
+    others: Caught,
+) -> Result<Caught, NoMem>
+    ensures { IfOk result (λ caught. (hands_of caught.hands ≡ stands.hands_of clause.now.local (aim_of aim) clause.now.classes (hands_of others.hands)) × (caught.default ≡ others.default) × stands.LocalIn scope.now.locals clause.now.local) }
+{
+    let local = bound(scope, clause.local)?;
+    let Caught { hands, default } = others;
+    let hands = add_hands(
+        alloc,
+        clause.classes.as_slice(),
+        local,
+        aim,
+        hands.as_slice(),
+    )?;
+    Ok(Caught { hands, default })
+}
+
 #[cycle(stmt)]
 fn put_clause(
     alloc: Global,
@@ -506,25 +525,15 @@ fn put_clause(
     program: &Resolved,
     scope: &Scope,
     clause: &Clause,
-    rest: &[Clause],
     m: usize,
     t: Ways,
-) -> Result<Caught, NoMem>
-    ensures { IfOk result (λ caught. Part code.old.blocks code.new.blocks (ClausesAt scope.now program.now (clause.now ∷ rest.now) m t (hands_of caught.hands) (aim_of caught.default))) }
+) -> Result<u64, NoMem>
+    ensures { IfOk result (λ b. Part code.old.blocks code.new.blocks (BlockAt scope.now program.now clause.now.body b m t)) }
 {
-    let begin = put_block(alloc, code, program, scope, clause.body.as_slice(), m, t)?;
-    if clause.bare {
-        put_bare(alloc, code, clause.local, m, begin)
-    } else {
-        let others = put_clauses(alloc, code, program, scope, rest, m, t)?;
-        let local = bound(scope, clause.local)?;
-        let aim = Aim { to: begin, keep: m };
-        let Caught { hands, default } = others;
-        let hands = add_hands(alloc, clause.classes.as_slice(), local, aim, hands.as_slice())?;
-        Ok(Caught { hands, default })
-    }
+    put_block(alloc, code, program, scope, clause.body.as_slice(), m, t)
 }
 
+// Nothing comes after a bare clause.
 #[cycle(stmt)]
 fn put_clauses(
     alloc: Global,
@@ -545,7 +554,16 @@ fn put_clauses(
                 default: scope.default,
             })
         }
-        [clause, rest @ ..] => put_clause(alloc, code, program, scope, clause, rest, m, t),
+        [clause, rest @ ..] => {
+            let begin = put_clause(alloc, code, program, scope, clause, m, t)?;
+            if clause.bare {
+                put_bare(alloc, code, clause.local, m, begin)
+            } else {
+                let others = put_clauses(alloc, code, program, scope, rest, m, t)?;
+                let aim = Aim { to: begin, keep: m };
+                with_clause(alloc, scope, clause, aim, others)
+            }
+        }
     }
 }
 

@@ -1,7 +1,7 @@
 -- A part of a program stands at a place of its function's graph: from this block on, with so many variables, the graph does what the part
 -- says, and goes on to the blocks that are named. The first variables are the function's locals; what enclosing parts hold stands behind
 -- them. A part's value is one variable more.
-use Rattle.std.specs.Prelude.{◌≡◌, ℕ, ℤ, zero, suc, pos, ◌+◌, ◌<◌, ◌≤◌, ◌⊎◌, Bool, true, false, cond, List, [], ◌∷◌, ◌++◌, length, slice_get, Option, Some, None}
+use Rattle.std.specs.Prelude.{◌≡◌, ℕ, ℤ, suc, pos, ◌+◌, ◌<◌, ◌≤◌, ◌⊎◌, Bool, true, false, cond, List, [], ◌∷◌, ◌++◌, length, slice_get, Option, Some, None}
 use Rattle.rpy_tree.specs.declared.program.Const.{Const}
 use Rattle.rpy_tree.specs.Value.{Value}
 use Rattle.rpy_meaning.specs.declared.row.Covers.{Covers}
@@ -412,7 +412,7 @@ module _ (p : Program) (gs : Graphs) (named : Bool) (f n : ℕ) where
         × HasBlock sc last exc (m + 1) (onto t to_exc)
         × Acts sc to_exc row.Raise (m ∷ []) (m + 1) (first never_block 0)
         × HasBlock (record { hands = []; default = record { to = exc; keep = m }; covers = sc.covers; tried = true }) body b m
-          (record { norm = norm; brk = record { to = brk; keep = m }; cont = record { to = cont; keep = m }; ret = record { to = ret; keep = m } })
+        (record { norm = norm; brk = record { to = brk; keep = m }; cont = record { to = cont; keep = m }; ret = record { to = ret; keep = m } })
 
     pub HasBlock : Scope → Block → ℕ → ℕ → Ways → Type 0
     HasBlock sc done b m t = b ≡ t.norm

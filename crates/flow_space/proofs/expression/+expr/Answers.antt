@@ -222,11 +222,21 @@ put_comprehension-returns t c =
     part_map (λ r gs f k.
     let p = k.0 in
     let a = k.0.1.1.1.1.1 in (
-    c.in_ok-begin.begin, c.in_ok-head.head.number, c.in_ok-whole.whole, k.1.1, k.1.0,
-    (c.in_ok-bind.bind, c.in_ok-gather.gather, c.in_ok-advance.advance,
-    rw (← c.step_of.ensures r.sites) (c.in_ok-asked.asked, a.0, a.1, a.2, p.0, a.3, a.4, a.5, a.6, p.1.0),
-    p.1.1.1.0, p.1.1.0),
-    p.1.1.1.1.0))
+      c.in_ok-begin.begin,
+      c.in_ok-head.head.number,
+      c.in_ok-whole.whole,
+      k.1.1,
+      k.1.0,
+      (
+        c.in_ok-bind.bind,
+        c.in_ok-gather.gather,
+        c.in_ok-advance.advance,
+        rw (← c.step_of.ensures r.sites) (c.in_ok-asked.asked, a.0, a.1, a.2, p.0, a.3, a.4, a.5, a.6, p.1.0),
+        p.1.1.1.0,
+        p.1.1.0,
+      ),
+      p.1.1.1.1.0,
+    ))
     (part_then turns (part_then begin h))) leaf
 
 -- ---- targets

@@ -12,6 +12,10 @@ returns c =
     let lt = c.in_ok-local.ensures.within in
     ok_map c.jump_first.result (λ jump e.
     part_map (λ r gs f h. (
-    c.in_ok-block.block, c.in_ok-args.args, lt,
-    narrows (program_of r) gs f c.args.scope.now.locals c.args.scope.now.covers c.args.narrowing.kind c.args.narrowing.local c.in_ok-args.args c.args.m c.args.value args,
-    h, ap jump_of e)) act) (rw c.in_ok-count.ensures at c.jump_first.ensures)
+      c.in_ok-block.block,
+      c.in_ok-args.args,
+      lt,
+      narrows (program_of r) gs f c.args.scope.now.locals c.args.scope.now.covers c.args.narrowing.kind c.args.narrowing.local c.in_ok-args.args c.args.m c.args.value args,
+      h,
+      ap jump_of e,
+    )) act) (rw c.in_ok-count.ensures at c.jump_first.ensures)

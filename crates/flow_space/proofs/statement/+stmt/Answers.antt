@@ -1,5 +1,6 @@
 use Rattle.std.proofs.Common.{◌≡◌, ℕ, suc, ◌+◌, ◌++◌, ◌∷◌, [], List, length, drop, refl, sym, ap, ◌∙◌, arith}
 use Rattle.flow_stands.specs.Places.{Go, first}
+use Rattle.flow_space.specs.Placed.{hands_of}
 use Rattle.flow_space.proofs.Items.{first_rest, none_of}
 use Rattle.flow_space.proofs.Layers.{if_is, while_is, for_is, try_is, finally_is, clause_is, tried_covers}
 use Rattle.flow_space.proofs.Parts.{ok_map, part_map, part_then, part_none, part_patch}
@@ -7,8 +8,8 @@ use Rattle.flow_space.proofs.statement.+stmt.Goals as goal
 
 -- ---- loops
 
-pub put_while-returns-in_ok-aim : goal.put_while-returns-in_ok-aim
-put_while-returns-in_ok-aim t c =
+pub put_while-returns : goal.put_while-returns
+put_while-returns t c =
     let begin = rw c.within.ensures at c.in_ok-begin.ensures in
     let whole = part_patch c.aim.new.self.blocks c.in_ok-head.head.base _ _ _ _ c.in_ok-head.ensures (part_then begin (part_then c.in_ok-turn.ensures c.in_ok-asked.ensures)) c.in_ok-aim.ensures in
     part_map (λ r gs f k h. (c.in_ok-asked.asked, c.in_ok-turn.turn, c.in_ok-begin.begin, k.0, k.1.1.1, k.1.1.0, k.1.0 h)) whole
@@ -26,19 +27,35 @@ put_for-returns t c =
     part_map (λ r gs f k h.
     let p = k.0 in
     let a = k.0.1.1.1.1 in (
-    c.in_ok-head.head.number, k.1,
-    (c.in_ok-bind.bind, c.in_ok-begin.begin, c.in_ok-advance.advance,
-    rw (← c.step_of.ensures r.sites) (c.in_ok-asked.asked, a.0, a.1, a.2, p.0, a.3, a.4, a.5, a.6, p.1.0),
-    p.1.1.1.0, p.1.1.0 h)))
+      c.in_ok-head.head.number,
+      k.1,
+      (
+        c.in_ok-bind.bind,
+        c.in_ok-begin.begin,
+        c.in_ok-advance.advance,
+        rw (← c.step_of.ensures r.sites) (c.in_ok-asked.asked, a.0, a.1, a.2, p.0, a.3, a.4, a.5, a.6, p.1.0),
+        p.1.1.1.0,
+        p.1.1.0 h,
+      ),
+    ))
     (part_then turns s)) c.put_subject.ensures
 
 -- ---- exceptions
 
-pub put_clause-returns-then-clause-bare : goal.put_clause-returns-then-clause-bare
-put_clause-returns-then-clause-bare t c = let h = c.put_bare in ?
+pub put_clause-returns : goal.put_clause-returns
+put_clause-returns t c = rw c.as_slice.ensures at c.put_block.ensures
 
-pub put_clauses-returns : goal.put_clauses-returns
-put_clauses-returns t c = ?
+pub put_clauses-returns-then-clause : goal.put_clauses-returns-then-clause
+put_clauses-returns-then-clause t c =
+    let e = first_rest c.args.clauses.now c.clause-item.result (omega arith) c.clause-item.is in
+    ok_map c.put_bare.result (λ caught w.
+    part_map (λ r gs f k h. rw (e, clause_is, c.if-clause.true, w.0, w.1) (c.in_ok-begin-in-len1-up.begin, caught.default.to, w.2, refl, k.0 h, k.1, refl)) (part_then c.in_ok-begin-in-len1-up.ensures w.3)) c.put_bare.ensures
+
+pub put_clauses-returns-in_ok-others-in-len1-up : goal.put_clauses-returns-in_ok-others-in-len1-up
+put_clauses-returns-in_ok-others-in-len1-up t c =
+    let e = first_rest c.args.clauses.now c.clause-item.result (omega arith) c.clause-item.is in
+    ok_map c.with_clause.result (λ caught w.
+    part_map (λ r gs f k h. rw (e, clause_is, c.if-clause.false, w.1) (c.in_ok-begin-in-len1-up.begin, hands_of c.in_ok-others-in-len1-up.others.hands, w.2, k.0 h, w.0, k.1 h)) (part_then c.in_ok-begin-in-len1-up.ensures c.in_ok-others-in-len1-up.ensures)) c.with_clause.ensures
 
 pub put_try-returns : goal.put_try-returns
 put_try-returns t c =
@@ -75,8 +92,26 @@ put_finally-returns t c =
     let cont = k.1.1.0 h in
     let ret = k.1.1.1.0 h in
     let exc = k.1.1.1.1.0 h in (
-    c.in_ok-norm.norm, c.in_ok-brk.brk.to, c.in_ok-cont.cont.to, c.in_ok-ret.ret.to, c.in_ok-default.default.to, brk.0, cont.0, ret.0, exc.0,
-    k.0 h, brk.1, brk.2, cont.1, cont.2, ret.1, ret.2, exc.1, exc.2, k.1.1.1.1.1 h))
+      c.in_ok-norm.norm,
+      c.in_ok-brk.brk.to,
+      c.in_ok-cont.cont.to,
+      c.in_ok-ret.ret.to,
+      c.in_ok-default.default.to,
+      brk.0,
+      cont.0,
+      ret.0,
+      exc.0,
+      k.0 h,
+      brk.1,
+      brk.2,
+      cont.1,
+      cont.2,
+      ret.1,
+      ret.2,
+      exc.1,
+      exc.2,
+      k.1.1.1.1.1 h,
+    ))
     (part_then c.in_ok-norm.ensures (part_then c.in_ok-brk.ensures.1 (part_then c.in_ok-cont.ensures.1 (part_then c.in_ok-ret.ensures.1 (part_then c.in_ok-default.ensures.1 s)))))) body
 
 -- ---- all statements
@@ -123,6 +158,6 @@ pub put_block-returns-in_ok-begin-in-len1-up : goal.put_block-returns-in_ok-begi
 put_block-returns-in_ok-begin-in-len1-up t c =
     let e = first_rest c.args.body.now c.s-item.result (omega arith) c.s-item.is in
     let begin = rw c.on.ensures at c.in_ok-begin-in-len1-up.ensures in
-    ok_map c.put_mark-2.result (λ b s.
+    ok_map c.put_mark-in-len1-up.result (λ b s.
     part_map (λ r gs f k h. rw e (c.in_ok-begin-in-len1-up.begin, c.in_ok-next-in-len1-up-2.next, c.in_ok-next-in-len1-up.next, k.1.1.1, k.1.1.0 h, k.1.0, k.0 h))
-    (part_then c.in_ok-next-in-len1-up.ensures (part_then c.in_ok-next-in-len1-up-2.ensures (part_then begin s)))) c.put_mark-2.ensures
+    (part_then c.in_ok-next-in-len1-up.ensures (part_then c.in_ok-next-in-len1-up-2.ensures (part_then begin s)))) c.put_mark-in-len1-up.ensures

@@ -10,7 +10,7 @@ abbrev pub decreases-put_for : goal.decreases-put_for
 decreases-put_for l = 16 * block_size l.body.now + 1
 
 abbrev pub decreases-put_clause : goal.decreases-put_clause
-decreases-put_clause l = 16 * (clause_size l.clause.now + clauses_size l.rest.now) + 3
+decreases-put_clause l = 16 * clause_size l.clause.now + 1
 
 abbrev pub decreases-put_clauses : goal.decreases-put_clauses
 decreases-put_clauses l = 16 * clauses_size l.clauses.now + 2
