@@ -59,9 +59,9 @@ graph_stands program function number body hands covers old c1 c2 c3 c4 c5 c6 fin
     let b4 = subst (λ cs. stands.HasBlock p gs false f n (record { hands = []; default = record { to = raising; keep = 0 }; covers = cs; tried = false }) (block_of program.sites function.body) begin n (record { norm = end; brk = record { to = end; keep = n }; cont = record { to = end; keep = n }; ret = record { to = returning; keep = 0 } })) nothing b3 in
     let b5 = subst (λ j. stands.HasBlock p gs false f n (record { hands = []; default = record { to = j; keep = 0 }; covers = no_covers; tried = false }) (block_of program.sites function.body) begin n (record { norm = end; brk = record { to = end; keep = n }; cont = record { to = end; keep = n }; ret = record { to = returning; keep = 0 } })) two_at b4 in
     let b6 = subst (λ j. stands.HasBlock p gs false f n stands.no_try (block_of program.sites function.body) begin n (record { norm = j; brk = record { to = j; keep = n }; cont = record { to = j; keep = n }; ret = record { to = returning; keep = 0 } })) four_at b5 in
-    let b7 = subst (λ j. stands.HasBlock p gs false f n stands.no_try (block_of program.sites function.body) begin n (record { norm = 4; brk = record { to = 4; keep = n }; cont = record { to = 4; keep = n }; ret = record { to = j; keep = 0 } })) one_at b6 in
-    (
-      begin, few2,
+    let b7 = subst (λ j. stands.HasBlock p gs false f n stands.no_try (block_of program.sites function.body) begin n (record { norm = 4; brk = record { to = 4; keep = n }; cont = record { to = 4; keep = n }; ret = record { to = j; keep = 0 } })) one_at b6 in (
+      begin,
+      few2,
       subst (λ j. ShapeAt j n (Go (first begin n)) program gs f) zero_at k.0,
       subst (λ j. ShapeAt j 1 GiveBack program gs f) one_at k.1.0.0.0.0,
       subst (λ j. ShapeAt j 1 GiveUp program gs f) two_at k.1.0.0.0.1,
