@@ -85,8 +85,8 @@ get_last {A = A} (w ∷ a) x y (suc i) e = step (get_last a x y i e)
     step (inl h) = let lt = h.0 in inl (omega (arith, lt), h.1)
     step (inr h) = let eq = h.0 in inr (omega (arith, eq), h.1)
 
-pub graphs_none : (program : Resolved) (functions : List Function) → GraphsAt program functions []
-graphs_none program functions i function graph e g = absurd (cc g)
+pub graphs_none : (program : Resolved) (functions : List Function) (graphs : List Graph) → graphs ≡ [] → GraphsAt program functions graphs
+graphs_none program functions graphs none i function graph e g = absurd (let z = ap (λ l. slice_get l i) none in cc)
 
 pub graphs_push : (program : Resolved) (functions : List Function) (graphs new : List Graph) (function : Function) (graph : Graph) (index : ℕ) → length graphs ≡ index → slice_get functions index ≡ Some function → GraphAt program function graph → new ≡ graphs ++ graph ∷ [] → GraphsAt program functions graphs → GraphsAt program functions new
 graphs_push program functions graphs new function graph index len item is e all i other g at_i at_g = step (get_last graphs graph g i (ap (λ l. slice_get l i) (sym e) ∙ at_g))

@@ -5,7 +5,7 @@ use Rattle.flow_space.proofs.Graphs.{graphs_none, graphs_push}
 use Rattle.flow_space.proofs.whole.graphs_of.Goals as goal
 
 pub loop-function-init : goal.loop-function-init
-loop-function-init c = (search rules, search rules, graphs_none c.args.resolved.now c.args.resolved.now.functions)
+loop-function-init c = (search rules, search rules, graphs_none c.args.resolved.now c.args.resolved.now.functions _ c.new-graphs.ensures)
 
 pub loop-function-preserved : goal.loop-function-preserved
 loop-function-preserved c =
