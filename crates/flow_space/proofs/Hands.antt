@@ -1,5 +1,5 @@
 -- The hands of a clause, before others.
-use Rattle.std.proofs.Common.{◌≡◌, ℕ, List, [], ◌∷◌, ◌++◌, map, Option, refl, sym, ap, ◌∙◌}
+use Rattle.std.proofs.Common.{◌≡◌, ℕ, List, [], ◌∷◌, ◌++◌, map, Option, refl, ap}
 use Rattle.flow_stands.specs.Places as places
 use Rattle.flow_stands.specs.Stands as stands
 use Rattle.flow_space.specs.declared.code.Aim.{Aim}

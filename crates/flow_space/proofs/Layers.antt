@@ -1,5 +1,5 @@
 -- The trees of a resolved program, a layer at a time.
-use Rattle.std.proofs.Common.{◌≡◌, ℕ, ℤ, Bool, List, [], ◌∷◌, length, Option, Some, None, refl, sym, ap, ◌∙◌, arith, rules}
+use Rattle.std.proofs.Common.{◌≡◌, ℕ, ℤ, Bool, List, [], ◌∷◌, length, Option, Some, None, refl, sym, ap, ◌∙◌, arith}
 use Rattle.rpy_meaning.specs.Meaning.{target_count}
 use Rattle.rpy_meaning.specs.Classes.{covers_within}
 use Rattle.rpy_meaning.specs.declared.row.Covers.{Covers}

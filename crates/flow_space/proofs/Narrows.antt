@@ -1,5 +1,5 @@
 -- What a narrowing does to its local.
-use Rattle.std.proofs.Common.{◌≡◌, ℕ, false, List, refl, inl, inr}
+use Rattle.std.proofs.Common.{ℕ, false, List, refl, inl, inr}
 use Rattle.rpy_meaning.specs.declared.row.Covers.{Covers}
 use Rattle.rpy_meaning.specs.Tree.{Program}
 use Rattle.flow_graph.specs.declared.graph.Graphs.{Graphs}

@@ -1,5 +1,5 @@
 -- Parts that were put one after another.
-use Rattle.std.proofs.Common.{◌≡◌, ℕ, zero, suc, ◌+◌, ◌<◌, ◌≤◌, Bool, false, List, [], ◌∷◌, ◌++◌, length, map, take, get_or, Some, refl, sym, ap, ◌∙◌, subst, arith, append_assoc, append-nil, length-append, add-zero, add-one}
+use Rattle.std.proofs.Common.{◌≡◌, ℕ, zero, suc, ◌+◌, ◌<◌, Bool, false, List, [], ◌∷◌, ◌++◌, length, map, Some, refl, sym, ap, ◌∙◌, subst, arith, append_assoc, append-nil, length-append, add-zero, add-one}
 use Rattle.std.specs.Prelude.{slice_get, slice_set, IfOk, OnOk}
 use Rattle.std.proofs.Common.{Result, Ok, Err}
 use Rattle.rpy_base.specs.declared.fault.NoMem.{NoMem}
@@ -8,9 +8,9 @@ use Rattle.rpy_resolved.specs.declared.tree.Resolved.{Resolved}
 use Rattle.flow_graph.specs.declared.graph.Block.{Block}
 use Rattle.flow_graph.specs.declared.graph.Graphs.{Graphs}
 use Rattle.flow_graph.specs.declared.graph.Link.{Link}
-use Rattle.flow_stands.specs.Places.{Shape, Go, Jump, range, numbered, link, links, hand_jumps, stored_if_any, first}
+use Rattle.flow_stands.specs.Places.{Shape, Go, range, numbered, link, links, hand_jumps, stored_if_any, first}
 use Rattle.flow_space.specs.declared.code.Hand.{Hand}
-use Rattle.flow_space.specs.Placed.{At, Agrees, Part, Headed, ShapeAt, aim_of, hands_of}
+use Rattle.flow_space.specs.Placed.{At, Part, Headed, ShapeAt, aim_of, hands_of}
 
 get_left : (a more : List Block) (p : ℕ) → p < length a → slice_get (a ++ more) p ≡ slice_get a p
 get_left [] more p lt = absurd (omega arith)

@@ -1,5 +1,5 @@
 -- What appended blocks say of every graph that they end up in, whatever program it is of.
-use Rattle.std.specs.Prelude.{◌≡◌, ℕ, ℤ, ◌+◌, ◌<◌, ◌≤◌, ◌⊎◌, Bool, true, false, cond, List, [], ◌∷◌, ◌++◌, length, slice_get, map, Option, Some, None}
+use Rattle.std.specs.Prelude.{◌≡◌, ℕ, ℤ, ◌+◌, ◌<◌, ◌≤◌, Bool, false, cond, List, [], ◌∷◌, ◌++◌, length, slice_get, map, Option, Some}
 use Rattle.rpy_meaning.specs.declared.row.RowOp.{RowOp}
 use Rattle.rpy_meaning.specs.declared.row.RowOp.TheVariants as row
 use Rattle.rpy_tree.specs.declared.program.Program.{Program}
@@ -15,7 +15,7 @@ use Rattle.flow_graph.specs.declared.graph.Block.{Block}
 use Rattle.flow_graph.specs.declared.graph.Graph.{Graph}
 use Rattle.flow_graph.specs.declared.graph.Graphs.{Graphs}
 use Rattle.flow_meaning.specs.Machine.{block_in}
-use Rattle.flow_stands.specs.Places.{Aim, Hand, Scope, Ways, Jump, Shape, Go, Fork, onto, range, first, first_and, stored}
+use Rattle.flow_stands.specs.Places.{Aim, Hand, Scope, Ways, Jump, Shape, Go, Fork, onto, first, first_and, stored}
 use Rattle.flow_stands.specs.Stands as stands
 use Rattle.flow_stands.specs.Stands.{Branch, count}
 use Rattle.rpy_resolved.specs.declared.tree.Function.{Function}

@@ -1,5 +1,5 @@
 -- The classes and the sites of a program, as the definitions of operations see them.
-use Rattle.std.specs.Prelude.{ℕ, Bool, true, false, List, [], map, Option, Some, None, option_map}
+use Rattle.std.specs.Prelude.{ℕ, Bool, true, false, List, [], map, Option, option_map}
 use Rattle.rpy_tree.specs.declared.program.Const.{Const}
 use Rattle.rpy_tree.specs.declared.program.Site.{Site}
 use Rattle.rpy_tree.specs.Value.{Value, Object, Listed, Mapped}

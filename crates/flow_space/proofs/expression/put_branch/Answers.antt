@@ -1,4 +1,4 @@
-use Rattle.std.proofs.Common.{inl, inr}
+use Rattle.std.proofs.Common.{inr}
 use Rattle.flow_space.specs.Placed.{narrowing_op}
 use Rattle.flow_space.proofs.Parts.{ok_map, part_map}
 use Rattle.flow_space.proofs.expression.put_branch.Goals as goal

@@ -1,5 +1,5 @@
-use Rattle.std.proofs.Common.{◌∙◌, ap, subst}
-use Rattle.flow_space.specs.Placed.{AreArgs, jump_of}
+use Rattle.std.proofs.Common.{ap}
+use Rattle.flow_space.specs.Placed.{jump_of}
 use Rattle.flow_space.specs.Trees.{program_of}
 use Rattle.flow_space.proofs.Narrows.{narrows}
 use Rattle.flow_space.proofs.Parts.{ok_map, part_map}

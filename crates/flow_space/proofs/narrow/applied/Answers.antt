@@ -1,6 +1,4 @@
-use Rattle.std.proofs.Common.{◌≡◌, ◌⊎◌, inl, inr, List, sym, ap, ◌∙◌, arith}
-use Rattle.flow_stands.specs.Stands.{Reads, is_local, some_is_local}
-use Rattle.flow_space.specs.Trees.{expr_of, exprs_of}
+use Rattle.std.proofs.Common.{inl, inr, arith}
 use Rattle.flow_space.proofs.Items.{some_map, one_item, two_items}
 use Rattle.flow_space.proofs.narrow.applied.Goals as goal
 

@@ -1,7 +1,5 @@
-use Rattle.std.proofs.Common.{◌≡◌, ◌⊎◌, inl, inr, List, sym, ap, ◌∙◌, arith}
-use Rattle.flow_stands.specs.Stands.{Reads, is_local, some_is_local}
-use Rattle.flow_space.specs.Trees.{expr_of, exprs_of}
-use Rattle.flow_space.proofs.Items.{some_map, one_item, two_items}
+use Rattle.std.proofs.Common.{inl, inr}
+use Rattle.flow_space.proofs.Items.{some_map}
 use Rattle.flow_space.proofs.narrow.greater.Goals as goal
 
 pub returns-then-truth : goal.returns-then-truth

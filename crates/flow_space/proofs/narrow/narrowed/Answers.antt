@@ -1,8 +1,5 @@
-use Rattle.std.proofs.Common.{◌≡◌, ◌⊎◌, inl, inr, List, sym, ap, ◌∙◌, arith}
-use Rattle.flow_stands.specs.Stands.{Reads, is_local, some_is_local}
-use Rattle.flow_space.specs.Trees.{expr_of, exprs_of}
 use Rattle.flow_space.proofs.Layers.{apply_is}
-use Rattle.flow_space.proofs.Items.{some_map, one_item, two_items}
+use Rattle.flow_space.proofs.Items.{some_map}
 use Rattle.flow_space.proofs.narrow.narrowed.Goals as goal
 
 pub returns-in-Apply : goal.returns-in-Apply

@@ -1,4 +1,4 @@
-use Rattle.std.proofs.Common.{◌≡◌, ◌++◌, ◌∷◌, [], sym, ap, ◌∙◌}
+use Rattle.std.proofs.Common.{◌++◌, ◌∷◌, [], sym, ap, ◌∙◌}
 use Rattle.flow_stands.specs.Places.{range}
 use Rattle.flow_space.proofs.Parts.{range_push}
 use Rattle.flow_space.proofs.places.range.Goals as goal

@@ -1,4 +1,4 @@
-use Rattle.std.proofs.Common.{◌≡◌, ◌∷◌, [], length, drop, sym, ap, ◌∙◌, arith}
+use Rattle.std.proofs.Common.{arith}
 use Rattle.flow_space.proofs.Items.{one_item, first_rest, rest_is, none_of}
 use Rattle.flow_space.proofs.Parts.{ok_map, part_map, part_then}
 use Rattle.flow_space.proofs.statement.+put_targets.Goals as goal

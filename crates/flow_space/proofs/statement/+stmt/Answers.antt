@@ -1,5 +1,4 @@
-use Rattle.std.proofs.Common.{◌≡◌, ℕ, suc, ◌+◌, ◌++◌, ◌∷◌, [], List, length, drop, refl, sym, ap, ◌∙◌, arith}
-use Rattle.flow_stands.specs.Places.{Go, first}
+use Rattle.std.proofs.Common.{refl, arith}
 use Rattle.flow_space.specs.Placed.{hands_of}
 use Rattle.flow_space.proofs.Items.{first_rest, none_of}
 use Rattle.flow_space.proofs.Layers.{if_is, while_is, for_is, try_is, finally_is, clause_is, tried_covers}

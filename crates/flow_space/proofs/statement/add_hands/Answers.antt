@@ -1,5 +1,4 @@
-use Rattle.std.proofs.Common.{◌≡◌, ◌++◌, map, List, ap, ◌∙◌, arith}
-use Rattle.flow_space.specs.declared.code.Hand.{Hand}
+use Rattle.std.proofs.Common.{◌≡◌, map, ap, ◌∙◌, arith}
 use Rattle.flow_space.specs.Placed.{hands_of}
 use Rattle.flow_space.proofs.Hands.{hand_for, hands_are}
 use Rattle.std.proofs.lemmas.Grind.{common_steps}

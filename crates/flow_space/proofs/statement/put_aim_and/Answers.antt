@@ -1,6 +1,3 @@
-use Rattle.std.proofs.Common.{◌≡◌, ℕ, suc, ◌+◌, ◌++◌, ◌∷◌, [], List, length, drop, refl, sym, ap, ◌∙◌, inl, inr, arith, add-one}
-use Rattle.flow_space.proofs.Items.{one_item, first_rest, none_of}
-use Rattle.flow_space.proofs.Parts.{ok_map, part_map, part_then, part_none, part_patch}
 use Rattle.flow_space.proofs.statement.put_aim_and.Goals as goal
 
 pub returns : goal.returns

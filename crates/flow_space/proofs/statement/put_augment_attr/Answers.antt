@@ -1,6 +1,5 @@
-use Rattle.std.proofs.Common.{◌≡◌, ℕ, suc, ◌+◌, ◌++◌, ◌∷◌, [], List, length, drop, refl, sym, ap, ◌∙◌, inl, inr, arith, add-one}
-use Rattle.flow_space.proofs.Items.{one_item, first_rest, none_of}
-use Rattle.flow_space.proofs.Parts.{ok_map, part_map, part_then, part_none, part_patch}
+use Rattle.std.proofs.Common.{◌≡◌, ◌+◌, arith}
+use Rattle.flow_space.proofs.Parts.{ok_map, part_map, part_then}
 use Rattle.flow_space.proofs.statement.put_augment_attr.Goals as goal
 
 pub returns : goal.returns

@@ -1,7 +1,6 @@
-use Rattle.std.proofs.Common.{◌≡◌, ℕ, suc, ◌+◌, ◌++◌, ◌∷◌, [], List, length, drop, refl, sym, ap, ◌∙◌, inl, inr, arith, add-one}
+use Rattle.std.proofs.Common.{refl}
 use Rattle.flow_space.proofs.Layers.{pass_is, break_is, continue_is, return_is, do_is, assign_is, augment_is}
-use Rattle.flow_space.proofs.Items.{one_item, first_rest, none_of}
-use Rattle.flow_space.proofs.Parts.{ok_map, part_map, part_then, part_none, part_patch}
+use Rattle.flow_space.proofs.Parts.{ok_map, part_map, part_none}
 use Rattle.flow_space.proofs.statement.put_simple.Goals as goal
 
 pub returns-in-Break : goal.returns-in-Break

@@ -1,4 +1,4 @@
-use Rattle.std.proofs.Common.{◌≡◌, ℕ, ◌<◌, ◌≤◌, List, [], length, ap, arith}
+use Rattle.std.proofs.Common.{ap, arith}
 use Rattle.flow_space.proofs.Graphs.{graph_stands}
 use Rattle.flow_space.proofs.whole.graph_of.Goals as goal
 

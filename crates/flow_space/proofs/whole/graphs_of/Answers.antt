@@ -1,4 +1,4 @@
-use Rattle.std.proofs.Common.{refl, length, arith, rules}
+use Rattle.std.proofs.Common.{refl, length, rules}
 use Rattle.std.proofs.lemmas.Option.{slice_get_read}
 use Rattle.flow_space.proofs.Counted.{counted}
 use Rattle.flow_space.proofs.Graphs.{graphs_none, graphs_push}

@@ -1,7 +1,6 @@
-use Rattle.std.proofs.Common.{◌≡◌, ◌++◌, ◌∷◌, [], length, false, ap, ◌∙◌, sym}
-use Rattle.flow_stands.specs.Places.{Go, Fork, Does, Plain, numbered, first_and, hand_jumps}
-use Rattle.rpy_meaning.specs.Classes.{no_covers}
-use Rattle.flow_space.specs.Placed.{jump_of, scope_of}
+use Rattle.std.proofs.Common.{length, ap, ◌∙◌}
+use Rattle.flow_stands.specs.Places.{Plain}
+use Rattle.flow_space.specs.Placed.{jump_of}
 use Rattle.flow_space.proofs.Parts.{ok_put, part_push}
 use Rattle.flow_space.proofs.code.Code.put_plain.Goals as goal
 
