@@ -2,8 +2,9 @@
 use Rattle.std.specs.Prelude.{◌≡◌, ℕ, ℤ, ◌+◌, ◌<◌, ◌≤◌, ◌⊎◌, Bool, true, false, cond, List, [], ◌∷◌, ◌++◌, length, slice_get, map, Option, Some, None}
 use Rattle.rpy_meaning.specs.declared.row.RowOp.{RowOp}
 use Rattle.rpy_meaning.specs.declared.row.RowOp.TheVariants as row
+use Rattle.rpy_tree.specs.declared.program.Program.{Program}
 use Rattle.rpy_meaning.specs.Tree as tree
-use Rattle.rpy_resolved.specs.declared.tree.Class.{Class}
+use Rattle.rpy_resolved.specs.Count.{function_count}
 use Rattle.rpy_resolved.specs.declared.tree.Clause.{Clause}
 use Rattle.rpy_resolved.specs.declared.tree.Expr.{Expr}
 use Rattle.rpy_resolved.specs.declared.tree.Resolved.{Resolved}
@@ -299,3 +300,7 @@ GraphsAt program functions graphs = (i : ℕ) (function : Function) (graph : Gra
 -- the graphs of a program are those of its functions
 abbrev pub FlowAt : Resolved → Graphs → Type 0
 FlowAt program gs = stands.Stand (program_of program) gs false
+
+-- they are those of a program with bound names that has as many functions
+abbrev pub StandFor : Program → Graphs → Type 0
+StandFor p gs = (r : Resolved) × (length r.functions ≡ function_count p.modules) × FlowAt r gs

@@ -3,7 +3,7 @@ ghost use Rattle.std.specs.Prelude.{◌≡◌, ◌+◌, length, IfOk, OnOk};
 ghost use Rattle.flow_graph.specs.Whole.{CountFrom, Covers as CoversAll};
 ghost use Rattle.flow_stands.specs.Places.{Go, Plain, first as on_first, first_and as on_first_and};
 ghost use Rattle.rpy_meaning.specs.declared.row.RowOp.TheVariants as row;
-ghost use Rattle.flow_space.specs.Placed.{Part, ShapeAt, GraphAt, GraphsAt, FlowAt, jump_of};
+ghost use Rattle.flow_space.specs.Placed.{Part, ShapeAt, GraphAt, GraphsAt, FlowAt, StandFor, jump_of};
 
 use crate::code::{Aim, Code, Scope, jump_and, jump_first, no_covers, op_at};
 use crate::places::narrow;
@@ -135,7 +135,8 @@ pub fn flow_of(alloc: Global, resolved: &Resolved) -> Result<Graphs, NoMem>
 
 /// The flow graphs of a program's functions, one for each in their order.
 pub fn flow(alloc: Global, program: &Program) -> Result<Graphs, NoMem>
-    ensures { IfOk result (λ graphs. CoversAll program.now graphs) }
+    ensures covers { IfOk result (λ graphs. CoversAll program.now graphs) }
+    ensures stand { IfOk result (λ graphs. StandFor program.now graphs) }
 {
     let resolved = resolved(alloc, program)?;
     flow_of(alloc, &resolved)
