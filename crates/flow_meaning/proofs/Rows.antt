@@ -80,3 +80,24 @@ turning = graphs (block (0 ∷ []) (does 1 no_covers row.Turn [] ∷ does 2 no_c
 turns_are_paid : seen (gmean program turning [] 5 100) ≡ Some (Some Running, 1, 0)
 unfolding turning run
 turns_are_paid = refl
+
+-- a call that is not paid holds once what it passes
+calling : Graphs
+calling = record {
+  graphs =
+      record { function = 0; blocks = block (0 ∷ []) (does 1 no_covers (row.Word (pos 7)) [] ∷ does 2 no_covers (row.Call 1) (1 ∷ []) ∷ []) (exit.Return 2) ∷ [] }
+      ∷ record { function = 1; blocks = block (0 ∷ []) [] (exit.Return 0) ∷ [] }
+      ∷ [];
+}
+
+caller : Program
+caller = record program {
+  functions =
+      record { defaults = None ∷ []; takes_more = false; locals = 1; body = done }
+      ∷ record { defaults = None ∷ []; takes_more = false; locals = 1; body = done }
+      ∷ [];
+}
+
+passes_once : seen (gmean caller calling [] 1 10) ≡ Some (Some Running, 1, 0)
+unfolding calling caller run
+passes_once = refl

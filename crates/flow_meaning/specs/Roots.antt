@@ -54,8 +54,13 @@ abbrev pub waiting_roots : List Frame → List Value
 waiting_roots [] = []
 waiting_roots (frame ∷ frames) = kept (waits_for frame) frame.env ++ and_some frame.instead (waiting_roots frames)
 
+-- what is passed stands in the variables of the call that passes it; at the start of a run there is none
+abbrev pub passed_roots : List Value → List Frame → List Value
+passed_roots args [] = args
+passed_roots args (frame ∷ frames) = []
+
 abbrev pub roots : State → List Value
-roots (Calling f args instead frames world) = args ++ and_some instead (waiting_roots frames)
+roots (Calling f args instead frames world) = passed_roots args frames ++ and_some instead (waiting_roots frames)
 roots (At f ops exit env instead frames world) = kept (live ops exit) env ++ and_some instead (waiting_roots frames)
 roots (Returning v frames world) = v ∷ waiting_roots frames
 roots (Throwing r frames world) = Ref r ∷ waiting_roots frames

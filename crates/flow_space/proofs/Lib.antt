@@ -1,1 +1,10 @@
+-- Lemmas.
+pub mod Bases
 pub mod Counted
+pub mod Graphs
+pub mod Hands
+pub mod Items
+pub mod Layers
+pub mod Narrows
+pub mod Parts
+pub mod Sites

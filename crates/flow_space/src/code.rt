@@ -1,4 +1,9 @@
 // The blocks of a function so far, and how one more is put after them.
+ghost use Rattle.std.specs.Prelude.{◌≡◌, ◌+◌, ◌<◌, false, [], ◌∷◌, ◌++◌, length, slice_set, IfOk, OnOk};
+ghost use Rattle.rpy_meaning.specs.Classes.{no_covers};
+ghost use Rattle.flow_stands.specs.Places.{range, first as on_first, first_and as on_first_and, stored as on_stored, stored_if_any, hand_jumps, shift, link as link_of, links, act, numbered, Go, Fork, Does, Plain, GiveBack, GiveUp};
+ghost use Rattle.flow_space.specs.Placed.{Part, Headed, ShapeAt, ActsAt, aim_of, hands_of, jump_of};
+
 use crate::places::{first, first_and, stored};
 use flow_graph::{Block, Exit, Link, Op, VarId};
 use rpy_base::{NoMem, Seq};
@@ -29,10 +34,12 @@ pub struct Hand {
     pub aim: Aim,
 }
 
-/// Where exceptions go: to the first hand that takes them, else on with the first variables and the
-/// exception; for which failures they come; and whether a `try` stands around.
+/// How many locals the function has; where exceptions go: to the first hand that takes them, else on
+/// with the first variables and the exception; for which failures they come; and whether a `try`
+/// stands around.
 #[derive(Drop)]
 pub struct Scope {
+    pub locals: usize,
     pub hands: Seq<Hand>,
     pub default: Aim,
     pub covers: Covers,
@@ -54,12 +61,41 @@ pub struct Act {
     pub op: RowOp,
 }
 
-pub fn op_at(node: NodeId, value: bool, op: RowOp) -> Act {
+/// At the start of a function nothing is covered.
+pub fn no_covers() -> Covers
+    ensures { result ≡ no_covers }
+{
+    Covers {
+        index: false,
+        zero: false,
+        number: false,
+        attribute: false,
+    }
+}
+
+pub fn op_at(node: NodeId, value: bool, op: RowOp) -> Act
+    ensures { result ≡ record { node = node; value = value; op = op } }
+{
     Act { node, value, op }
 }
 
+/// The place of a local. Names are bound in a tree, which has no other local than its function's.
+pub fn local_place(scope: &Scope, local: u32) -> Result<usize, NoMem>
+    ensures place { IfOk result (λ place. place ≡ local) }
+    ensures within { OnOk result (local < scope.now.locals) }
+{
+    let place = local as usize;
+    if place < scope.locals {
+        Ok(place)
+    } else {
+        Err(NoMem)
+    }
+}
+
 /// On to a block with the first variables.
-pub fn jump_first(alloc: Global, to: u64, keep: usize) -> Result<Jump, NoMem> {
+pub fn jump_first(alloc: Global, to: u64, keep: usize) -> Result<Jump, NoMem>
+    ensures { IfOk result (λ jump. jump ≡ record { to = to; places = range 0 keep }) }
+{
     Ok(Jump {
         to,
         places: first(alloc, keep)?,
@@ -67,7 +103,9 @@ pub fn jump_first(alloc: Global, to: u64, keep: usize) -> Result<Jump, NoMem> {
 }
 
 /// On to a block with the first variables and one more.
-pub fn jump_and(alloc: Global, to: u64, keep: usize, last: usize) -> Result<Jump, NoMem> {
+pub fn jump_and(alloc: Global, to: u64, keep: usize, last: usize) -> Result<Jump, NoMem>
+    ensures { IfOk result (λ jump. jump ≡ record { to = to; places = range 0 keep ++ last ∷ [] }) }
+{
     Ok(Jump {
         to,
         places: first_and(alloc, keep, last)?,
@@ -81,7 +119,9 @@ pub fn jump_stored(
     keep: usize,
     local: u32,
     place: usize,
-) -> Result<Jump, NoMem> {
+) -> Result<Jump, NoMem>
+    ensures { IfOk result (λ jump. jump ≡ record { to = to; places = slice_set (range 0 keep) local place }) }
+{
     Ok(Jump {
         to,
         places: stored(alloc, keep, local as usize, place)?,
@@ -89,14 +129,18 @@ pub fn jump_stored(
 }
 
 // The variable at a place of a block whose first variable is this one.
-fn variable(base: VarId, place: usize) -> Result<VarId, NoMem> {
+fn variable(base: VarId, place: usize) -> Result<VarId, NoMem>
+    ensures { IfOk result (λ variable. variable ≡ base + place) }
+{
     match base.checked_add(place as u64) {
         None => Err(NoMem),
         Some(variable) => Ok(variable),
     }
 }
 
-fn variables(alloc: Global, base: VarId, places: &[usize]) -> Result<Seq<VarId>, NoMem> {
+fn variables(alloc: Global, base: VarId, places: &[usize]) -> Result<Seq<VarId>, NoMem>
+    ensures { IfOk result (λ variables. variables ≡ shift base places.now) }
+{
     let mut variables = Seq::new(alloc);
     for place in places {
         variables.push(variable(base, *place)?)?;
@@ -104,12 +148,16 @@ fn variables(alloc: Global, base: VarId, places: &[usize]) -> Result<Seq<VarId>,
     Ok(variables)
 }
 
-fn inputs(alloc: Global, base: VarId, m: usize) -> Result<Seq<VarId>, NoMem> {
+fn inputs(alloc: Global, base: VarId, m: usize) -> Result<Seq<VarId>, NoMem>
+    ensures { IfOk result (λ variables. variables ≡ shift base (range 0 m)) }
+{
     let places = first(alloc, m)?;
     variables(alloc, base, places.as_slice())
 }
 
-fn link(alloc: Global, base: VarId, jump: &Jump) -> Result<Link, NoMem> {
+fn link(alloc: Global, base: VarId, jump: &Jump) -> Result<Link, NoMem>
+    ensures { IfOk result (λ link. link ≡ link_of base (jump_of jump.now)) }
+{
     Ok(Link {
         to: jump.to,
         args: variables(alloc, base, jump.places.as_slice())?,
@@ -117,19 +165,18 @@ fn link(alloc: Global, base: VarId, jump: &Jump) -> Result<Link, NoMem> {
 }
 
 // Where a hand takes the exception at this place.
-fn hand_jump(alloc: Global, hand: Hand, place: usize) -> Result<Jump, NoMem> {
+fn hand_jump(alloc: Global, hand: Hand, place: usize) -> Result<Jump, NoMem>
+    ensures { IfOk result (λ jump. jump_of jump ≡ stored_if_any (aim_of hand.aim) hand.local place) }
+{
     match hand.local {
         None => jump_first(alloc, hand.aim.to, hand.aim.keep),
         Some(local) => jump_stored(alloc, hand.aim.to, hand.aim.keep, local, place),
     }
 }
 
-fn hand_link(
-    alloc: Global,
-    base: VarId,
-    hand: Hand,
-    place: usize,
-) -> Result<(ClassId, Link), NoMem> {
+fn hand_link(alloc: Global, base: VarId, hand: Hand, place: usize) -> Result<(ClassId, Link), NoMem>
+    ensures { IfOk result (λ pair. pair ≡ (hand.class, link_of base (stored_if_any (aim_of hand.aim) hand.local place))) }
+{
     let jump = hand_jump(alloc, hand, place)?;
     Ok((hand.class, link(alloc, base, &jump)?))
 }
@@ -139,7 +186,9 @@ fn hand_links(
     base: VarId,
     hands: &[Hand],
     place: usize,
-) -> Result<Seq<(ClassId, Link)>, NoMem> {
+) -> Result<Seq<(ClassId, Link)>, NoMem>
+    ensures { IfOk result (λ all. all ≡ links base (hand_jumps place (hands_of hands.now))) }
+{
     let mut links = Seq::new(alloc);
     for hand in hands {
         links.push(hand_link(alloc, base, *hand, place)?)?;
@@ -147,7 +196,9 @@ fn hand_links(
     Ok(links)
 }
 
-fn default_link(alloc: Global, base: VarId, aim: Aim, place: usize) -> Result<Link, NoMem> {
+fn default_link(alloc: Global, base: VarId, aim: Aim, place: usize) -> Result<Link, NoMem>
+    ensures { IfOk result (λ link. link ≡ link_of base (on_first_and aim.to aim.keep place)) }
+{
     let jump = jump_and(alloc, aim.to, aim.keep, place)?;
     link(alloc, base, &jump)
 }
@@ -159,7 +210,9 @@ fn ops_of(
     of: Act,
     args: &[usize],
     m: usize,
-) -> Result<Seq<Op>, NoMem> {
+) -> Result<Seq<Op>, NoMem>
+    ensures { IfOk result (λ ops. ops ≡ act base m of.node of.value of.op args.now covers ∷ []) }
+{
     let mut ops = Seq::new(alloc);
     ops.push(Op {
         result: variable(base, m)?,
@@ -173,7 +226,9 @@ fn ops_of(
 }
 
 impl Code {
-    pub fn new(alloc: Global) -> Code {
+    pub fn new(alloc: Global) -> Code
+        ensures { result ≡ record { blocks = []; next = 0 } }
+    {
         Code {
             blocks: Seq::new(alloc),
             next: 0,
@@ -181,20 +236,31 @@ impl Code {
     }
 
     // So many variables are used from here on.
-    fn take(&mut self, count: usize) -> Result<VarId, NoMem> {
+    fn take(&mut self, count: usize) -> Result<VarId, NoMem>
+        ensures base { IfOk result (λ base. base ≡ self.old.next) }
+        ensures blocks { self.new.blocks ≡ self.old.blocks }
+        ensures next { OnOk result (self.new.next ≡ self.old.next + count) }
+    {
         let base = self.next;
         self.next = variable(base, count)?;
         Ok(base)
     }
 
-    fn put(&mut self, block: Block) -> Result<u64, NoMem> {
+    fn put(&mut self, block: Block) -> Result<u64, NoMem>
+        ensures at { IfOk result (λ number. number ≡ length self.old.blocks) }
+        ensures put { OnOk result (self.new.blocks ≡ self.old.blocks ++ block ∷ []) }
+    {
         let number = self.blocks.len() as u64;
         self.blocks.push(block)?;
         Ok(number)
     }
 
     /// A block with m inputs that goes on at once.
-    pub fn put_jump(&mut self, alloc: Global, m: usize, jump: Jump) -> Result<u64, NoMem> {
+    pub fn put_jump(&mut self, alloc: Global, m: usize, jump: Jump) -> Result<u64, NoMem>
+        ensures at { IfOk result (λ b. b ≡ length self.old.blocks) }
+        ensures count { OnOk result (length self.new.blocks ≡ length self.old.blocks + 1) }
+        ensures put { IfOk result (λ b. Part self.old.blocks self.new.blocks (ShapeAt b m (Go (jump_of jump)))) }
+    {
         let base = self.take(m)?;
         self.put(Block {
             inputs: inputs(alloc, base, m)?,
@@ -211,7 +277,9 @@ impl Code {
         test: usize,
         yes: Jump,
         no: Jump,
-    ) -> Result<u64, NoMem> {
+    ) -> Result<u64, NoMem>
+        ensures { IfOk result (λ b. Part self.old.blocks self.new.blocks (ShapeAt b m (Fork test (jump_of yes) (jump_of no)))) }
+    {
         let base = self.take(m)?;
         self.put(Block {
             inputs: inputs(alloc, base, m)?,
@@ -233,7 +301,9 @@ impl Code {
         args: Seq<usize>,
         m: usize,
         norm: Jump,
-    ) -> Result<u64, NoMem> {
+    ) -> Result<u64, NoMem>
+        ensures { IfOk result (λ b. Part self.old.blocks self.new.blocks (ActsAt scope.now b of.op args m (jump_of norm))) }
+    {
         let base = self.take(m)?;
         let result = self.take(1)?;
         self.put(Block {
@@ -249,26 +319,27 @@ impl Code {
     }
 
     /// A block with m inputs and one operation that cannot raise.
-    pub fn put_plain(
-        &mut self,
-        alloc: Global,
-        covers: Covers,
-        of: Act,
-        m: usize,
-        norm: Jump,
-    ) -> Result<u64, NoMem> {
+    pub fn put_plain(&mut self, alloc: Global, of: Act, m: usize, norm: Jump) -> Result<u64, NoMem>
+        ensures at { IfOk result (λ b. b ≡ length self.old.blocks) }
+        ensures count { OnOk result (length self.new.blocks ≡ length self.old.blocks + 1) }
+        ensures put { IfOk result (λ b. Part self.old.blocks self.new.blocks (ShapeAt b m (Plain of.op (jump_of norm)))) }
+    {
         let base = self.take(m)?;
         let _result = self.take(1)?;
         let none: Seq<usize> = Seq::new(alloc);
         self.put(Block {
             inputs: inputs(alloc, base, m)?,
-            ops: ops_of(alloc, base, covers, of, none.as_slice(), m)?,
+            ops: ops_of(alloc, base, no_covers(), of, none.as_slice(), m)?,
             exit: Exit::Goto(link(alloc, base, &norm)?),
         })
     }
 
     /// A block with one input, which it returns.
-    pub fn put_return(&mut self, alloc: Global) -> Result<u64, NoMem> {
+    pub fn put_return(&mut self, alloc: Global) -> Result<u64, NoMem>
+        ensures at { IfOk result (λ b. b ≡ length self.old.blocks) }
+        ensures count { OnOk result (length self.new.blocks ≡ length self.old.blocks + 1) }
+        ensures put { IfOk result (λ b. Part self.old.blocks self.new.blocks (ShapeAt b 1 GiveBack)) }
+    {
         let base = self.take(1)?;
         self.put(Block {
             inputs: inputs(alloc, base, 1)?,
@@ -278,7 +349,11 @@ impl Code {
     }
 
     /// A block with one input, an exception with which it leaves the function.
-    pub fn put_raise(&mut self, alloc: Global) -> Result<u64, NoMem> {
+    pub fn put_raise(&mut self, alloc: Global) -> Result<u64, NoMem>
+        ensures at { IfOk result (λ b. b ≡ length self.old.blocks) }
+        ensures count { OnOk result (length self.new.blocks ≡ length self.old.blocks + 1) }
+        ensures put { IfOk result (λ b. Part self.old.blocks self.new.blocks (ShapeAt b 1 GiveUp)) }
+    {
         let base = self.take(1)?;
         self.put(Block {
             inputs: inputs(alloc, base, 1)?,
@@ -288,7 +363,9 @@ impl Code {
     }
 
     /// A block with m inputs that goes on to another, which is not there yet, with the first of them.
-    pub fn put_head(&mut self, alloc: Global, m: usize) -> Result<Head, NoMem> {
+    pub fn put_head(&mut self, alloc: Global, m: usize) -> Result<Head, NoMem>
+        ensures { IfOk result (λ head. Headed self.old.blocks self.new.blocks m head.number head.m) }
+    {
         let base = self.take(m)?;
         let jump = jump_first(alloc, 0, 0)?;
         let number = self.put(Block {
@@ -300,7 +377,9 @@ impl Code {
     }
 
     /// The head goes on to this block.
-    pub fn aim(&mut self, alloc: Global, head: Head, to: u64) -> Result<(), NoMem> {
+    pub fn aim(&mut self, alloc: Global, head: Head, to: u64) -> Result<(), NoMem>
+        ensures { OnOk result (self.new.blocks ≡ slice_set self.old.blocks head.number (numbered head.base head.m 0 false (Go (on_first to head.m)))) }
+    {
         let jump = jump_first(alloc, to, head.m)?;
         let block = Block {
             inputs: inputs(alloc, head.base, head.m)?,

@@ -1,8 +1,12 @@
 // For which failures the body of a `try` is covered.
-use crate::code::Hand;
-use rpy_base::{NoMem, Seq};
+ghost use Rattle.std.specs.Prelude.{◌≡◌, ◌==◌};
+ghost use Rattle.std.specs.List.{list_any};
+ghost use Rattle.rpy_meaning.specs.Classes as spec;
+ghost use Rattle.flow_space.specs.Programs as programs;
+ghost use Rattle.flow_space.specs.Trees.{clause_of, clauses_of, program_of};
+
 use rpy_meaning::Covers;
-use rpy_resolved::{Class, Clause};
+use rpy_resolved::{Clause, Resolved};
 use rpy_tree::ClassId;
 
 const ZERO_DIVISION_ERROR: ClassId = 4;
@@ -13,64 +17,82 @@ const VALUE_ERROR: ClassId = 8;
 
 const ATTRIBUTE_ERROR: ClassId = 9;
 
-fn base_of(classes: &[Class], class: ClassId) -> Option<ClassId> {
-    match classes.get(class as usize) {
+#[tactic(auto, using(crate::proofs::Bases::class_there, crate::proofs::Bases::class_missing))]
+fn base_of(program: &Resolved, class: ClassId) -> Option<ClassId>
+    ensures { result ≡ spec.base_of (spec.class_at (programs.classes_in program.now) class) }
+{
+    match program.classes.get(class as usize) {
         None => None,
         Some(class) => class.base,
     }
 }
 
-/// Whether a class is another or has it among its bases.
-pub fn is_below(classes: &[Class], class: ClassId, of: ClassId) -> bool {
-    let mut at = class;
-    for _base in 0..classes.len() {
-        if at == of {
-            return true;
-        }
-        match base_of(classes, at) {
-            None => return false,
-            Some(base) => at = base,
+// Whether a class is among so many of a line of bases.
+#[tactic(auto, using(crate::proofs::Bases::line_step))]
+fn is_in_line(program: &Resolved, levels: usize, class: Option<ClassId>, base: ClassId) -> bool
+    ensures { result ≡ list_any (λ e. e == base) (spec.line_of (programs.classes_in program.now) levels class) }
+{
+    if levels == 0 {
+        return false;
+    }
+    match class {
+        None => false,
+        Some(class) => {
+            class == base || is_in_line(program, levels - 1, base_of(program, class), base)
         }
     }
-    at == of
 }
 
-fn takes(classes: &[Class], clause: &Clause, class: ClassId) -> bool {
-    if clause.bare {
-        return true;
-    }
-    for of in clause.classes.as_slice() {
-        if is_below(classes, class, *of) {
+/// Whether the first class is the second one or below it.
+#[tactic(auto, using(crate::proofs::Bases::class_count))]
+fn is_below(program: &Resolved, class: ClassId, base: ClassId) -> bool
+    ensures { result ≡ spec.is_below (programs.classes_in program.now) class base }
+{
+    is_in_line(program, program.classes.len(), Some(class), base)
+}
+
+fn is_below_one(program: &Resolved, class: ClassId, bases: &[ClassId]) -> bool
+    ensures { result ≡ list_any (spec.is_below (programs.classes_in program.now) class) bases.now }
+{
+    let mut rest = bases;
+    while let [base, after @ ..] = rest {
+        if is_below(program, class, *base) {
             return true;
         }
+        rest = after;
     }
     false
 }
 
-fn some_takes(classes: &[Class], clauses: &[Clause], class: ClassId) -> bool {
-    for clause in clauses {
-        if takes(classes, clause, class) {
+// Whether a clause takes the exceptions of a class.
+#[tactic(auto, unfolding(crate::specs::Trees::program_of))]
+fn takes(program: &Resolved, clause: &Clause, class: ClassId) -> bool
+    ensures { result ≡ spec.takes (program_of program.now).classes (clause_of program.now.sites clause.now).classes class }
+{
+    clause.bare || is_below_one(program, class, clause.classes.as_slice())
+}
+
+fn some_takes(program: &Resolved, clauses: &[Clause], class: ClassId) -> bool
+    ensures { result ≡ spec.some_takes (program_of program.now).classes (clauses_of program.now.sites clauses.now) class }
+{
+    let mut rest = clauses;
+    while let [clause, after @ ..] = rest {
+        if takes(program, clause, class) {
             return true;
         }
+        rest = after;
     }
     false
 }
 
 /// The covers of a body with these clauses around it.
-pub fn covers_of(classes: &[Class], clauses: &[Clause], around: Covers) -> Covers {
+pub fn covers_of(program: &Resolved, clauses: &[Clause], around: Covers) -> Covers
+    ensures { result ≡ spec.covers_within (program_of program.now).classes (clauses_of program.now.sites clauses.now) around }
+{
     Covers {
-        index: around.index || some_takes(classes, clauses, INDEX_ERROR),
-        zero: around.zero || some_takes(classes, clauses, ZERO_DIVISION_ERROR),
-        number: around.number || some_takes(classes, clauses, VALUE_ERROR),
-        attribute: around.attribute || some_takes(classes, clauses, ATTRIBUTE_ERROR),
+        index: around.index || some_takes(program, clauses, INDEX_ERROR),
+        zero: around.zero || some_takes(program, clauses, ZERO_DIVISION_ERROR),
+        number: around.number || some_takes(program, clauses, VALUE_ERROR),
+        attribute: around.attribute || some_takes(program, clauses, ATTRIBUTE_ERROR),
     }
-}
-
-/// The hands, and then those around.
-pub fn copy_hands(hands: Seq<Hand>, around: &[Hand]) -> Result<Seq<Hand>, NoMem> {
-    let mut hands = hands;
-    for hand in around {
-        hands.push(*hand)?;
-    }
-    Ok(hands)
 }

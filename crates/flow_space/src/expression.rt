@@ -1,10 +1,16 @@
 // Expressions to blocks. What comes after a part is put first, so each block goes on to blocks with
 // known numbers. Where a part begins, the first variables of a block are the function's locals, and
 // those that enclosing parts hold stand behind them. A part's value is one more.
+ghost use Rattle.std.specs.Prelude.{◌≡◌, ◌≤◌, ◌+◌, ◌∷◌, ◌++◌, [], pos, IfOk};
+ghost use Rattle.rpy_meaning.specs.declared.row.RowOp.TheVariants as row;
+ghost use Rattle.flow_stands.specs.Places.{range, first_and as on_first_and, Go};
+ghost use Rattle.flow_stands.specs.Stands as stands;
+ghost use Rattle.flow_space.specs.Placed.{Part, ShapeAt, ActsAt, MeetsAt, ExprAt, ExprsAt, ApplyAt, NotAt, LogicAt, TestAt, WayAt, TruthAt, AsksAt, SidesAt, DisplayAt, PairsAt, PairAt, SubjectAt, GatherAt, ComprehensionAt, BindAt, ItemAt, PartsAt, ItemsAt, NarrowedAt, IsBeside, AreArgs, branch_of, jump_of};
+
 use crate::NEVER;
-use crate::code::{Act, Code, Jump, Scope, jump_and, jump_first, jump_stored, op_at};
+use crate::code::{Act, Code, Jump, Scope, jump_and, jump_first, jump_stored, local_place, op_at};
 use crate::copy::copy_op;
-use crate::narrow::{Narrowing, Side, narrowed};
+use crate::narrow::{Kind, Narrowing, Side, narrowed};
 use crate::places::{narrow, one, plus, range, three, two};
 use crate::walk::{Walk, put_advance, put_turn, step_of};
 use rpy_base::{NoMem, Own, Seq};
@@ -14,19 +20,13 @@ use rpy_resolved::{Expr, Subject, Target};
 use rpy_tree::{CmpOp, NodeId, SiteId};
 use std::alloc::Global;
 
-fn is_raise(op: &RowOp) -> bool {
-    match op {
-        RowOp::Raise => true,
-        _ => false,
-    }
-}
-
 // Nothing follows what raises.
-fn onward(alloc: Global, op: &RowOp, norm: u64, m: usize, last: usize) -> Result<Jump, NoMem> {
-    if is_raise(op) {
-        jump_first(alloc, NEVER, 0)
-    } else {
-        jump_and(alloc, norm, m, last)
+fn onward(alloc: Global, op: &RowOp, norm: u64, m: usize, last: usize) -> Result<Jump, NoMem>
+    ensures { IfOk result (λ jump. jump_of jump ≡ stands.onward op.now norm m last) }
+{
+    match op {
+        RowOp::Raise => jump_first(alloc, NEVER, 0),
+        _ => jump_and(alloc, norm, m, last),
     }
 }
 
@@ -39,7 +39,9 @@ fn put_last(
     m: usize,
     count: usize,
     norm: u64,
-) -> Result<u64, NoMem> {
+) -> Result<u64, NoMem>
+    ensures { IfOk result (λ b. Part code.old.blocks code.new.blocks (ActsAt scope.now b of.op (range m count) (m + count) (stands.onward of.op norm m (m + count)))) }
+{
     let args = range(alloc, m, count)?;
     let last = plus(m, count)?;
     let jump = onward(alloc, &of.op, norm, m, last)?;
@@ -54,7 +56,9 @@ fn put_leaf(
     of: Act,
     m: usize,
     norm: u64,
-) -> Result<u64, NoMem> {
+) -> Result<u64, NoMem>
+    ensures { IfOk result (λ b. Part code.old.blocks code.new.blocks (ActsAt scope.now b of.op [] m (stands.onward of.op norm m m))) }
+{
     put_last(alloc, code, scope, of, m, 0, norm)
 }
 
@@ -67,7 +71,9 @@ fn put_copy(
     place: usize,
     m: usize,
     norm: u64,
-) -> Result<u64, NoMem> {
+) -> Result<u64, NoMem>
+    ensures { IfOk result (λ b. Part code.old.blocks code.new.blocks (ActsAt scope.now b row.Copy (place ∷ []) m (on_first_and norm m m))) }
+{
     let args = one(alloc, place)?;
     let jump = jump_and(alloc, norm, m, m)?;
     code.put_op(alloc, scope, op_at(node, true, RowOp::Copy), args, m, jump)
@@ -82,7 +88,9 @@ fn put_meeting(
     node: NodeId,
     m: usize,
     norm: u64,
-) -> Result<u64, NoMem> {
+) -> Result<u64, NoMem>
+    ensures { IfOk result (λ b. Part code.old.blocks code.new.blocks (MeetsAt scope.now b m norm)) }
+{
     put_last(
         alloc,
         code,
@@ -104,10 +112,13 @@ pub fn put_expr(
     e: &Expr,
     m: usize,
     norm: u64,
-) -> Result<u64, NoMem> {
+) -> Result<u64, NoMem>
+    ensures { IfOk result (λ b. Part code.old.blocks code.new.blocks (ExprAt scope.now e.now b m norm)) }
+{
     match e {
         Expr::Local(node, local) => {
-            put_copy(alloc, code, scope, *node, *local as usize, m, norm)
+            let place = local_place(scope, *local)?;
+            put_copy(alloc, code, scope, *node, place, m, norm)
         }
         Expr::Constant(node, value) => {
             let op = RowOp::Constant(copy_const(alloc, value)?);
@@ -160,7 +171,9 @@ fn put_exprs(
     es: &[Expr],
     m: usize,
     norm: u64,
-) -> Result<u64, NoMem> {
+) -> Result<u64, NoMem>
+    ensures { IfOk result (λ b. Part code.old.blocks code.new.blocks (ExprsAt scope.now es.now b m norm)) }
+{
     match es {
         [] => Ok(norm),
         [e, rest @ ..] => {
@@ -192,7 +205,9 @@ fn put_apply(
     es: &[Expr],
     m: usize,
     norm: u64,
-) -> Result<u64, NoMem> {
+) -> Result<u64, NoMem>
+    ensures { IfOk result (λ b. Part code.old.blocks code.new.blocks (ApplyAt scope.now op.now es.now b m norm)) }
+{
     match es {
         [a] => match op {
             RowOp::Not => {
@@ -219,7 +234,9 @@ fn put_operation(
     es: &[Expr],
     m: usize,
     norm: u64,
-) -> Result<u64, NoMem> {
+) -> Result<u64, NoMem>
+    ensures { IfOk result (λ b. Part code.old.blocks code.new.blocks (ApplyAt scope.now op.now es.now b m norm)) }
+{
     let op = copy_op(alloc, op)?;
     let last = put_last(
         alloc,
@@ -243,7 +260,9 @@ fn put_not(
     a: &Expr,
     m: usize,
     norm: u64,
-) -> Result<u64, NoMem> {
+) -> Result<u64, NoMem>
+    ensures { IfOk result (λ b. Part code.old.blocks code.new.blocks (NotAt scope.now a.now b m norm)) }
+{
     let meet = put_meeting(alloc, code, scope, node, m, norm)?;
     let no = put_leaf(
         alloc,
@@ -276,18 +295,18 @@ fn put_logic(
     b: &Expr,
     m: usize,
     norm: u64,
-) -> Result<u64, NoMem> {
+) -> Result<u64, NoMem>
+    ensures { IfOk result (λ begin. Part code.old.blocks code.new.blocks (LogicAt scope.now is_and a.now b.now begin m norm)) }
+{
     let meet = put_meeting(alloc, code, scope, node, m, norm)?;
     let right = put_expr(alloc, code, scope, b, m, meet)?;
     let go = Branch {
         to: right,
         value: false,
-        narrow: true,
     };
     let stay = Branch {
         to: meet,
         value: true,
-        narrow: false,
     };
     if is_and {
         put_simple(alloc, code, scope, a, node, m, go, stay)
@@ -298,17 +317,15 @@ fn put_logic(
 
 // ---- tests
 
-// Where a test leads, whether with the value that was tested, and whether what it says of a local
-// counts there.
+// Where a test leads, and whether with the value that was tested. Without it what the test says of a
+// local counts there.
 #[derive(Clone, Copy, Debug, PartialEq, Eq)]
 struct Branch {
     to: u64,
     value: bool,
-    narrow: bool,
 }
 
-/// Blocks that go on by the truth of an expression, with m variables. A test that cannot be one is a
-/// fault at the node.
+/// Blocks that go on by the truth of an expression, with m variables.
 #[cycle(expr)]
 pub fn put_test(
     alloc: Global,
@@ -319,7 +336,9 @@ pub fn put_test(
     m: usize,
     yes: u64,
     no: u64,
-) -> Result<u64, NoMem> {
+) -> Result<u64, NoMem>
+    ensures { IfOk result (λ b. Part code.old.blocks code.new.blocks (TestAt scope.now e.now b m yes no)) }
+{
     match e {
         Expr::And(inner, a, b) => {
             let right = put_test(alloc, code, scope, b.get(), *inner, m, yes, no)?;
@@ -329,35 +348,20 @@ pub fn put_test(
             let right = put_test(alloc, code, scope, b.get(), *inner, m, yes, no)?;
             put_test(alloc, code, scope, a.get(), *inner, m, yes, right)
         }
-        Expr::Apply(inner, _, RowOp::Not, es) => {
-            put_negated(alloc, code, scope, es.as_slice(), *inner, m, yes, no)
+        Expr::Apply(inner, _, op, es) => match op {
+            RowOp::Not => match es.as_slice() {
+                [a] => put_test(alloc, code, scope, a, *inner, m, no, yes),
+                _ => put_branches(alloc, code, scope, e, node, m, yes, no),
+            },
+            _ => put_branches(alloc, code, scope, e, node, m, yes, no),
+        },
+        Expr::Local(_, _) => put_branches(alloc, code, scope, e, node, m, yes, no),
+        Expr::Constant(_, _) => put_branches(alloc, code, scope, e, node, m, yes, no),
+        Expr::Display(_, _, _) => put_branches(alloc, code, scope, e, node, m, yes, no),
+        Expr::Comprehension(_, _, _, _, _, _) => {
+            put_branches(alloc, code, scope, e, node, m, yes, no)
         }
-        _ => put_branches(alloc, code, scope, e, node, m, yes, no),
     }
-}
-
-#[cycle(expr)]
-fn put_negated(
-    alloc: Global,
-    code: &mut Code,
-    scope: &Scope,
-    es: &[Expr],
-    node: NodeId,
-    m: usize,
-    yes: u64,
-    no: u64,
-) -> Result<u64, NoMem> {
-    match es {
-        [a] => put_test(alloc, code, scope, a, node, m, no, yes),
-        _ => put_unfit(alloc, code, scope, m),
-    }
-}
-
-// An operation without the operands that it needs.
-fn put_unfit(alloc: Global, code: &mut Code, scope: &Scope, m: usize) -> Result<u64, NoMem> {
-    let none: Seq<usize> = Seq::new(alloc);
-    let jump = jump_first(alloc, NEVER, 0)?;
-    code.put_op(alloc, scope, op_at(0, false, RowOp::Copy), none, m, jump)
 }
 
 #[cycle(expr)]
@@ -370,53 +374,79 @@ fn put_branches(
     m: usize,
     yes: u64,
     no: u64,
-) -> Result<u64, NoMem> {
+) -> Result<u64, NoMem>
+    ensures { IfOk result (λ b. Part code.old.blocks code.new.blocks (AsksAt scope.now e.now b m (stands.plainly yes) (stands.plainly no))) }
+{
     let yes = Branch {
         to: yes,
         value: false,
-        narrow: true,
     };
     let no = Branch {
         to: no,
         value: false,
-        narrow: true,
     };
     put_simple(alloc, code, scope, e, node, m, yes, no)
 }
 
-// Whether the two sides of a comparison are needed after it.
-fn needs_sides(e: &Expr) -> bool {
-    match narrowed(e, true) {
-        Some(narrowing) => narrowing.side != None,
-        None => match narrowed(e, false) {
-            Some(narrowing) => narrowing.side != None,
-            None => false,
+// Whether what a test says needs a side of its comparison.
+fn needs_side(e: &Expr, truth: bool) -> bool {
+    match narrowed(e, truth) {
+        None => false,
+        Some(narrowing) => match narrowing.kind {
+            Kind::NonNegative(_) => true,
+            _ => false,
         },
     }
 }
 
+// Whether the two sides of a comparison are needed after it.
+fn needs_sides(e: &Expr) -> bool {
+    needs_side(e, true) || needs_side(e, false)
+}
+
 // The place of a side of a comparison whose left side is at m.
-fn side_place(m: usize, side: Side) -> Result<usize, NoMem> {
+fn side_place(m: usize, side: Side) -> Result<usize, NoMem>
+    ensures { IfOk result (λ place. m ≤ place) }
+{
     match side {
         Side::Left => Ok(m),
         Side::Right => plus(m, 1),
     }
 }
 
-fn narrowing_args(alloc: Global, m: usize, narrowing: &Narrowing) -> Result<Seq<usize>, NoMem> {
-    match narrowing.side {
-        None => one(alloc, narrowing.local as usize),
-        Some(side) => two(alloc, narrowing.local as usize, side_place(m, side)?),
+// The local and a side of a comparison, which stands before its value.
+fn beside_args(
+    alloc: Global,
+    local: usize,
+    side: Side,
+    m: usize,
+    value: usize,
+) -> Result<Seq<usize>, NoMem>
+    ensures { IfOk result (λ args. IsBeside args local m value) }
+{
+    let place = side_place(m, side)?;
+    if place <= value {
+        two(alloc, local, place)
+    } else {
+        Err(NoMem)
     }
 }
 
-// Where the branch goes on with the first m variables, perhaps of them a local another, and perhaps
-// with the value at a place.
-fn branch_jump(alloc: Global, branch: Branch, m: usize, value: usize) -> Result<Jump, NoMem> {
-    if branch.value {
-        jump_and(alloc, branch.to, m, value)
-    } else {
-        jump_first(alloc, branch.to, m)
+fn narrowing_args(
+    alloc: Global,
+    local: usize,
+    kind: Kind,
+    m: usize,
+    value: usize,
+) -> Result<Seq<usize>, NoMem>
+    ensures { IfOk result (λ args. AreArgs kind args local m value) }
+{
+    match kind {
+        Kind::NonNegative(side) => beside_args(alloc, local, side, m, value),
+        Kind::DropNone => one(alloc, local),
+        Kind::OnlyNone => one(alloc, local),
+        Kind::FalseNone => one(alloc, local),
+        Kind::Lower(_) => one(alloc, local),
     }
 }
 
@@ -430,21 +460,19 @@ fn put_narrowing(
     m: usize,
     value: usize,
     to: u64,
-) -> Result<Jump, NoMem> {
+) -> Result<Jump, NoMem>
+    ensures { IfOk result (λ jump. Part code.old.blocks code.new.blocks (NarrowedAt scope.now narrowing m value to (jump_of jump))) }
+{
     let count = plus(value, 1)?;
-    let args = narrowing_args(alloc, m, &narrowing)?;
+    let local = local_place(scope, narrowing.local)?;
+    let args = narrowing_args(alloc, local, narrowing.kind, m, value)?;
     let jump = jump_stored(alloc, to, m, narrowing.local, count)?;
-    let block = code.put_op(
-        alloc,
-        scope,
-        op_at(node, false, narrowing.op),
-        args,
-        count,
-        jump,
-    )?;
+    let of = op_at(node, false, narrowing.kind.op());
+    let block = code.put_op(alloc, scope, of, args, count, jump)?;
     jump_first(alloc, block, count)
 }
 
+// On to a branch with the first m variables, perhaps with the value at a place.
 fn put_branch(
     alloc: Global,
     code: &mut Code,
@@ -455,16 +483,18 @@ fn put_branch(
     m: usize,
     value: usize,
     branch: Branch,
-) -> Result<Jump, NoMem> {
-    if branch.narrow {
+) -> Result<Jump, NoMem>
+    ensures { IfOk result (λ jump. Part code.old.blocks code.new.blocks (WayAt scope.now e.now m value (branch_of branch) (jump_of jump))) }
+{
+    if branch.value {
+        jump_and(alloc, branch.to, m, value)
+    } else {
         match narrowed(e, truth) {
-            None => branch_jump(alloc, branch, m, value),
+            None => jump_first(alloc, branch.to, m),
             Some(narrowing) => {
                 put_narrowing(alloc, code, scope, node, narrowing, m, value, branch.to)
             }
         }
-    } else {
-        branch_jump(alloc, branch, m, value)
     }
 }
 
@@ -479,7 +509,9 @@ fn put_truth(
     value: usize,
     yes: Branch,
     no: Branch,
-) -> Result<u64, NoMem> {
+) -> Result<u64, NoMem>
+    ensures { IfOk result (λ b. Part code.old.blocks code.new.blocks (TruthAt scope.now e.now b m value (branch_of yes) (branch_of no))) }
+{
     let truth = plus(value, 1)?;
     let all = plus(truth, 1)?;
     let yes = put_branch(alloc, code, scope, e, node, true, m, value, yes)?;
@@ -497,6 +529,24 @@ fn put_truth(
     )
 }
 
+// An expression and the truth of its value.
+#[cycle(expr)]
+fn put_whole(
+    alloc: Global,
+    code: &mut Code,
+    scope: &Scope,
+    e: &Expr,
+    node: NodeId,
+    m: usize,
+    yes: Branch,
+    no: Branch,
+) -> Result<u64, NoMem>
+    ensures { IfOk result (λ b. Part code.old.blocks code.new.blocks (AsksAt scope.now e.now b m (branch_of yes) (branch_of no))) }
+{
+    let truth = put_truth(alloc, code, scope, e, node, m, m, yes, no)?;
+    put_expr(alloc, code, scope, e, m, truth)
+}
+
 // A test that is neither `not` nor `and` nor `or`.
 #[cycle(expr)]
 fn put_simple(
@@ -508,32 +558,24 @@ fn put_simple(
     m: usize,
     yes: Branch,
     no: Branch,
-) -> Result<u64, NoMem> {
+) -> Result<u64, NoMem>
+    ensures { IfOk result (λ b. Part code.old.blocks code.new.blocks (AsksAt scope.now e.now b m (branch_of yes) (branch_of no))) }
+{
     match e {
-        Expr::Apply(inner, value, RowOp::Compare(op), es) => {
-            if needs_sides(e) {
-                let place = plus(m, es.len())?;
-                let truth = put_truth(alloc, code, scope, e, node, m, place, yes, no)?;
-                put_sides(
-                    alloc,
-                    code,
-                    scope,
-                    *inner,
-                    *value,
-                    *op,
-                    es.as_slice(),
-                    m,
-                    truth,
-                )
-            } else {
-                let truth = put_truth(alloc, code, scope, e, node, m, m, yes, no)?;
-                put_expr(alloc, code, scope, e, m, truth)
+        Expr::Apply(inner, value, op, es) => match op {
+            RowOp::Compare(op) => {
+                if needs_sides(e) {
+                    let place = plus(m, es.len())?;
+                    let truth = put_truth(alloc, code, scope, e, node, m, place, yes, no)?;
+                    let es = es.as_slice();
+                    put_sides(alloc, code, scope, *inner, *value, *op, es, m, truth)
+                } else {
+                    put_whole(alloc, code, scope, e, node, m, yes, no)
+                }
             }
-        }
-        _ => {
-            let truth = put_truth(alloc, code, scope, e, node, m, m, yes, no)?;
-            put_expr(alloc, code, scope, e, m, truth)
-        }
+            _ => put_whole(alloc, code, scope, e, node, m, yes, no),
+        },
+        _ => put_whole(alloc, code, scope, e, node, m, yes, no),
     }
 }
 
@@ -549,7 +591,9 @@ fn put_sides(
     es: &[Expr],
     m: usize,
     norm: u64,
-) -> Result<u64, NoMem> {
+) -> Result<u64, NoMem>
+    ensures { IfOk result (λ b. Part code.old.blocks code.new.blocks (SidesAt scope.now (row.Compare op) es.now b m norm)) }
+{
     let count = es.len();
     let args = range(alloc, m, count)?;
     let last = plus(m, count)?;
@@ -577,7 +621,9 @@ fn put_display(
     pairs: &[(Expr, Expr)],
     m: usize,
     norm: u64,
-) -> Result<u64, NoMem> {
+) -> Result<u64, NoMem>
+    ensures { IfOk result (λ b. Part code.old.blocks code.new.blocks (DisplayAt scope.now site pairs.now b m norm)) }
+{
     let whole = put_meeting(alloc, code, scope, node, m, norm)?;
     let next = put_pairs(alloc, code, scope, node, pairs, m, whole)?;
     put_leaf(
@@ -600,7 +646,9 @@ fn put_pairs(
     pairs: &[(Expr, Expr)],
     m: usize,
     norm: u64,
-) -> Result<u64, NoMem> {
+) -> Result<u64, NoMem>
+    ensures { IfOk result (λ b. Part code.old.blocks code.new.blocks (PairsAt scope.now pairs.now b m norm)) }
+{
     match pairs {
         [] => Ok(norm),
         [pair, rest @ ..] => {
@@ -619,7 +667,9 @@ fn put_pair(
     pair: &(Expr, Expr),
     m: usize,
     norm: u64,
-) -> Result<u64, NoMem> {
+) -> Result<u64, NoMem>
+    ensures { IfOk result (λ b. Part code.old.blocks code.new.blocks (PairAt scope.now pair.now b m norm)) }
+{
     let key = plus(m, 1)?;
     let value = plus(m, 2)?;
     let all = plus(m, 3)?;
@@ -644,7 +694,9 @@ pub fn put_subject(
     node: NodeId,
     m: usize,
     norm: u64,
-) -> Result<u64, NoMem> {
+) -> Result<u64, NoMem>
+    ensures { IfOk result (λ b. Part code.old.blocks code.new.blocks (SubjectAt scope.now subject.now b m norm)) }
+{
     match subject {
         Subject::Over(site, e) => {
             let zero = put_zero(alloc, code, scope, node, m, norm)?;
@@ -673,7 +725,9 @@ fn put_second(
     e: &Expr,
     m: usize,
     norm: u64,
-) -> Result<u64, NoMem> {
+) -> Result<u64, NoMem>
+    ensures { IfOk result (λ b. Part code.old.blocks code.new.blocks (ExprAt scope.now e.now b (m + 1) norm)) }
+{
     let more = plus(m, 1)?;
     put_expr(alloc, code, scope, e, more, norm)
 }
@@ -686,7 +740,9 @@ fn put_zero(
     node: NodeId,
     m: usize,
     norm: u64,
-) -> Result<u64, NoMem> {
+) -> Result<u64, NoMem>
+    ensures { IfOk result (λ b. Part code.old.blocks code.new.blocks (ActsAt scope.now b (row.Word (pos 0)) [] (m + 1) (on_first_and norm (m + 1) (m + 1)))) }
+{
     let more = plus(m, 1)?;
     put_leaf(
         alloc,
@@ -699,7 +755,9 @@ fn put_zero(
 }
 
 // The two variables at m the other way round.
-fn put_swap(alloc: Global, code: &mut Code, m: usize, norm: u64) -> Result<u64, NoMem> {
+fn put_swap(alloc: Global, code: &mut Code, m: usize, norm: u64) -> Result<u64, NoMem>
+    ensures { IfOk result (λ b. Part code.old.blocks code.new.blocks (ShapeAt b (m + 2) (Go (record { to = norm; places = (range 0 m ++ (m + 1) ∷ []) ++ m ∷ [] })))) }
+{
     let second = plus(m, 1)?;
     let all = plus(m, 2)?;
     let mut jump = jump_and(alloc, norm, m, second)?;
@@ -721,7 +779,9 @@ fn put_gather(
     list: usize,
     walk: Walk,
     advance: u64,
-) -> Result<u64, NoMem> {
+) -> Result<u64, NoMem>
+    ensures { IfOk result (λ b. Part code.old.blocks code.new.blocks (GatherAt scope.now item.now condition.now list walk.all advance b)) }
+{
     let more = plus(walk.all, 1)?;
     let args = two(alloc, list, walk.all)?;
     let jump = jump_first(alloc, advance, walk.all)?;
@@ -758,13 +818,15 @@ fn put_comprehension(
     condition: &Option<Own<Expr>>,
     m: usize,
     norm: u64,
-) -> Result<u64, NoMem> {
+) -> Result<u64, NoMem>
+    ensures { IfOk result (λ b. Part code.old.blocks code.new.blocks (ComprehensionAt scope.now site item.now target.now subject.now condition.now b m norm)) }
+{
     let over = plus(m, 1)?;
     let walk = Walk {
         node,
         step: step_of(subject),
         over,
-        all: plus(m, 3)?,
+        all: plus(over, 2)?,
     };
     let head = code.put_head(alloc, walk.all)?;
     let advance = put_advance(alloc, code, scope, walk, head)?;
@@ -773,7 +835,8 @@ fn put_comprehension(
     let bind = put_bind(alloc, code, scope, target, walk.all, more, walk.all, gather)?;
     let whole = put_meeting(alloc, code, scope, node, m, norm)?;
     let done = jump_first(alloc, whole, over)?;
-    put_turn(alloc, code, scope, walk, head, bind, done)?;
+    let asked = put_turn(alloc, code, scope, walk, bind, done)?;
+    code.aim(alloc, head, asked)?;
     let begin = put_subject(alloc, code, scope, subject, node, over, head.number)?;
     let of = op_at(node, false, RowOp::Comprehension(site));
     put_leaf(alloc, code, scope, of, m, begin)
@@ -793,9 +856,12 @@ pub fn put_bind(
     m: usize,
     keep: usize,
     norm: u64,
-) -> Result<u64, NoMem> {
+) -> Result<u64, NoMem>
+    ensures { IfOk result (λ b. Part code.old.blocks code.new.blocks (BindAt scope.now target.now value m keep b norm)) }
+{
     match target {
         Target::Name(node, local) => {
+            let _place = local_place(scope, *local)?;
             let args = one(alloc, value)?;
             let jump = jump_stored(alloc, norm, keep, *local, m)?;
             code.put_op(alloc, scope, op_at(*node, true, RowOp::Copy), args, m, jump)
@@ -804,7 +870,8 @@ pub fn put_bind(
             let of = op_at(*node, true, RowOp::StoreAttr(name.copy(alloc)?));
             let args = two(alloc, m, value)?;
             let jump = jump_first(alloc, norm, keep)?;
-            let store = code.put_op(alloc, scope, of, args, plus(m, 1)?, jump)?;
+            let more = plus(m, 1)?;
+            let store = code.put_op(alloc, scope, of, args, more, jump)?;
             put_expr(alloc, code, scope, e, m, store)
         }
         Target::Item(node, a, i) => {
@@ -838,12 +905,15 @@ fn put_item(
     m: usize,
     keep: usize,
     norm: u64,
-) -> Result<u64, NoMem> {
+) -> Result<u64, NoMem>
+    ensures { IfOk result (λ b. Part code.old.blocks code.new.blocks (ItemAt scope.now a.now i.now value m keep b norm)) }
+{
     let index = plus(m, 1)?;
     let args = three(alloc, m, index, value)?;
     let jump = jump_first(alloc, norm, keep)?;
     let of = op_at(node, true, RowOp::StoreIndex);
-    let store = code.put_op(alloc, scope, of, args, plus(m, 2)?, jump)?;
+    let all = plus(m, 2)?;
+    let store = code.put_op(alloc, scope, of, args, all, jump)?;
     let right = put_expr(alloc, code, scope, i, index, store)?;
     put_expr(alloc, code, scope, a, m, right)
 }
@@ -860,16 +930,29 @@ fn put_parts(
     m: usize,
     keep: usize,
     norm: u64,
-) -> Result<u64, NoMem> {
+) -> Result<u64, NoMem>
+    ensures { IfOk result (λ b. Part code.old.blocks code.new.blocks (PartsAt scope.now parts.now value m keep b norm)) }
+{
     let end = jump_first(alloc, norm, keep)?;
     let end = code.put_jump(alloc, m, end)?;
-    let begin = put_items(alloc, code, scope, node, parts, parts.len(), value, m, end)?;
+    let begin = put_items(
+        alloc,
+        code,
+        scope,
+        node,
+        parts,
+        parts.len(),
+        0,
+        value,
+        m,
+        end,
+    )?;
     let args = one(alloc, value)?;
     let jump = jump_first(alloc, begin, m)?;
     code.put_op(alloc, scope, op_at(node, true, RowOp::Copy), args, m, jump)
 }
 
-// The last parts of a tuple's target, of which there are `count`.
+// The parts of a tuple's target from a place on, of which there are `count`.
 #[cycle(expr)]
 fn put_items(
     alloc: Global,
@@ -878,15 +961,18 @@ fn put_items(
     node: NodeId,
     parts: &[Target],
     count: usize,
+    place: usize,
     value: usize,
     m: usize,
     norm: u64,
-) -> Result<u64, NoMem> {
+) -> Result<u64, NoMem>
+    ensures { IfOk result (λ b. Part code.old.blocks code.new.blocks (ItemsAt scope.now parts.now count place value m b norm)) }
+{
     match parts {
         [] => Ok(norm),
         [part, rest @ ..] => {
-            let next = put_items(alloc, code, scope, node, rest, count, value, m, norm)?;
-            let place = count.saturating_sub(parts.len());
+            let later = plus(place, 1)?;
+            let next = put_items(alloc, code, scope, node, rest, count, later, value, m, norm)?;
             let more = plus(m, 1)?;
             let bind = put_bind(alloc, code, scope, part, m, more, m, next)?;
             let args = one(alloc, value)?;

@@ -11,7 +11,7 @@ mod statement;
 mod walk;
 mod whole;
 
-pub use whole::flow;
+pub use whole::{flow, flow_of};
 
 /// The block that returns its input.
 const RETURN: u64 = 1;

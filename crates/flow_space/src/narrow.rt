@@ -1,15 +1,29 @@
 // What a test says of a local.
+ghost use Rattle.std.specs.Prelude.{◌≡◌, ◌⊎◌, List, IfSome};
+ghost use Rattle.rpy_tree.specs.declared.program.Site.{Site};
+ghost use Rattle.flow_stands.specs.Stands.{Reads, is_local, some_is_local};
+ghost use Rattle.flow_space.specs.Placed.{narrowing_op};
+ghost use Rattle.flow_space.specs.Trees.{expr_of, exprs_of};
+
 use rpy_meaning::RowOp;
 use rpy_resolved::{Expr, Subject, Target};
-use rpy_tree::CmpOp;
+use rpy_tree::{ClassId, CmpOp};
 
-/// In a branch the local is what the operation gives of it, with one of the two sides of a
-/// comparison where it needs that.
-#[derive(Drop)]
+/// In a branch a local is what an operation gives of it, which is the same.
+#[derive(Clone, Copy, Debug, PartialEq, Eq)]
 pub struct Narrowing {
-    pub op: RowOp,
+    pub kind: Kind,
     pub local: u32,
-    pub side: Option<Side>,
+}
+
+/// The operation. The last one has a side of a comparison beside the local.
+#[derive(Clone, Copy, Debug, PartialEq, Eq)]
+pub enum Kind {
+    DropNone,
+    OnlyNone,
+    FalseNone,
+    Lower(ClassId),
+    NonNegative(Side),
 }
 
 #[derive(Clone, Copy, Debug, PartialEq, Eq)]
@@ -18,15 +32,23 @@ pub enum Side {
     Right,
 }
 
-fn says(op: RowOp, local: u32) -> Narrowing {
-    Narrowing {
-        op,
-        local,
-        side: None,
+impl Kind {
+    pub fn op(self) -> RowOp
+        ensures { result ≡ narrowing_op self }
+    {
+        match self {
+            Kind::DropNone => RowOp::DropNone,
+            Kind::OnlyNone => RowOp::OnlyNone,
+            Kind::FalseNone => RowOp::FalseNone,
+            Kind::Lower(class) => RowOp::Lower(class),
+            Kind::NonNegative(_) => RowOp::NonNegative,
+        }
     }
 }
 
-fn local_of(e: &Expr) -> Option<u32> {
+fn local_of(e: &Expr) -> Option<u32>
+    ensures { IfSome result (λ local. (sites : List Site) → is_local (expr_of sites e.now) local) }
+{
     match e {
         Expr::Local(_, local) => Some(*local),
         _ => None,
@@ -121,7 +143,9 @@ fn parts_bind(parts: &[Target], local: u32) -> bool {
 // ---- tests
 
 // A local that is one side of a comparison is not below zero where the other side is not.
-fn beside(local: &Expr, other: &Expr, side: Side) -> Option<Narrowing> {
+fn beside(local: &Expr, other: &Expr, side: Side) -> Option<Narrowing>
+    ensures { IfSome result (λ says. (sites : List Site) → is_local (expr_of sites local.now) says.local) }
+{
     match local_of(local) {
         None => None,
         Some(local) => {
@@ -129,9 +153,8 @@ fn beside(local: &Expr, other: &Expr, side: Side) -> Option<Narrowing> {
                 None
             } else {
                 Some(Narrowing {
-                    op: RowOp::NonNegative,
+                    kind: Kind::NonNegative(side),
                     local,
-                    side: Some(side),
                 })
             }
         }
@@ -139,7 +162,9 @@ fn beside(local: &Expr, other: &Expr, side: Side) -> Option<Narrowing> {
 }
 
 // Of `a < b` and `a <= b`, where true, the right side is the greater one; where false, the left.
-fn less(a: &Expr, b: &Expr, truth: bool) -> Option<Narrowing> {
+fn less(a: &Expr, b: &Expr, truth: bool) -> Option<Narrowing>
+    ensures { IfSome result (λ says. (sites : List Site) → is_local (expr_of sites a.now) says.local ⊎ is_local (expr_of sites b.now) says.local) }
+{
     if truth {
         beside(b, a, Side::Left)
     } else {
@@ -148,7 +173,9 @@ fn less(a: &Expr, b: &Expr, truth: bool) -> Option<Narrowing> {
 }
 
 // Of `a > b` and `a >= b`, where true, the left side is the greater one; where false, the right.
-fn greater(a: &Expr, b: &Expr, truth: bool) -> Option<Narrowing> {
+fn greater(a: &Expr, b: &Expr, truth: bool) -> Option<Narrowing>
+    ensures { IfSome result (λ says. (sites : List Site) → is_local (expr_of sites a.now) says.local ⊎ is_local (expr_of sites b.now) says.local) }
+{
     if truth {
         beside(a, b, Side::Right)
     } else {
@@ -157,22 +184,32 @@ fn greater(a: &Expr, b: &Expr, truth: bool) -> Option<Narrowing> {
 }
 
 // `v is None`.
-fn none_test(a: &Expr, b: &Expr, truth: bool) -> Option<Narrowing> {
+fn none_test(a: &Expr, b: &Expr, truth: bool) -> Option<Narrowing>
+    ensures { IfSome result (λ says. (sites : List Site) → is_local (expr_of sites a.now) says.local) }
+{
     match local_of(a) {
         None => None,
         Some(local) => {
             if !is_none(b) {
                 None
             } else if truth {
-                Some(says(RowOp::OnlyNone, local))
+                Some(Narrowing {
+                    kind: Kind::OnlyNone,
+                    local,
+                })
             } else {
-                Some(says(RowOp::DropNone, local))
+                Some(Narrowing {
+                    kind: Kind::DropNone,
+                    local,
+                })
             }
         }
     }
 }
 
-fn compared(op: CmpOp, a: &Expr, b: &Expr, truth: bool) -> Option<Narrowing> {
+fn compared(op: CmpOp, a: &Expr, b: &Expr, truth: bool) -> Option<Narrowing>
+    ensures { IfSome result (λ says. (sites : List Site) → is_local (expr_of sites a.now) says.local ⊎ is_local (expr_of sites b.now) says.local) }
+{
     match op {
         CmpOp::Lt => less(a, b, truth),
         CmpOp::Le => less(a, b, truth),
@@ -185,21 +222,34 @@ fn compared(op: CmpOp, a: &Expr, b: &Expr, truth: bool) -> Option<Narrowing> {
 }
 
 // The truth of a local.
-fn truth_test(local: u32, truth: bool) -> Option<Narrowing> {
+fn truth_test(local: u32, truth: bool) -> Option<Narrowing>
+    ensures { IfSome result (λ says. says.local ≡ local) }
+{
     if truth {
-        Some(says(RowOp::DropNone, local))
+        Some(Narrowing {
+            kind: Kind::DropNone,
+            local,
+        })
     } else {
-        Some(says(RowOp::FalseNone, local))
+        Some(Narrowing {
+            kind: Kind::FalseNone,
+            local,
+        })
     }
 }
 
 // `isinstance(v, C)`, where it is true.
-fn instance_test(class: u32, a: &Expr, truth: bool) -> Option<Narrowing> {
+fn instance_test(class: u32, a: &Expr, truth: bool) -> Option<Narrowing>
+    ensures { IfSome result (λ says. (sites : List Site) → is_local (expr_of sites a.now) says.local) }
+{
     match local_of(a) {
         None => None,
         Some(local) => {
             if truth {
-                Some(says(RowOp::Lower(class), local))
+                Some(Narrowing {
+                    kind: Kind::Lower(class),
+                    local,
+                })
             } else {
                 None
             }
@@ -207,7 +257,9 @@ fn instance_test(class: u32, a: &Expr, truth: bool) -> Option<Narrowing> {
     }
 }
 
-fn applied(op: &RowOp, es: &[Expr], truth: bool) -> Option<Narrowing> {
+fn applied(op: &RowOp, es: &[Expr], truth: bool) -> Option<Narrowing>
+    ensures { IfSome result (λ says. (sites : List Site) → some_is_local (exprs_of sites es.now) says.local) }
+{
     match es {
         [a] => match op {
             RowOp::IsInstance(class) => instance_test(*class, a, truth),
@@ -222,7 +274,9 @@ fn applied(op: &RowOp, es: &[Expr], truth: bool) -> Option<Narrowing> {
 }
 
 /// What a test says of a local in its branch, `not`, `and` and `or` aside.
-pub fn narrowed(e: &Expr, truth: bool) -> Option<Narrowing> {
+pub fn narrowed(e: &Expr, truth: bool) -> Option<Narrowing>
+    ensures { IfSome result (λ says. (sites : List Site) → Reads (expr_of sites e.now) says.local) }
+{
     match e {
         Expr::Local(_, local) => truth_test(*local, truth),
         Expr::Apply(_, _, op, es) => applied(op, es.as_slice(), truth),

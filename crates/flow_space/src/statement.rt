@@ -1,14 +1,20 @@
 // Statements to blocks.
+ghost use Rattle.std.specs.Prelude.{◌≡◌, ◌+◌, ◌++◌, ◌∷◌, [], IfOk, OnOk, Option};
+ghost use Rattle.rpy_meaning.specs.declared.row.RowOp.TheVariants as row;
+ghost use Rattle.flow_stands.specs.Places.{first as on_first, first_and as on_first_and, Go};
+ghost use Rattle.flow_stands.specs.Stands as stands;
+ghost use Rattle.flow_space.specs.Placed.{Part, ShapeAt, ActsAt, MarkAt, ReturnAt, DoAt, BindsAt, AssignAt, NewAt, AugmentNameAt, AugmentAttrAt, AugmentItemAt, AugmentAt, SimpleAt, StmtAt, BlockAt, IfAt, WhileAt, ForAt, TryAt, FinallyAt, LeftAt, RaisedAt, ClausesAt, aim_of, hands_of};
+
 use crate::NEVER;
-use crate::code::{Aim, Code, Hand, Jump, Scope, jump_and, jump_first, jump_stored, op_at};
+use crate::code::{Aim, Code, Hand, Scope, jump_and, jump_first, jump_stored, local_place, op_at};
 use crate::copy::copy_op;
-use crate::covers::{copy_hands, covers_of};
+use crate::covers::covers_of;
 use crate::expression::{put_bind, put_expr, put_subject, put_test};
 use crate::places::{one, plus, three, two};
 use crate::walk::{Walk, put_advance, put_turn, step_of};
 use rpy_base::{NoMem, Seq, Text};
 use rpy_meaning::{Covers, RowOp};
-use rpy_resolved::{Class, Clause, Expr, Stmt, Subject, Target};
+use rpy_resolved::{Clause, Expr, Resolved, Stmt, Subject, Target};
 use rpy_tree::NodeId;
 use std::alloc::Global;
 
@@ -23,7 +29,9 @@ pub struct Ways {
 }
 
 impl Ways {
-    fn on(self, norm: u64) -> Ways {
+    fn on(self, norm: u64) -> Ways
+        ensures { result ≡ record { norm = norm; brk = self.brk; cont = self.cont; ret = self.ret } }
+    {
         Ways {
             norm,
             brk: self.brk,
@@ -33,7 +41,9 @@ impl Ways {
     }
 
     // In the body of a loop.
-    fn within(self, next: Aim, after: Aim) -> Ways {
+    fn within(self, next: Aim, after: Aim) -> Ways
+        ensures { result ≡ record { norm = next.to; brk = after; cont = next; ret = self.ret } }
+    {
         Ways {
             norm: next.to,
             brk: after,
@@ -44,15 +54,20 @@ impl Ways {
 }
 
 // On with the first variables at once.
-fn put_aim(alloc: Global, code: &mut Code, m: usize, aim: Aim) -> Result<u64, NoMem> {
+fn put_aim(alloc: Global, code: &mut Code, m: usize, aim: Aim) -> Result<u64, NoMem>
+    ensures { IfOk result (λ b. Part code.old.blocks code.new.blocks (ShapeAt b m (Go (on_first aim.to aim.keep)))) }
+{
     let jump = jump_first(alloc, aim.to, aim.keep)?;
     code.put_jump(alloc, m, jump)
 }
 
 // On with the first variables and the last of m + 1.
-fn put_aim_and(alloc: Global, code: &mut Code, m: usize, aim: Aim) -> Result<u64, NoMem> {
+fn put_aim_and(alloc: Global, code: &mut Code, m: usize, aim: Aim) -> Result<u64, NoMem>
+    ensures { IfOk result (λ b. Part code.old.blocks code.new.blocks (ShapeAt b (m + 1) (Go (on_first_and aim.to aim.keep m)))) }
+{
+    let more = plus(m, 1)?;
     let jump = jump_and(alloc, aim.to, aim.keep, m)?;
-    code.put_jump(alloc, plus(m, 1)?, jump)
+    code.put_jump(alloc, more, jump)
 }
 
 // In the body of a `try` a handler sees the locals between any two statements: a block whose
@@ -64,7 +79,9 @@ fn put_mark(
     node: NodeId,
     m: usize,
     norm: u64,
-) -> Result<u64, NoMem> {
+) -> Result<u64, NoMem>
+    ensures { IfOk result (λ b. Part code.old.blocks code.new.blocks (MarkAt scope.now b m norm)) }
+{
     if scope.tried {
         let none: Seq<usize> = Seq::new(alloc);
         let jump = jump_first(alloc, norm, m)?;
@@ -99,7 +116,9 @@ fn put_return(
     e: &Expr,
     m: usize,
     t: Ways,
-) -> Result<u64, NoMem> {
+) -> Result<u64, NoMem>
+    ensures { IfOk result (λ b. Part code.old.blocks code.new.blocks (ReturnAt scope.now e.now b m t)) }
+{
     let out = put_aim_and(alloc, code, m, t.ret)?;
     put_expr(alloc, code, scope, e, m, out)
 }
@@ -111,9 +130,12 @@ fn put_do(
     e: &Expr,
     m: usize,
     norm: u64,
-) -> Result<u64, NoMem> {
+) -> Result<u64, NoMem>
+    ensures { IfOk result (λ b. Part code.old.blocks code.new.blocks (DoAt scope.now e.now b m norm)) }
+{
+    let more = plus(m, 1)?;
     let jump = jump_first(alloc, norm, m)?;
-    let drop = code.put_jump(alloc, plus(m, 1)?, jump)?;
+    let drop = code.put_jump(alloc, more, jump)?;
     put_expr(alloc, code, scope, e, m, drop)
 }
 
@@ -125,7 +147,9 @@ fn put_targets(
     targets: &[Target],
     m: usize,
     norm: u64,
-) -> Result<u64, NoMem> {
+) -> Result<u64, NoMem>
+    ensures { IfOk result (λ b. Part code.old.blocks code.new.blocks (BindsAt scope.now targets.now b m norm)) }
+{
     let more = plus(m, 1)?;
     match targets {
         [] => {
@@ -148,7 +172,9 @@ fn put_assign(
     e: &Expr,
     m: usize,
     norm: u64,
-) -> Result<u64, NoMem> {
+) -> Result<u64, NoMem>
+    ensures { IfOk result (λ b. Part code.old.blocks code.new.blocks (AssignAt scope.now targets.now e.now b m norm)) }
+{
     let bind = put_targets(alloc, code, scope, targets, m, norm)?;
     put_expr(alloc, code, scope, e, m, bind)
 }
@@ -164,7 +190,9 @@ fn put_new(
     op: &RowOp,
     m: usize,
     norm: u64,
-) -> Result<u64, NoMem> {
+) -> Result<u64, NoMem>
+    ensures { IfOk result (λ b. Part code.old.blocks code.new.blocks (NewAt scope.now op.now b m norm)) }
+{
     let right = plus(m, 1)?;
     let all = plus(m, 2)?;
     let of = op_at(node, false, copy_op(alloc, op)?);
@@ -184,16 +212,21 @@ fn put_augment_name(
     e: &Expr,
     m: usize,
     norm: u64,
-) -> Result<u64, NoMem> {
+) -> Result<u64, NoMem>
+    ensures { IfOk result (λ b. Part code.old.blocks code.new.blocks (AugmentNameAt scope.now local op.now e.now b m norm)) }
+{
     let more = plus(m, 1)?;
+    let place = local_place(scope, local)?;
+    let args = one(alloc, m)?;
     let jump = jump_stored(alloc, norm, m, local, more)?;
     let of = op_at(at, true, RowOp::Copy);
-    let store = code.put_op(alloc, scope, of, one(alloc, m)?, more, jump)?;
+    let store = code.put_op(alloc, scope, of, args, more, jump)?;
     let new = put_new(alloc, code, scope, node, op, m, store)?;
     let right = put_expr(alloc, code, scope, e, more, new)?;
+    let args = one(alloc, place)?;
     let jump = jump_and(alloc, right, m, m)?;
     let of = op_at(at, false, RowOp::Copy);
-    code.put_op(alloc, scope, of, one(alloc, local as usize)?, m, jump)
+    code.put_op(alloc, scope, of, args, m, jump)
 }
 
 fn put_augment_attr(
@@ -208,17 +241,21 @@ fn put_augment_attr(
     e: &Expr,
     m: usize,
     norm: u64,
-) -> Result<u64, NoMem> {
+) -> Result<u64, NoMem>
+    ensures { IfOk result (λ b. Part code.old.blocks code.new.blocks (AugmentAttrAt scope.now a.now name.now op.now e.now b m norm)) }
+{
     let old = plus(m, 1)?;
     let right = plus(m, 2)?;
     let jump = jump_first(alloc, norm, m)?;
+    let args = two(alloc, m, old)?;
     let of = op_at(at, true, RowOp::StoreAttr(name.copy(alloc)?));
-    let store = code.put_op(alloc, scope, of, two(alloc, m, old)?, right, jump)?;
+    let store = code.put_op(alloc, scope, of, args, right, jump)?;
     let new = put_new(alloc, code, scope, node, op, old, store)?;
     let value = put_expr(alloc, code, scope, e, right, new)?;
     let jump = jump_and(alloc, value, old, old)?;
+    let args = one(alloc, m)?;
     let of = op_at(at, false, RowOp::Attr(name.copy(alloc)?));
-    let read = code.put_op(alloc, scope, of, one(alloc, m)?, old, jump)?;
+    let read = code.put_op(alloc, scope, of, args, old, jump)?;
     put_expr(alloc, code, scope, a, m, read)
 }
 
@@ -234,18 +271,22 @@ fn put_augment_item(
     e: &Expr,
     m: usize,
     norm: u64,
-) -> Result<u64, NoMem> {
+) -> Result<u64, NoMem>
+    ensures { IfOk result (λ b. Part code.old.blocks code.new.blocks (AugmentItemAt scope.now a.now i.now op.now e.now b m norm)) }
+{
     let index = plus(m, 1)?;
     let old = plus(m, 2)?;
     let right = plus(m, 3)?;
     let jump = jump_first(alloc, norm, m)?;
+    let args = three(alloc, m, index, old)?;
     let of = op_at(at, true, RowOp::StoreIndex);
-    let store = code.put_op(alloc, scope, of, three(alloc, m, index, old)?, right, jump)?;
+    let store = code.put_op(alloc, scope, of, args, right, jump)?;
     let new = put_new(alloc, code, scope, node, op, old, store)?;
     let value = put_expr(alloc, code, scope, e, right, new)?;
     let jump = jump_and(alloc, value, old, old)?;
+    let args = two(alloc, m, index)?;
     let of = op_at(at, false, RowOp::Index(None));
-    let read = code.put_op(alloc, scope, of, two(alloc, m, index)?, old, jump)?;
+    let read = code.put_op(alloc, scope, of, args, old, jump)?;
     let place = put_expr(alloc, code, scope, i, index, read)?;
     put_expr(alloc, code, scope, a, m, place)
 }
@@ -260,7 +301,9 @@ fn put_augment(
     e: &Expr,
     m: usize,
     norm: u64,
-) -> Result<u64, NoMem> {
+) -> Result<u64, NoMem>
+    ensures { IfOk result (λ b. Part code.old.blocks code.new.blocks (AugmentAt scope.now target.now op.now e.now b m norm)) }
+{
     match target {
         Target::Name(at, local) => {
             put_augment_name(alloc, code, scope, node, *at, *local, op, e, m, norm)
@@ -289,7 +332,9 @@ fn put_pay(
     node: NodeId,
     m: usize,
     norm: u64,
-) -> Result<u64, NoMem> {
+) -> Result<u64, NoMem>
+    ensures { IfOk result (λ b. Part code.old.blocks code.new.blocks (ActsAt scope.now b row.Turn [] m (on_first norm m))) }
+{
     let none: Seq<usize> = Seq::new(alloc);
     let jump = jump_first(alloc, norm, m)?;
     code.put_op(alloc, scope, op_at(node, false, RowOp::Turn), none, m, jump)
@@ -299,14 +344,16 @@ fn put_pay(
 fn put_while(
     alloc: Global,
     code: &mut Code,
-    classes: &[Class],
+    program: &Resolved,
     scope: &Scope,
     node: NodeId,
     test: &Expr,
     body: &[Stmt],
     m: usize,
     t: Ways,
-) -> Result<u64, NoMem> {
+) -> Result<u64, NoMem>
+    ensures { IfOk result (λ b. Part code.old.blocks code.new.blocks (WhileAt scope.now program.now test.now body.now b m t)) }
+{
     let head = code.put_head(alloc, m)?;
     let next = Aim {
         to: head.number,
@@ -316,7 +363,7 @@ fn put_while(
         to: t.norm,
         keep: m,
     };
-    let begin = put_block(alloc, code, classes, scope, body, m, t.within(next, after))?;
+    let begin = put_block(alloc, code, program, scope, body, m, t.within(next, after))?;
     let turn = put_pay(alloc, code, scope, node, m, begin)?;
     let asked = put_test(alloc, code, scope, test, node, m, turn, t.norm)?;
     code.aim(alloc, head, asked)?;
@@ -327,7 +374,7 @@ fn put_while(
 fn put_for(
     alloc: Global,
     code: &mut Code,
-    classes: &[Class],
+    program: &Resolved,
     scope: &Scope,
     node: NodeId,
     target: &Target,
@@ -335,7 +382,9 @@ fn put_for(
     body: &[Stmt],
     m: usize,
     t: Ways,
-) -> Result<u64, NoMem> {
+) -> Result<u64, NoMem>
+    ensures { IfOk result (λ b. Part code.old.blocks code.new.blocks (ForAt scope.now program.now target.now subject.now body.now b m t)) }
+{
     let walk = Walk {
         node,
         step: step_of(subject),
@@ -355,7 +404,7 @@ fn put_for(
     let begin = put_block(
         alloc,
         code,
-        classes,
+        program,
         scope,
         body,
         walk.all,
@@ -364,109 +413,157 @@ fn put_for(
     let more = plus(walk.all, 1)?;
     let bind = put_bind(alloc, code, scope, target, walk.all, more, walk.all, begin)?;
     let done = jump_first(alloc, t.norm, m)?;
-    put_turn(alloc, code, scope, walk, head, bind, done)?;
+    let asked = put_turn(alloc, code, scope, walk, bind, done)?;
+    code.aim(alloc, head, asked)?;
     put_subject(alloc, code, scope, subject, node, m, head.number)
 }
 
 // ---- exceptions
 
-// The hands of the clauses of a `try`, in their order, and where other exceptions go.
+// Where the exceptions of a `try` body go: the hands of the clauses, in their order, then those
+// around, and where other exceptions go.
 #[derive(Drop)]
 struct Caught {
     hands: Seq<Hand>,
-    bare: Option<Aim>,
+    default: Aim,
 }
 
-// A hand for each class of a clause.
+fn copy_hands(hands: Seq<Hand>, around: &[Hand]) -> Result<Seq<Hand>, NoMem>
+    ensures { IfOk result (λ all. all ≡ hands ++ around.now) }
+{
+    let mut hands = hands;
+    for hand in around {
+        hands.push(*hand)?;
+    }
+    Ok(hands)
+}
+
+// A hand for each class of a clause, before others.
 fn add_hands(
-    caught: &mut Caught,
+    alloc: Global,
     classes: &[u32],
     local: Option<u32>,
     aim: Aim,
-) -> Result<(), NoMem> {
+    others: &[Hand],
+) -> Result<Seq<Hand>, NoMem>
+    ensures { IfOk result (λ all. hands_of all ≡ stands.hands_of local (aim_of aim) classes.now (hands_of others.now)) }
+{
+    let mut hands = Seq::new(alloc);
     for class in classes {
-        caught.hands.push(Hand {
+        hands.push(Hand {
             class: *class,
             local,
             aim,
         })?;
     }
-    Ok(())
+    copy_hands(hands, others)
 }
 
-// A bare clause drops the exception.
-fn add_bare(
+// The local that a clause binds is one of the function's.
+fn bound(scope: &Scope, local: Option<u32>) -> Result<Option<u32>, NoMem>
+    ensures same { IfOk result (λ bound. bound ≡ local) }
+    ensures within { OnOk result (stands.LocalIn scope.now.locals local) }
+{
+    match local {
+        None => Ok(None),
+        Some(local) => {
+            let _place = local_place(scope, local)?;
+            Ok(Some(local))
+        }
+    }
+}
+
+// A bare clause drops the exception. The grammar has none that binds it.
+fn put_bare(
     alloc: Global,
     code: &mut Code,
-    caught: &mut Caught,
+    local: Option<u32>,
     m: usize,
+    begin: u64,
+) -> Result<Caught, NoMem>
+    ensures { IfOk result (λ caught. (caught.hands ≡ []) × (caught.default.keep ≡ m) × (local ≡ Option.None) × Part code.old.blocks code.new.blocks (ShapeAt caught.default.to (m + 1) (Go (on_first begin m)))) }
+{
+    match local {
+        Some(_) => Err(NoMem),
+        None => {
+            let more = plus(m, 1)?;
+            let to = put_aim(alloc, code, more, Aim { to: begin, keep: m })?;
+            Ok(Caught {
+                hands: Seq::new(alloc),
+                default: Aim { to, keep: m },
+            })
+        }
+    }
+}
+
+// The hands of a clause before those of others.
+fn with_clause(
+    alloc: Global,
+    scope: &Scope,
+    clause: &Clause,
     aim: Aim,
-) -> Result<(), NoMem> {
-    let drop = put_aim(alloc, code, plus(m, 1)?, aim)?;
-    caught.bare = Some(Aim { to: drop, keep: m });
-    Ok(())
+    others: Caught,
+) -> Result<Caught, NoMem>
+    ensures { IfOk result (λ caught. (hands_of caught.hands ≡ stands.hands_of clause.now.local (aim_of aim) clause.now.classes (hands_of others.hands)) × (caught.default ≡ others.default) × stands.LocalIn scope.now.locals clause.now.local) }
+{
+    let local = bound(scope, clause.local)?;
+    let Caught { hands, default } = others;
+    let hands = add_hands(
+        alloc,
+        clause.classes.as_slice(),
+        local,
+        aim,
+        hands.as_slice(),
+    )?;
+    Ok(Caught { hands, default })
 }
 
 #[cycle(stmt)]
 fn put_clause(
     alloc: Global,
     code: &mut Code,
-    classes: &[Class],
+    program: &Resolved,
     scope: &Scope,
     clause: &Clause,
     m: usize,
     t: Ways,
-    caught: &mut Caught,
-) -> Result<(), NoMem> {
-    let begin = put_block(alloc, code, classes, scope, clause.body.as_slice(), m, t)?;
-    let aim = Aim { to: begin, keep: m };
-    if clause.bare {
-        add_bare(alloc, code, caught, m, aim)
-    } else {
-        add_hands(caught, clause.classes.as_slice(), clause.local, aim)
-    }
+) -> Result<u64, NoMem>
+    ensures { IfOk result (λ b. Part code.old.blocks code.new.blocks (BlockAt scope.now program.now clause.now.body b m t)) }
+{
+    put_block(alloc, code, program, scope, clause.body.as_slice(), m, t)
 }
 
+// Nothing comes after a bare clause.
 #[cycle(stmt)]
 fn put_clauses(
     alloc: Global,
     code: &mut Code,
-    classes: &[Class],
+    program: &Resolved,
     scope: &Scope,
     clauses: &[Clause],
     m: usize,
     t: Ways,
-    caught: &mut Caught,
-) -> Result<(), NoMem> {
-    for clause in clauses {
-        put_clause(alloc, code, classes, scope, clause, m, t, caught)?;
-    }
-    Ok(())
-}
-
-// Where exceptions of a `try` body go: to its clauses, then where those of the `try` go.
-fn tried_scope(
-    alloc: Global,
-    classes: &[Class],
-    scope: &Scope,
-    clauses: &[Clause],
-    caught: Caught,
-) -> Result<Scope, NoMem> {
-    let Caught { hands, bare } = caught;
-    let covers = covers_of(classes, clauses, scope.covers);
-    match bare {
-        Some(default) => Ok(Scope {
-            hands,
-            default,
-            covers,
-            tried: true,
-        }),
-        None => Ok(Scope {
-            hands: copy_hands(hands, scope.hands.as_slice())?,
-            default: scope.default,
-            covers,
-            tried: true,
-        }),
+) -> Result<Caught, NoMem>
+    ensures { IfOk result (λ caught. Part code.old.blocks code.new.blocks (ClausesAt scope.now program.now clauses.now m t (hands_of caught.hands) (aim_of caught.default))) }
+{
+    match clauses {
+        [] => {
+            let hands = copy_hands(Seq::new(alloc), scope.hands.as_slice())?;
+            Ok(Caught {
+                hands,
+                default: scope.default,
+            })
+        }
+        [clause, rest @ ..] => {
+            let begin = put_clause(alloc, code, program, scope, clause, m, t)?;
+            if clause.bare {
+                put_bare(alloc, code, clause.local, m, begin)
+            } else {
+                let others = put_clauses(alloc, code, program, scope, rest, m, t)?;
+                let aim = Aim { to: begin, keep: m };
+                with_clause(alloc, scope, clause, aim, others)
+            }
+        }
     }
 }
 
@@ -474,22 +571,27 @@ fn tried_scope(
 fn put_try(
     alloc: Global,
     code: &mut Code,
-    classes: &[Class],
+    program: &Resolved,
     scope: &Scope,
     body: &[Stmt],
     clauses: &[Clause],
     other: &[Stmt],
     m: usize,
     t: Ways,
-) -> Result<u64, NoMem> {
-    let after = put_block(alloc, code, classes, scope, other, m, t)?;
-    let mut caught = Caught {
-        hands: Seq::new(alloc),
-        bare: None,
+) -> Result<u64, NoMem>
+    ensures { IfOk result (λ b. Part code.old.blocks code.new.blocks (TryAt scope.now program.now body.now clauses.now other.now b m t)) }
+{
+    let after = put_block(alloc, code, program, scope, other, m, t)?;
+    let caught = put_clauses(alloc, code, program, scope, clauses, m, t)?;
+    let Caught { hands, default } = caught;
+    let inner = Scope {
+        locals: scope.locals,
+        hands,
+        default,
+        covers: covers_of(program, clauses, scope.covers),
+        tried: true,
     };
-    put_clauses(alloc, code, classes, scope, clauses, m, t, &mut caught)?;
-    let inner = tried_scope(alloc, classes, scope, clauses, caught)?;
-    put_block(alloc, code, classes, &inner, body, m, t.on(after))
+    put_block(alloc, code, program, &inner, body, m, t.on(after))
 }
 
 // The last part, where one of the other ways was taken with m variables.
@@ -497,15 +599,17 @@ fn put_try(
 fn put_left(
     alloc: Global,
     code: &mut Code,
-    classes: &[Class],
+    program: &Resolved,
     scope: &Scope,
     last: &[Stmt],
     m: usize,
     t: Ways,
     aim: Aim,
-) -> Result<Aim, NoMem> {
+) -> Result<Aim, NoMem>
+    ensures { IfOk result (λ begin. (begin.keep ≡ m) × Part code.old.blocks code.new.blocks (LeftAt scope.now program.now last.now begin.to m (on_first aim.to aim.keep) t)) }
+{
     let out = put_aim(alloc, code, m, aim)?;
-    let begin = put_block(alloc, code, classes, scope, last, m, t.on(out))?;
+    let begin = put_block(alloc, code, program, scope, last, m, t.on(out))?;
     Ok(Aim { to: begin, keep: m })
 }
 
@@ -514,15 +618,17 @@ fn put_left(
 fn put_returned(
     alloc: Global,
     code: &mut Code,
-    classes: &[Class],
+    program: &Resolved,
     scope: &Scope,
     last: &[Stmt],
     m: usize,
     t: Ways,
-) -> Result<Aim, NoMem> {
+) -> Result<Aim, NoMem>
+    ensures { IfOk result (λ begin. (begin.keep ≡ m) × Part code.old.blocks code.new.blocks (LeftAt scope.now program.now last.now begin.to (m + 1) (on_first_and t.ret.to t.ret.keep m) t)) }
+{
     let more = plus(m, 1)?;
     let out = put_aim_and(alloc, code, m, t.ret)?;
-    let begin = put_block(alloc, code, classes, scope, last, more, t.on(out))?;
+    let begin = put_block(alloc, code, program, scope, last, more, t.on(out))?;
     Ok(Aim { to: begin, keep: m })
 }
 
@@ -531,18 +637,21 @@ fn put_returned(
 fn put_raised(
     alloc: Global,
     code: &mut Code,
-    classes: &[Class],
+    program: &Resolved,
     scope: &Scope,
     node: NodeId,
     last: &[Stmt],
     m: usize,
     t: Ways,
-) -> Result<Aim, NoMem> {
+) -> Result<Aim, NoMem>
+    ensures { IfOk result (λ begin. (begin.keep ≡ m) × Part code.old.blocks code.new.blocks (RaisedAt scope.now program.now last.now begin.to m t)) }
+{
     let more = plus(m, 1)?;
     let jump = jump_first(alloc, NEVER, 0)?;
     let of = op_at(node, false, RowOp::Raise);
-    let out = code.put_op(alloc, scope, of, one(alloc, m)?, more, jump)?;
-    let begin = put_block(alloc, code, classes, scope, last, more, t.on(out))?;
+    let args = one(alloc, m)?;
+    let out = code.put_op(alloc, scope, of, args, more, jump)?;
+    let begin = put_block(alloc, code, program, scope, last, more, t.on(out))?;
     Ok(Aim { to: begin, keep: m })
 }
 
@@ -551,20 +660,23 @@ fn put_raised(
 fn put_finally(
     alloc: Global,
     code: &mut Code,
-    classes: &[Class],
+    program: &Resolved,
     scope: &Scope,
     node: NodeId,
     body: &[Stmt],
     last: &[Stmt],
     m: usize,
     t: Ways,
-) -> Result<u64, NoMem> {
-    let norm = put_block(alloc, code, classes, scope, last, m, t)?;
-    let brk = put_left(alloc, code, classes, scope, last, m, t, t.brk)?;
-    let cont = put_left(alloc, code, classes, scope, last, m, t, t.cont)?;
-    let ret = put_returned(alloc, code, classes, scope, last, m, t)?;
-    let default = put_raised(alloc, code, classes, scope, node, last, m, t)?;
+) -> Result<u64, NoMem>
+    ensures { IfOk result (λ b. Part code.old.blocks code.new.blocks (FinallyAt scope.now program.now body.now last.now b m t)) }
+{
+    let norm = put_block(alloc, code, program, scope, last, m, t)?;
+    let brk = put_left(alloc, code, program, scope, last, m, t, t.brk)?;
+    let cont = put_left(alloc, code, program, scope, last, m, t, t.cont)?;
+    let ret = put_returned(alloc, code, program, scope, last, m, t)?;
+    let default = put_raised(alloc, code, program, scope, node, last, m, t)?;
     let inner = Scope {
+        locals: scope.locals,
         hands: Seq::new(alloc),
         default,
         covers: scope.covers,
@@ -576,7 +688,7 @@ fn put_finally(
         cont,
         ret,
     };
-    put_block(alloc, code, classes, &inner, body, m, ways)
+    put_block(alloc, code, program, &inner, body, m, ways)
 }
 
 // ---- all statements
@@ -585,7 +697,7 @@ fn put_finally(
 fn put_if(
     alloc: Global,
     code: &mut Code,
-    classes: &[Class],
+    program: &Resolved,
     scope: &Scope,
     node: NodeId,
     test: &Expr,
@@ -593,9 +705,11 @@ fn put_if(
     other: &[Stmt],
     m: usize,
     t: Ways,
-) -> Result<u64, NoMem> {
-    let no = put_block(alloc, code, classes, scope, other, m, t)?;
-    let yes = put_block(alloc, code, classes, scope, body, m, t)?;
+) -> Result<u64, NoMem>
+    ensures { IfOk result (λ b. Part code.old.blocks code.new.blocks (IfAt scope.now program.now test.now body.now other.now b m t)) }
+{
+    let no = put_block(alloc, code, program, scope, other, m, t)?;
+    let yes = put_block(alloc, code, program, scope, body, m, t)?;
     put_test(alloc, code, scope, test, node, m, yes, no)
 }
 
@@ -607,7 +721,9 @@ fn put_simple(
     s: &Stmt,
     m: usize,
     t: Ways,
-) -> Result<u64, NoMem> {
+) -> Result<u64, NoMem>
+    ensures { IfOk result (λ b. Part code.old.blocks code.new.blocks (SimpleAt scope.now s.now b m t)) }
+{
     match s {
         Stmt::Break(_) => put_aim(alloc, code, m, t.brk),
         Stmt::Continue(_) => put_aim(alloc, code, m, t.cont),
@@ -619,7 +735,9 @@ fn put_simple(
         Stmt::Augment(node, target, op, e) => {
             put_augment(alloc, code, scope, *node, target, op, e, m, t.norm)
         }
-        _ => Ok(t.norm),
+        Stmt::Pass(_) => Ok(t.norm),
+        // Those with blocks are put elsewhere.
+        _ => Err(NoMem),
     }
 }
 
@@ -627,17 +745,19 @@ fn put_simple(
 fn put_stmt(
     alloc: Global,
     code: &mut Code,
-    classes: &[Class],
+    program: &Resolved,
     scope: &Scope,
     s: &Stmt,
     m: usize,
     t: Ways,
-) -> Result<u64, NoMem> {
+) -> Result<u64, NoMem>
+    ensures { IfOk result (λ b. Part code.old.blocks code.new.blocks (StmtAt scope.now program.now s.now b m t)) }
+{
     match s {
         Stmt::If(node, test, body, other) => put_if(
             alloc,
             code,
-            classes,
+            program,
             scope,
             *node,
             test,
@@ -650,7 +770,7 @@ fn put_stmt(
             put_while(
                 alloc,
                 code,
-                classes,
+                program,
                 scope,
                 *node,
                 test,
@@ -662,7 +782,7 @@ fn put_stmt(
         Stmt::For(node, target, subject, body) => put_for(
             alloc,
             code,
-            classes,
+            program,
             scope,
             *node,
             target.get(),
@@ -674,7 +794,7 @@ fn put_stmt(
         Stmt::Try(_, body, clauses, other) => put_try(
             alloc,
             code,
-            classes,
+            program,
             scope,
             body.as_slice(),
             clauses.as_slice(),
@@ -685,7 +805,7 @@ fn put_stmt(
         Stmt::Finally(node, body, last) => put_finally(
             alloc,
             code,
-            classes,
+            program,
             scope,
             *node,
             body.as_slice(),
@@ -702,18 +822,20 @@ fn put_stmt(
 pub fn put_block(
     alloc: Global,
     code: &mut Code,
-    classes: &[Class],
+    program: &Resolved,
     scope: &Scope,
     body: &[Stmt],
     m: usize,
     t: Ways,
-) -> Result<u64, NoMem> {
+) -> Result<u64, NoMem>
+    ensures { IfOk result (λ b. Part code.old.blocks code.new.blocks (BlockAt scope.now program.now body.now b m t)) }
+{
     match body {
         [] => Ok(t.norm),
         [s, rest @ ..] => {
-            let next = put_block(alloc, code, classes, scope, rest, m, t)?;
+            let next = put_block(alloc, code, program, scope, rest, m, t)?;
             let next = put_mark(alloc, code, scope, node_of(s), m, next)?;
-            let begin = put_stmt(alloc, code, classes, scope, s, m, t.on(next))?;
+            let begin = put_stmt(alloc, code, program, scope, s, m, t.on(next))?;
             put_mark(alloc, code, scope, node_of(s), m, begin)
         }
     }

@@ -1,4 +1,12 @@
 // The turns of a walk over a range, or over what has items.
+ghost use Rattle.std.specs.Prelude.{◌≡◌, ◌+◌, List, ◌∷◌, [], IfOk};
+ghost use Rattle.rpy_tree.specs.declared.program.Site.{Site};
+ghost use Rattle.rpy_meaning.specs.declared.row.RowOp.TheVariants as row;
+ghost use Rattle.flow_stands.specs.Places.{first_and as on_first_and};
+ghost use Rattle.flow_stands.specs.Stands as stands;
+ghost use Rattle.flow_space.specs.Placed.{Part, ActsAt, TurnAt, jump_of};
+ghost use Rattle.flow_space.specs.Trees.{subject_of};
+
 use crate::code::{Code, Head, Jump, Scope, jump_and, jump_first, op_at};
 use crate::places::{plus, two};
 use rpy_base::{NoMem, Seq};
@@ -8,7 +16,9 @@ use rpy_tree::NodeId;
 use std::alloc::Global;
 
 /// The step of a walk over a range.
-pub fn step_of(subject: &Subject) -> Option<i64> {
+pub fn step_of(subject: &Subject) -> Option<i64>
+    ensures { (sites : List Site) → result ≡ stands.step_of (subject_of sites subject.now) }
+{
     match subject {
         Subject::Over(_, _) => None,
         Subject::UpTo(_) => Some(1),
@@ -33,7 +43,9 @@ pub fn put_advance(
     scope: &Scope,
     walk: Walk,
     head: Head,
-) -> Result<u64, NoMem> {
+) -> Result<u64, NoMem>
+    ensures { IfOk result (λ b. Part code.old.blocks code.new.blocks (ActsAt scope.now b (row.Advance walk.step) (walk.over ∷ (walk.over + 1) ∷ []) walk.all (on_first_and head.number (walk.over + 1) walk.all))) }
+{
     let at = plus(walk.over, 1)?;
     let args = two(alloc, walk.over, at)?;
     let jump = jump_and(alloc, head.number, at, walk.all)?;
@@ -41,17 +53,18 @@ pub fn put_advance(
     code.put_op(alloc, scope, of, args, walk.all, jump)
 }
 
-/// A turn of a walk, which begins at the head: where an item is there, a step is paid and it goes on
-/// to `turn` with the item as one more variable, else to `done` with the first variables.
+/// A turn of a walk: where an item is there, a step is paid and it goes on to `turn` with the item as
+/// one more variable, else to `done`.
 pub fn put_turn(
     alloc: Global,
     code: &mut Code,
     scope: &Scope,
     walk: Walk,
-    head: Head,
     turn: u64,
     done: Jump,
-) -> Result<(), NoMem> {
+) -> Result<u64, NoMem>
+    ensures { IfOk result (λ b. Part code.old.blocks code.new.blocks (TurnAt scope.now walk.step walk.over walk.all turn (jump_of done) b)) }
+{
     let more = plus(walk.all, 1)?;
     let at = plus(walk.over, 1)?;
     let args = two(alloc, walk.over, at)?;
@@ -67,6 +80,5 @@ pub fn put_turn(
     let args = two(alloc, walk.over, at)?;
     let jump = jump_and(alloc, fork, walk.all, walk.all)?;
     let of = op_at(walk.node, false, RowOp::HasItem(walk.step));
-    let begin = code.put_op(alloc, scope, of, args, walk.all, jump)?;
-    code.aim(alloc, head, begin)
+    code.put_op(alloc, scope, of, args, walk.all, jump)
 }

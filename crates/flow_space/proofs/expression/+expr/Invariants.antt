@@ -25,14 +25,14 @@ decreases-put_logic l = 16 * (expr_size l.a.now + expr_size l.b.now) + 6
 abbrev pub decreases-put_test : goal.decreases-put_test
 decreases-put_test l = 16 * expr_size l.e.now + 7
 
-abbrev pub decreases-put_negated : goal.decreases-put_negated
-decreases-put_negated l = 16 * exprs_size l.es.now + 8
-
 abbrev pub decreases-put_branches : goal.decreases-put_branches
 decreases-put_branches l = 16 * expr_size l.e.now + 6
 
 abbrev pub decreases-put_simple : goal.decreases-put_simple
 decreases-put_simple l = 16 * expr_size l.e.now + 5
+
+abbrev pub decreases-put_whole : goal.decreases-put_whole
+decreases-put_whole l = 16 * expr_size l.e.now + 1
 
 abbrev pub decreases-put_sides : goal.decreases-put_sides
 decreases-put_sides l = 16 * exprs_size l.es.now + 3

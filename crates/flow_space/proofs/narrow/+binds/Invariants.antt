@@ -1,5 +1,4 @@
 use Rattle.std.proofs.Common.{◌+◌, ◌*◌}
-use Rattle.std.specs.Option.{option_map_or}
 use Rattle.rpy_resolved.specs.Size.{expr_size, subject_size, target_size, exprs_size, pairs_size, targets_size}
 use Rattle.flow_space.proofs.narrow.+binds.Given as goal
 

@@ -1,0 +1,10 @@
+use Rattle.std.proofs.Common.{◌≡◌, length}
+use Rattle.rpy_meaning.specs.Classes.{some_takes}
+use Rattle.flow_space.specs.Trees.{program_of, clauses_of}
+use Rattle.flow_space.proofs.covers.some_takes.Given as goal
+
+abbrev pub invariant-loop-rest : goal.invariant-loop-rest
+invariant-loop-rest l = some_takes (program_of l.program).classes (clauses_of l.program.sites l.clauses) l.class ≡ some_takes (program_of l.program).classes (clauses_of l.program.sites l.rest) l.class
+
+abbrev pub decreases-loop-rest : goal.decreases-loop-rest
+decreases-loop-rest l = length l.rest

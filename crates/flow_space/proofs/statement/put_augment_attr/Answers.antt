@@ -1,0 +1,14 @@
+use Rattle.std.proofs.Common.{◌≡◌, ◌+◌, arith}
+use Rattle.flow_space.proofs.Parts.{ok_map, part_map, part_then}
+use Rattle.flow_space.proofs.statement.put_augment_attr.Goals as goal
+
+pub returns : goal.returns
+returns c =
+    let same : c.args.m + 2 ≡ c.args.m + 1 + 1 = omega arith in
+    let store = rw (c.op_at-of.ensures, c.in_ok-copy.ensures, c.in_ok-args.ensures, c.in_ok-jump.ensures, c.in_ok-old.ensures, c.in_ok-right.ensures) at c.in_ok-store.ensures in
+    let new = rw c.in_ok-old.ensures at c.in_ok-new.ensures in
+    let value = rw (c.in_ok-right.ensures, same) at c.in_ok-value.ensures in
+    let read = rw (c.op_at-of-2.ensures, c.in_ok-copy-2.ensures, c.in_ok-args-2.ensures, c.in_ok-jump-2.ensures, c.in_ok-old.ensures) at c.in_ok-read.ensures in
+    ok_map c.put_expr-2.result (λ b h.
+    part_map (λ r gs f k. (c.in_ok-read.read, c.in_ok-value.value, c.in_ok-new.new, c.in_ok-store.store, k.1.1.1.1, k.1.1.1.0, k.1.1.0, k.1.0, k.0))
+    (part_then store (part_then new (part_then value (part_then read h))))) c.put_expr-2.ensures

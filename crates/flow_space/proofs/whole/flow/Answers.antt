@@ -1,0 +1,5 @@
+use Rattle.flow_space.proofs.Parts.{ok_map}
+use Rattle.flow_space.proofs.whole.flow.Goals as goal
+
+pub returns-clause-stand : goal.returns-clause-stand
+returns-clause-stand c = ok_map c.flow_of.result (λ gs h. (c.in_ok-resolved.resolved, c.in_ok-resolved.ensures, h)) c.flow_of.ensures.stand

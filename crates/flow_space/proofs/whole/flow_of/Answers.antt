@@ -1,0 +1,5 @@
+use Rattle.flow_space.proofs.Graphs.{all_stand}
+use Rattle.flow_space.proofs.whole.flow_of.Goals as goal
+
+pub returns-clause-stand : goal.returns-clause-stand
+returns-clause-stand c = all_stand c.args.resolved.now (record { graphs = c.in_ok-graphs.graphs }) c.in_ok-graphs.ensures.all c.in_ok-graphs.ensures.stand

@@ -1,0 +1,16 @@
+pub mod Worlds
+pub mod Answering
+pub mod Lists
+pub mod Core
+pub mod Acts
+pub mod Calls
+pub mod Parts
+pub mod Tests
+pub mod Walks
+pub mod Forms
+pub mod Binds
+pub mod Trees
+pub mod Stmts
+pub mod Top
+mod Rows
+mod Wide
