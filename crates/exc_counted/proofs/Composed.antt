@@ -1,8 +1,8 @@
 -- The file of the explicit program, what is there and what is left, seen from the program.
-use Rattle.std.proofs.Common.{◌≡◌, ℕ, Bool, true, false, List, [], ◌∷◌, Option, Some, None, refl, sym, ap, ◌∙◌, subst}
-use Rattle.csub_tree.specs.State.{Value, Null, Block, Core, Event}
+use Rattle.std.proofs.Common.{◌≡◌, ℕ, Bool, true, false, List, [], ◌∷◌, refl, ap, ◌∙◌, subst}
+use Rattle.csub_tree.specs.State.{Value, Null, Core, Event}
 use Rattle.csub_tree.specs.Meaning as c
-use Rattle.ll_code.specs.State.{Frame, State, Calling, At, Returning, Throwing}
+use Rattle.ll_code.specs.State.{State, Calling, At, Returning, Throwing}
 use Rattle.ll_code.specs.Machine.{start}
 use Rattle.ll_code.specs.Meaning as l
 use Rattle.ll_code.specs.Meaning.{Unfinished, run}
@@ -20,15 +20,21 @@ use Rattle.exc_laws.proofs.Roots.{stands_held}
 use Rattle.exc_laws.proofs.Holds.{beside_blocks, same_holds}
 use Rattle.exc_laws.proofs.Whole.{means_forth, means_back, goes_on}
 use Rattle.exc_laws.proofs.Without.{run_same}
+use Rattle.exc_ready.specs.Along.{EachState}
+use Rattle.exc_ready.specs.Classes.{names_classes, RaisesSome}
+use Rattle.exc_ready.proofs.Classes.{classed}
 use Rattle.exc_ready.proofs.Leading.{state_clear}
 use Rattle.exc_ready.proofs.Whole.{allowed}
-use Rattle.refcount_laws.specs.Touched.{block_in}
-use Rattle.refcount_ready.specs.Programs.{ComesAlong, LeavesNothing}
+use Rattle.refcount_ready.specs.Programs.{RunsSmall, ComesAlong, LeavesNothing}
 use Rattle.refcount_ready.proofs.Composed as counts
-use Rattle.ll_compiled.specs.Compiled.{compiled, MeansAlike, IsNotStuck, SameRuns}
+use Rattle.ll_compiled.specs.Compiled.{compiled, MeansAlike, SameRuns}
 use Rattle.ll_compiled.proofs.Whole as whole
 use Rattle.exc_counted.specs.Along.{HasFile, RunsWell, HoldsWhatIsThere}
 use Rattle.exc_counted.proofs.Standing.{ComesFor, comes_along, state_apart}
+
+-- where exceptions name their classes, it is enough that NULL is never raised
+pub runs_well : (p : LlProgram) → HasFile p → names_classes p ≡ true → (args : List (List ℕ)) (steps : ℕ) → EachState (RaisesSome p) p args steps → RunsSmall (explicit p) args steps → RunsWell p args steps
+runs_well p has names args steps some small = record { classed = classed p has.typed has.raw has.raisable args steps some names; small = small }
 
 module _ (p : LlProgram) (has : HasFile p) (args : List (List ℕ)) (steps : ℕ) (well : RunsWell p args steps) where
   allows : Allows p args steps

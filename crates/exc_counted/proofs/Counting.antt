@@ -1,13 +1,11 @@
 -- The explicit program passes the test for counts where the program does.
-use Rattle.std.proofs.Common.{◌≡◌, ◌<◌, ◌≤◌, ℕ, zero, suc, ◌+◌, Bool, true, false, ◌&&◌, ◌||◌, ◌==◌, List, [], ◌∷◌, ◌++◌, length, map, Option, Some, None, refl, sym, ap, ◌∙◌, subst, arith}
+use Rattle.std.proofs.Common.{◌≡◌, ◌<◌, ◌≤◌, ℕ, zero, suc, ◌+◌, Bool, true, false, ◌&&◌, ◌||◌, ◌==◌, List, [], ◌∷◌, length, map, Option, Some, None, refl, sym, ap, ◌∙◌, subst, arith}
 use Rattle.std.specs.Prelude.{slice_get, cond, not, is_some, is_none, nat_lt, option_map}
 use Rattle.std.proofs.lemmas.Option.{slice_get_within}
 use Rattle.csub_tree.specs.declared.tree.COperand.{COperand}
-use Rattle.csub_tree.specs.declared.tree.COperand.TheVariants.{Var}
 use Rattle.ll_code.specs.Typed.{operation_ok, operations_ok, exit_ok, block_ok, blocks_ok, graph_ok, graphs_ok, items_of}
 use Rattle.ll_code.specs.declared.program.LlType.{LlType}
 use Rattle.ll_code.specs.declared.program.LlType.TheVariants as type
-use Rattle.ll_code.specs.declared.program.LlLink.{LlLink}
 use Rattle.ll_code.specs.declared.program.LlOp.{LlOp}
 use Rattle.ll_code.specs.declared.program.LlOp.TheVariants as op
 use Rattle.ll_code.specs.declared.program.LlExit.{LlExit}
@@ -19,11 +17,11 @@ use Rattle.ll_laws.proofs.Values.{and_left, and_right, is_same, is_less, has_typ
 use Rattle.ll_live.specs.Live.{among, variables_in, reads, set_by, sets}
 use Rattle.exc_transform.specs.declared.pieces.Ending.{Ending}
 use Rattle.exc_transform.specs.declared.pieces.Ending.TheVariants.{Leaves, Raises, Tested}
-use Rattle.exc_transform.specs.Explicit.{is_calm, is_tested, graphs_calm, left_ops, way_ops, raised_ops, testing}
+use Rattle.exc_transform.specs.Explicit.{is_tested, graphs_calm, left_ops, way_ops, raised_ops, testing}
 use Rattle.exc_transform.specs.Raising.{may_raise, exit_leaves, some_raises, raises_within}
-use Rattle.exc_transform.specs.Live.{live, live_from, handler_reads, new_ones, exit_reads, and_this, read_behind}
-use Rattle.exc_transform.specs.Pieces.{Around, way_block, rest_block, ending_in, ops_by, piece, piece_ops, blocks_of, graph_of, graphs_of, explicit}
-use Rattle.exc_transform.proofs.Without.{raises_is, tested_calm, leaves_calm}
+use Rattle.exc_transform.specs.Live.{live, live_from, handler_reads, new_ones, exit_reads, and_this}
+use Rattle.exc_transform.specs.Pieces.{way_block, rest_block, ending_in, ops_by, piece, piece_ops, blocks_of, graph_of, graphs_of, explicit}
+use Rattle.exc_transform.proofs.Without.{raises_is, tested_calm}
 use Rattle.exc_laws.specs.Ready.{marks_of, any_of, exceptions_of}
 use Rattle.exc_laws.specs.Stands.{around_in, explicit_graph}
 use Rattle.exc_laws.specs.Holds.{HasFewVariables}
@@ -36,10 +34,10 @@ use Rattle.exc_laws.proofs.Waiting.{sets_within}
 use Rattle.exc_ready.specs.Raisable.{root_of as exception_root, raises_alike, block_raisable, blocks_raisable, graph_raisable, graphs_raisable, IsRaisable}
 use Rattle.exc_ready.proofs.Passes.{is_not}
 use Rattle.exc_ready.proofs.Made.{ops_all, blocks_all, AllFirst, made_all, More, Types, Excepts, HasTests, has_tests, Accepts, left_all, testing_all, raised_all, way_all, Own, Rest, rest_next, need_here, piece_all, block_rest}
-use Rattle.refcount_transform.specs.Plan.{Plan, plan_of, reference_given, items_referred, place_of}
+use Rattle.refcount_transform.specs.Plan.{Plan, reference_given, place_of}
 use Rattle.refcount_transform.specs.Changes.{around_of, var_referred}
 use Rattle.refcount_laws.specs.Leaves.{are_apart}
-use Rattle.refcount_checks.specs.Countable.{most, sets_unread, result_of, call_countable, calls_countable, op_countable, ops_countable, is_number, fills, number_follows, numbers_follow, block_countable, blocks_countable, takes_params, graph_countable, graphs_countable, is_countable}
+use Rattle.refcount_checks.specs.Countable.{most, sets_unread, result_of, call_countable, calls_countable, op_countable, ops_countable, fills, number_follows, numbers_follow, block_countable, blocks_countable, takes_params, graph_countable, graphs_countable, is_countable}
 use Rattle.exc_counted.specs.Both.{catches_other, blocks_catch_others, graphs_catch_others}
 use Rattle.exc_counted.proofs.Distinct.{few_there, new_apart}
 use Rattle.exc_counted.proofs.Less.{First, Second, if_referred}

@@ -1,9 +1,8 @@
 -- Variables that differ are no more than there are.
-use Rattle.std.proofs.Common.{◌≡◌, ◌<◌, ◌≤◌, ℕ, zero, suc, ◌+◌, Bool, true, false, ◌&&◌, ◌||◌, ◌==◌, List, [], ◌∷◌, ◌++◌, length, Option, Some, None, refl, sym, ap, ◌∙◌, subst, arith, ◌⊎◌, inl, inr}
+use Rattle.std.proofs.Common.{◌≡◌, ◌<◌, ◌≤◌, ℕ, zero, suc, Bool, true, false, ◌||◌, ◌==◌, List, [], ◌∷◌, ◌++◌, length, Option, Some, None, refl, sym, ap, ◌∙◌, subst, arith}
 use Rattle.std.specs.Prelude.{cond, not, slice_get}
 use Rattle.std.proofs.lemmas.Option.{slice_get_within}
 use Rattle.ll_code.specs.declared.program.LlType.{LlType}
-use Rattle.ll_code.specs.declared.program.LlType.TheVariants as type
 use Rattle.ll_laws.proofs.Values.{and_left, and_right, is_same}
 use Rattle.ll_live.specs.Live.{among}
 use Rattle.exc_transform.specs.Live.{new_ones}

@@ -1,26 +1,25 @@
 -- The explicit program makes no blocks but of structs of which the program makes some: what it counts the program counts.
-use Rattle.std.proofs.Common.{◌≡◌, ℕ, zero, suc, ◌+◌, Bool, true, false, ◌&&◌, ◌||◌, ◌==◌, List, [], ◌∷◌, ◌++◌, length, map, Option, Some, None, refl, sym, ap, ◌∙◌, subst}
-use Rattle.std.specs.Prelude.{slice_get, cond, not, is_some, is_none, nat_lt}
+use Rattle.std.proofs.Common.{◌≡◌, ℕ, zero, suc, Bool, true, false, ◌&&◌, ◌||◌, List, [], ◌∷◌, length, map, Option, Some, None, refl, sym, ap, ◌∙◌}
+use Rattle.std.specs.Prelude.{cond, not, nat_lt}
 use Rattle.ll_code.specs.declared.program.LlType.{LlType}
 use Rattle.ll_code.specs.declared.program.LlType.TheVariants as type
 use Rattle.ll_code.specs.declared.program.LlStruct.{LlStruct}
 use Rattle.ll_code.specs.declared.program.LlOp.{LlOp}
-use Rattle.ll_code.specs.declared.program.LlOp.TheVariants as op
 use Rattle.ll_code.specs.declared.program.LlExit.{LlExit}
 use Rattle.ll_code.specs.declared.program.LlBlock.{LlBlock}
 use Rattle.ll_code.specs.declared.program.LlGraph.{LlGraph}
 use Rattle.ll_code.specs.declared.program.LlProgram.{LlProgram}
 use Rattle.ll_laws.proofs.Values.{and_left, and_right}
-use Rattle.exc_transform.specs.Explicit.{is_calm, graphs_calm}
+use Rattle.exc_transform.specs.Explicit.{graphs_calm}
 use Rattle.exc_transform.specs.Pieces.{blocks_of, graph_of, graphs_of, explicit}
 use Rattle.exc_laws.specs.Ready.{marks_of, exceptions_of}
 use Rattle.exc_laws.specs.Stands.{around_in, explicit_graph}
-use Rattle.exc_laws.proofs.Tests.{and_both, or_first, or_second}
+use Rattle.exc_laws.proofs.Tests.{and_both}
 use Rattle.exc_ready.specs.Raisable.{graph_raisable, graphs_raisable, IsRaisable}
 use Rattle.exc_ready.proofs.Filled.{none_first, none_second}
 use Rattle.exc_ready.proofs.Passes.{is_not}
 use Rattle.exc_ready.proofs.Made.{ops_all, blocks_all, Accepts, Own, OwnAll, on_ops, graph_holds}
-use Rattle.refcount_transform.specs.Plan.{Plan, plan_of, root, made_by, has_root, ops_make, blocks_make, graphs_make, is_made, counted_from, counted_structs, is_marked, reference_to, reference_given, where_marked, root_of, field_referred, items_referred}
+use Rattle.refcount_transform.specs.Plan.{Plan, plan_of, root, made_by, has_root, ops_make, blocks_make, graphs_make, counted_from, is_marked, reference_to, reference_given, where_marked}
 use Rattle.refcount_laws.specs.Made.{is_root_given, all_lead, structs_lead}
 use Rattle.refcount_typed.specs.Numbered.{number_first, structs_numbered}
 

@@ -1,6 +1,6 @@
 -- References of the explicit program lead to roots where those of the program do.
-use Rattle.std.proofs.Common.{◌≡◌, ◌<◌, ◌≤◌, ℕ, zero, suc, ◌+◌, Bool, true, false, ◌&&◌, ◌||◌, ◌==◌, List, [], ◌∷◌, ◌++◌, length, map, Option, Some, None, refl, sym, ap, ◌∙◌, subst, arith}
-use Rattle.std.specs.Prelude.{slice_get, cond, not, is_some, is_none, nat_lt}
+use Rattle.std.proofs.Common.{◌≡◌, ◌<◌, ℕ, zero, suc, Bool, true, false, ◌&&◌, List, [], ◌∷◌, ◌++◌, length, map, Option, Some, None, refl, sym, ap, ◌∙◌, subst, arith}
+use Rattle.std.specs.Prelude.{slice_get, cond}
 use Rattle.ll_code.specs.Typed.{IsWellTyped, has_type, base_of, structs_ok, graphs_ok}
 use Rattle.ll_code.specs.declared.program.LlType.{LlType}
 use Rattle.ll_code.specs.declared.program.LlType.TheVariants as type
@@ -12,9 +12,8 @@ use Rattle.ll_code.specs.declared.program.LlBlock.{LlBlock}
 use Rattle.ll_code.specs.declared.program.LlGraph.{LlGraph}
 use Rattle.ll_code.specs.declared.program.LlProgram.{LlProgram}
 use Rattle.ll_laws.proofs.Values.{and_left, and_right}
-use Rattle.exc_transform.specs.Explicit.{is_calm, graphs_calm, kind_of, led_to, pointed, or_else}
-use Rattle.exc_transform.specs.Families as families
-use Rattle.exc_transform.specs.Families.{in_graphs, first_of, first_field, root_from}
+use Rattle.exc_transform.specs.Explicit.{graphs_calm, kind_of, pointed, or_else}
+use Rattle.exc_transform.specs.Families.{in_graphs, first_of, root_from}
 use Rattle.exc_transform.specs.Raising.{raises_within}
 use Rattle.exc_transform.specs.Pieces.{blocks_of, graph_of, graphs_of, explicit, test_types}
 use Rattle.exc_laws.specs.Ready.{marks_of, any_of, exceptions_of}
@@ -25,7 +24,7 @@ use Rattle.exc_laws.proofs.Families.{graphs_within, graphs_none, root_is}
 use Rattle.exc_ready.specs.Raisable.{root_of as exception_root, graph_raisable, graphs_raisable, IsRaisable}
 use Rattle.exc_ready.proofs.Made.{ops_all, blocks_all, Accepts, Own, OwnAll, on_ops, graph_holds}
 use Rattle.refcount_transform.specs.Plan.{Plan, plan_of, root, root_within, is_marked, where_marked, reference_to, reference_given, referred, root_of, fields_of, place_of, field_referred, items_referred}
-use Rattle.refcount_laws.specs.Made.{is_root_given, all_lead, structs_lead, leads_to_roots}
+use Rattle.refcount_laws.specs.Made.{is_root_given, all_lead, structs_lead}
 use Rattle.refcount_typed.specs.Leads.{stands_in_root, op_leads, ops_lead, blocks_lead, graph_leads, graphs_lead, LeadsToRoots}
 use Rattle.refcount_typed.specs.Numbered.{HasNumbers}
 use Rattle.exc_counted.proofs.Less.{First, Second, if_referred, lead_less, all_lead_less, structs_lead_less, numbered_less}

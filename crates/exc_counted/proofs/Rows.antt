@@ -1,12 +1,8 @@
 -- A program that raises and catches an exception passes the tests for both, and its file means what it means.
-use Rattle.std.proofs.Common.{◌≡◌, ◌<◌, ℕ, zero, suc, true, false, List, [], ◌∷◌, Some, None, refl, pos, arith, length, subst}
-use Rattle.std.specs.Prelude.{slice_get}
-use Rattle.rpy_base.specs.declared.outcome.Outcome.TheVariants.{Returned}
+use Rattle.std.proofs.Common.{◌≡◌, ◌<◌, zero, suc, false, [], ◌∷◌, Some, refl, length, subst}
 use Rattle.csub_tree.specs.Meaning as c
 use Rattle.csub_tree.specs.declared.tree.COperand.TheVariants.{Var}
 use Rattle.ll_code.specs.Machine.{shapes_from}
-use Rattle.ll_code.specs.Meaning.{Came, Meant, LMeans}
-use Rattle.ll_code.specs.Typed.{begins_within}
 use Rattle.ll_code.specs.declared.program.LlOp.TheVariants as op
 use Rattle.ll_code.specs.declared.program.LlExit.TheVariants as exit
 use Rattle.ll_code.specs.declared.program.LlGraph.{LlGraph}

@@ -1,7 +1,6 @@
 -- Each state of a run has one of the explicit program's run that stands for it; in those no static names a block.
-use Rattle.std.proofs.Common.{◌≡◌, ◌≤◌, ℕ, zero, suc, ◌+◌, Bool, true, false, List, [], ◌∷◌, ◌++◌, Option, Some, None, refl, sym, ap, ◌∙◌, subst, arith}
-use Rattle.std.specs.Prelude.{slice_get, cond}
-use Rattle.csub_tree.specs.State.{Value, Unset, Word, Byte, Flag, Fun, Null, Ptr, Static, Block, Core, Event}
+use Rattle.std.proofs.Common.{◌≡◌, ℕ, zero, suc, ◌+◌, false, List, [], ◌∷◌, ◌++◌, refl, sym, ap, ◌∙◌, subst, arith}
+use Rattle.csub_tree.specs.State.{Value, Unset, Word, Byte, Flag, Fun, Null, Ptr, Static, Core, Event}
 use Rattle.csub_tree.specs.Statement.{read}
 use Rattle.ll_code.specs.State.{State, Calling, At, Returning, Throwing, Next, Goes, Puts, Tells, Ends, Sticks}
 use Rattle.ll_code.specs.Machine.{step, start}
@@ -12,13 +11,13 @@ use Rattle.ll_code.specs.declared.program.LlProgram.{LlProgram}
 use Rattle.ll_laws.specs.States.{StateFits, NextFits}
 use Rattle.ll_laws.proofs.Steps.{step_fits}
 use Rattle.ll_laws.proofs.Runs.{start_fits}
-use Rattle.ll_held.specs.Held.{times, is_block}
+use Rattle.ll_held.specs.Held.{times}
 use Rattle.ll_held.specs.Roots.{core_of}
 use Rattle.ll_held.specs.Places.{IsPlaced}
 use Rattle.ll_held.specs.Quiet.{StaticsAreApart}
 use Rattle.ll_held.proofs.Placing.{NextPlaced, step_placed, start_placed}
-use Rattle.ll_points.specs.Agrees.{Agrees, slots_of}
-use Rattle.ll_points.specs.Points.{StateLeads, NextLeads, RanLeads}
+use Rattle.ll_points.specs.Agrees.{slots_of}
+use Rattle.ll_points.specs.Points.{StateLeads, NextLeads}
 use Rattle.ll_points.proofs.Runs.{one_step, whole_run_leads}
 use Rattle.exc_transform.specs.Explicit.{graphs_calm}
 use Rattle.exc_transform.specs.Pieces.{explicit}
@@ -27,7 +26,6 @@ use Rattle.exc_laws.specs.Stands.{Stands}
 use Rattle.exc_laws.specs.Follows.{Does, Follows}
 use Rattle.exc_laws.proofs.Steps.{step_follows}
 use Rattle.exc_laws.proofs.Whole.{ReadyFrom, later_ready, does_placed, one_more}
-use Rattle.refcount_laws.specs.Before.{NoBlocksIn}
 use Rattle.refcount_ready.specs.Along.{EachState, LeavesStatics}
 use Rattle.refcount_ready.specs.Programs.{CanBeCounted}
 use Rattle.refcount_ready.proofs.Keeps.{CoreKeeps, StateKeeps, NextKeeps}

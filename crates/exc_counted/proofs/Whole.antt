@@ -1,5 +1,5 @@
 -- The explicit program of one that passes the tests for both can be counted.
-use Rattle.std.proofs.Common.{◌≡◌, ℕ, Bool, true, false, List, refl, sym, ap, ◌∙◌, subst}
+use Rattle.std.proofs.Common.{◌≡◌, Bool, true, false, List, refl, sym, ap, subst}
 use Rattle.std.specs.Prelude.{cond}
 use Rattle.ll_code.specs.declared.program.LlStage.TheVariants as stage
 use Rattle.ll_code.specs.declared.program.LlGraph.{LlGraph}

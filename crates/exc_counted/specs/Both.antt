@@ -1,5 +1,5 @@
 -- A program whose exceptions can be made explicit, and the references of whose explicit program can then be counted.
-use Rattle.std.specs.Prelude.{◌≡◌, ℕ, ◌==◌, ◌&&◌, not, Bool, true, List, [], ◌∷◌, Some}
+use Rattle.std.specs.Prelude.{◌≡◌, ◌==◌, ◌&&◌, not, Bool, true, List, [], ◌∷◌, Some}
 use Rattle.ll_code.specs.Typed.{IsWellTyped}
 use Rattle.ll_code.specs.declared.program.LlStage.TheVariants as stage
 use Rattle.ll_code.specs.declared.program.LlOp.{LlOp}

@@ -1,5 +1,5 @@
 // Laws of the explicit programs of those that pass the tests, over all of them.
-ghost use Rattle.std.specs.Prelude.{◌≡◌, ℕ, List, []};
+ghost use Rattle.std.specs.Prelude.{◌≡◌, ℕ, List, [], true};
 ghost use Rattle.csub_tree.specs.State.{Value, Core, Event};
 ghost use Rattle.ll_code.specs.State.{State, Returning};
 ghost use Rattle.ll_code.specs.Machine.{start};
@@ -7,7 +7,9 @@ ghost use Rattle.ll_code.specs.Meaning.{Unfinished, run};
 ghost use Rattle.ll_code.specs.declared.program.LlProgram.{LlProgram};
 ghost use Rattle.ll_held.specs.Held.{Reaches};
 ghost use Rattle.exc_transform.specs.Pieces.{explicit};
-ghost use Rattle.refcount_ready.specs.Programs.{LeavesNothing};
+ghost use Rattle.exc_ready.specs.Along.{EachState};
+ghost use Rattle.exc_ready.specs.Classes.{names_classes, RaisesSome};
+ghost use Rattle.refcount_ready.specs.Programs.{RunsSmall, LeavesNothing};
 ghost use Rattle.ll_compiled.specs.Compiled.{compiled, CanBeCompiled, SameRuns};
 ghost use Rattle.exc_counted.specs.Both.{CanBeBoth};
 ghost use Rattle.exc_counted.specs.Along.{HasFile, RunsWell, HoldsWhatIsThere};
@@ -16,6 +18,13 @@ ghost use Rattle.exc_counted.specs.Along.{HasFile, RunsWell, HoldsWhatIsThere};
 #[tactic(auto, using(crate::proofs::Whole::can_be_compiled))]
 pub fn explicit_programs_can_be_compiled()
     ensures { (p : LlProgram) → CanBeBoth p → CanBeCompiled (explicit p) }
+{}
+
+/// A run of a program that has a file is as the laws below ask, where its exceptions name their classes,
+/// NULL is never raised, and the run of the explicit program is small and writes no reference into a
+/// static.
+pub fn runs_are_well()
+    ensures { (p : LlProgram) → HasFile p → names_classes p ≡ true → (args : List (List ℕ)) (steps : ℕ) → EachState (RaisesSome p) p args steps → RunsSmall (explicit p) args steps → RunsWell p args steps }
 {}
 
 /// The file of the explicit program means what the program means, exceptions and all.

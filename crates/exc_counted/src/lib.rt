@@ -5,6 +5,6 @@
 mod laws;
 
 pub use laws::{
-    explicit_programs_can_be_compiled, files_mean_the_same, nothing_is_left_behind,
+    explicit_programs_can_be_compiled, files_mean_the_same, nothing_is_left_behind, runs_are_well,
     what_is_there_is_held,
 };

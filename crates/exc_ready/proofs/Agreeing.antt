@@ -1,7 +1,6 @@
 -- The explicit program uses its slots alike, and raises and frees nothing.
-use Rattle.std.proofs.Common.{◌≡◌, ℕ, zero, suc, ◌+◌, Bool, true, false, ◌&&◌, ◌||◌, ◌==◌, List, [], ◌∷◌, ◌++◌, length, map, Option, Some, None, refl, sym, ap, ◌∙◌, subst, arith}
+use Rattle.std.proofs.Common.{◌≡◌, ℕ, Bool, true, false, List, [], ◌∷◌, length, map, Some, refl, sym, ap, ◌∙◌}
 use Rattle.std.specs.Prelude.{slice_get, cond}
-use Rattle.csub_tree.specs.declared.tree.COperand.TheVariants.{Var}
 use Rattle.ll_code.specs.Typed.{IsWellTyped, has_type, operation_ok, operations_ok, block_ok, blocks_ok, graph_ok, graphs_ok, is_counted}
 use Rattle.ll_code.specs.declared.program.LlStage.TheVariants as stage
 use Rattle.ll_code.specs.declared.program.LlType.{LlType}
@@ -16,15 +15,14 @@ use Rattle.ll_code.specs.declared.program.LlProgram.{LlProgram}
 use Rattle.ll_laws.proofs.Values.{and_left, and_right, has_type_is}
 use Rattle.ll_points.specs.Agrees.{Slots, op_agrees, ops_agree, exit_agrees, block_agrees, blocks_agree, graphs_agree, Agrees}
 use Rattle.exc_transform.specs.Explicit.{is_calm, are_calm, leaves_calmly, block_calm, blocks_calm, graphs_calm, or_else, kind_of}
-use Rattle.exc_transform.specs.Raising.{exit_leaves, some_raises, raises_within}
-use Rattle.exc_transform.specs.Pieces.{Around, piece, piece_ops, way_block, rest_block, blocks_of, graph_of, graphs_of, explicit}
+use Rattle.exc_transform.specs.Pieces.{blocks_of, graph_of, graphs_of, explicit}
 use Rattle.exc_transform.proofs.Without.{made_calm}
-use Rattle.exc_laws.specs.Ready.{marks_of, any_of, exceptions_of, uses_slots}
+use Rattle.exc_laws.specs.Ready.{marks_of, exceptions_of, uses_slots}
 use Rattle.exc_laws.specs.Stands.{around_in, explicit_graph}
-use Rattle.exc_laws.proofs.Tests.{and_both, or_first, or_second, equals, get_left}
-use Rattle.exc_ready.specs.Raisable.{root_of, slots_for, is_exception, ops_raisable, exit_raises_alike, block_raisable, blocks_raisable, graph_raisable, graphs_raisable, takes_params, reads_inputs, IsRaisable}
+use Rattle.exc_laws.proofs.Tests.{and_both, equals, get_left}
+use Rattle.exc_ready.specs.Raisable.{root_of, slots_for, ops_raisable, block_raisable, blocks_raisable, graph_raisable, graphs_raisable, IsRaisable}
 use Rattle.exc_ready.proofs.Passes.{is_not}
-use Rattle.exc_ready.proofs.Made.{ops_all, blocks_all, AllFirst, made_all, More, Types, Excepts, HasTests, has_tests, Accepts, Own, OwnAll, graph_holds}
+use Rattle.exc_ready.proofs.Made.{ops_all, blocks_all, More, Types, Excepts, Accepts, Own, OwnAll, graph_holds}
 
 ops_are : (slots : Slots) (types : List LlType) (ops : List LlOp) → ops_all (op_agrees slots types) ops ≡ true → ops_agree slots types ops ≡ true
 ops_are slots types [] h = refl

@@ -1,5 +1,5 @@
 -- In the run of any program an exception leaves none but a graph that is marked.
-use Rattle.std.proofs.Common.{◌≡◌, ℕ, zero, suc, ◌+◌, Bool, true, false, ◌&&◌, ◌||◌, List, [], ◌∷◌, ◌++◌, map, Option, Some, None, Result, Ok, Err, refl, sym, ap, ◌∙◌, subst, ℤ}
+use Rattle.std.proofs.Common.{◌≡◌, ℕ, zero, suc, Bool, true, false, ◌&&◌, ◌||◌, List, [], ◌∷◌, ◌++◌, map, Option, Some, None, Result, Ok, Err, refl, sym, ap, ◌∙◌, subst, ℤ}
 use Rattle.std.specs.Prelude.{slice_get, slice_set, cond, not}
 use Rattle.rpy_base.specs.declared.outcome.Outcome.TheVariants.{Returned}
 use Rattle.csub_tree.specs.State.{Value, Block, Core, After, Onward, Puts as PutsByte, Told, Over, Stuck, Event}
@@ -11,7 +11,7 @@ use Rattle.csub_tree.specs.declared.stuck.StuckReason.TheVariants.{Unset as IsUn
 use Rattle.csub_tree.specs.declared.tree.CType.{CType}
 use Rattle.csub_tree.specs.declared.tree.CType.TheVariants as c
 use Rattle.ll_code.specs.State.{Frame, State, Calling, At, Returning, Throwing, Next, Goes, Puts, Tells, Ends, Sticks}
-use Rattle.ll_code.specs.Machine.{does, goes_on, shapes_of, block_in, begins, jump, branch, caught_by, caught, waiting, resumed, called, called_as, called_value, enters, entered, returned, thrown, given, operates, type_in, leaves, step, start, param_types, c_result, c_type}
+use Rattle.ll_code.specs.Machine.{does, goes_on, shapes_of, block_in, begins, jump, branch, caught, waiting, resumed, called_as, called_value, enters, entered, returned, given, operates, type_in, leaves, step, start, param_types, c_result, c_type}
 use Rattle.ll_code.specs.Meaning.{Ran, Ended, Unfinished, run, follow}
 use Rattle.ll_code.specs.declared.program.LlLink.{LlLink}
 use Rattle.ll_code.specs.declared.program.LlOp.{LlOp}
@@ -21,8 +21,8 @@ use Rattle.ll_code.specs.declared.program.LlExit.TheVariants as exit
 use Rattle.ll_code.specs.declared.program.LlBlock.{LlBlock}
 use Rattle.ll_code.specs.declared.program.LlGraph.{LlGraph}
 use Rattle.ll_code.specs.declared.program.LlProgram.{LlProgram}
-use Rattle.ll_held.specs.Places.{PlacedAt, AllBehind, IsPlaced}
-use Rattle.ll_held.proofs.Placing.{Onwards, AfterMoves, does_moves, NextPlaced, step_placed, start_placed}
+use Rattle.ll_held.specs.Places.{PlacedAt, IsPlaced}
+use Rattle.ll_held.proofs.Placing.{AfterMoves, does_moves, NextPlaced, step_placed, start_placed}
 use Rattle.exc_transform.specs.Explicit.{is_marked}
 use Rattle.exc_transform.specs.Raising.{may_raise, catches, is_last, ops_leave, exit_leaves}
 use Rattle.exc_laws.specs.Ready.{marks_of, any_of}

@@ -1,6 +1,6 @@
 -- In each state of a run of a program that passes the test, what is live is set.
-use Rattle.std.proofs.Common.{◌≡◌, ◌<◌, ◌≤◌, ℕ, zero, suc, ◌+◌, ◌-◌, Bool, true, false, ◌&&◌, ◌||◌, ◌==◌, List, [], ◌∷◌, ◌++◌, length, map, replicate, Option, Some, None, Result, Ok, Err, refl, sym, ap, ◌∙◌, subst, ℤ, arith, ◌⊎◌, inl, inr}
-use Rattle.std.specs.Prelude.{slice_get, slice_set, slice_index_or, cond, not}
+use Rattle.std.proofs.Common.{◌≡◌, ◌<◌, ℕ, zero, suc, ◌+◌, Bool, true, false, ◌&&◌, ◌||◌, ◌==◌, List, [], ◌∷◌, ◌++◌, length, map, Option, Some, None, Result, Ok, Err, refl, sym, ap, ◌∙◌, subst, ℤ, arith, ◌⊎◌, inl, inr}
+use Rattle.std.specs.Prelude.{slice_get, slice_set, cond}
 use Rattle.std.proofs.lemmas.Option.{slice_get_within}
 use Rattle.rpy_base.specs.declared.outcome.Outcome.TheVariants.{Returned}
 use Rattle.csub_tree.specs.State.{Value, Unset, Block, Core, After, Onward, Puts as PutsByte, Told, Over, Stuck, Event}
@@ -8,12 +8,12 @@ use Rattle.csub_tree.specs.Operation.{is_unset, word_of, flag_of}
 use Rattle.csub_tree.specs.Statement as st
 use Rattle.csub_tree.specs.Statement.{read, operand, operands, any_unset, reached, on_block, fun_of, same_result, same_types, fail_name_of, taken_by}
 use Rattle.csub_tree.specs.declared.stuck.StuckReason.{StuckReason}
-use Rattle.csub_tree.specs.declared.stuck.StuckReason.TheVariants.{Unset as IsUnset, Signature, Outside}
+use Rattle.csub_tree.specs.declared.stuck.StuckReason.TheVariants.{Unset as IsUnset, Signature}
 use Rattle.csub_tree.specs.declared.tree.CType.{CType}
 use Rattle.csub_tree.specs.declared.tree.CType.TheVariants as c
 use Rattle.csub_tree.specs.declared.tree.COperand.{COperand}
 use Rattle.ll_code.specs.State.{Frame, State, Calling, At, Returning, Throwing, Next, Goes, Puts, Tells, Ends, Sticks}
-use Rattle.ll_code.specs.Machine.{does, goes_on, shapes_of, block_in, set_all, begins, jump, branch, caught_by, caught, waiting, resumed, called, called_as, called_value, enters, entered, returned, thrown, given, operates, gives_back, type_in, leaves, step, start, param_types, c_result, c_type}
+use Rattle.ll_code.specs.Machine.{does, goes_on, shapes_of, block_in, set_all, begins, jump, branch, caught, waiting, resumed, called_as, called_value, enters, entered, returned, thrown, given, operates, gives_back, type_in, leaves, step, start, param_types, c_result, c_type}
 use Rattle.ll_code.specs.Meaning.{Ran, Ended, Unfinished, run, follow}
 use Rattle.ll_code.specs.Typed as typed
 use Rattle.ll_code.specs.Typed.{IsWellTyped, given_takes, all_given, operation_ok, operations_ok, link_ok, exit_ok, result_ok, is_void, has_type, params_ok, graph_ok, graphs_ok}
@@ -33,7 +33,7 @@ use Rattle.ll_laws.proofs.Operations.{set_at, length_set}
 use Rattle.ll_laws.proofs.Steps.{step_fits}
 use Rattle.ll_laws.proofs.Runs.{start_fits}
 use Rattle.ll_live.specs.Live.{among, sets, set_by}
-use Rattle.ll_held.specs.Places.{PlacedAt, IsPlaced}
+use Rattle.ll_held.specs.Places.{IsPlaced}
 use Rattle.ll_held.proofs.Placing.{NextPlaced, step_placed, start_placed}
 use Rattle.exc_transform.specs.Raising.{may_raise}
 use Rattle.exc_laws.specs.Ready.{marks_of, any_of, uses_slots}
@@ -41,7 +41,7 @@ use Rattle.exc_laws.specs.Stands.{needs}
 use Rattle.exc_laws.proofs.Lives.{needed_live, rest_needed, more_needed}
 use Rattle.exc_laws.proofs.Jumps.{graph_at}
 use Rattle.exc_laws.proofs.Waiting.{result_within, sets_within, taken_apart}
-use Rattle.exc_ready.specs.Raisable.{IsRaisable, root_of, ops_raisable}
+use Rattle.exc_ready.specs.Raisable.{IsRaisable, root_of}
 use Rattle.exc_ready.specs.Along.{EachState}
 use Rattle.exc_ready.proofs.Passes.{takes_parameters, closed, ops_pass, slots_alone}
 use Rattle.exc_ready.proofs.Setting.{Sets, AfterSets, taken_sets, does_sets}

@@ -1,5 +1,5 @@
 -- In each state of a run of a program that passes the test, pointers lead to their structs, and what is raised to that of exceptions.
-use Rattle.std.proofs.Common.{◌≡◌, ℕ, zero, suc, ◌+◌, ◌-◌, Bool, true, false, ◌&&◌, ◌||◌, List, [], ◌∷◌, ◌++◌, length, map, replicate, Option, Some, None, Result, Ok, Err, refl, sym, ap, ◌∙◌, subst, ℤ, arith}
+use Rattle.std.proofs.Common.{◌≡◌, ℕ, zero, suc, ◌-◌, Bool, true, false, ◌&&◌, ◌||◌, List, [], ◌∷◌, ◌++◌, length, map, replicate, Option, Some, None, Result, Ok, Err, refl, sym, ap, ◌∙◌, subst, ℤ, arith}
 use Rattle.std.specs.Prelude.{slice_get, slice_set, cond}
 use Rattle.rpy_base.specs.declared.outcome.Outcome.TheVariants.{Returned}
 use Rattle.csub_tree.specs.Layout.{static_block}
@@ -13,7 +13,7 @@ use Rattle.csub_tree.specs.declared.tree.CType.{CType}
 use Rattle.csub_tree.specs.declared.tree.CType.TheVariants as c
 use Rattle.csub_tree.specs.declared.tree.COperand.{COperand}
 use Rattle.ll_code.specs.State.{Frame, State, Calling, At, Returning, Throwing, Next, Goes, Puts, Tells, Ends, Sticks}
-use Rattle.ll_code.specs.Machine.{does, goes_on, shapes_of, block_in, set_all, begins, jump, branch, caught_by, caught, waiting, resumed, called, called_as, called_value, enters, entered, returned, thrown, given, operates, gives_back, type_in, leaves, step, start, param_types, c_result, c_type}
+use Rattle.ll_code.specs.Machine.{does, goes_on, shapes_of, block_in, set_all, begins, jump, branch, caught, waiting, resumed, called, called_as, called_value, enters, entered, returned, thrown, given, operates, gives_back, type_in, leaves, step, start, param_types, c_result, c_type}
 use Rattle.ll_code.specs.Meaning.{Ran, Ended, Unfinished, run, follow}
 use Rattle.ll_code.specs.Typed as typed
 use Rattle.ll_code.specs.Typed.{IsWellTyped, has_type, all_given, all_taken, operation_ok, operations_ok, link_ok, exit_ok, result_ok, params_ok, graph_ok, graphs_ok, structs_ok, is_kind, are_types, is_counted, begins_run, call_ok}
@@ -28,7 +28,7 @@ use Rattle.ll_code.specs.declared.program.LlExit.TheVariants as exit
 use Rattle.ll_code.specs.declared.program.LlBlock.{LlBlock}
 use Rattle.ll_code.specs.declared.program.LlGraph.{LlGraph}
 use Rattle.ll_code.specs.declared.program.LlProgram.{LlProgram}
-use Rattle.ll_laws.specs.States.{AtFits, LeavesFits, FramesFit, StateFits, NextFits}
+use Rattle.ll_laws.specs.States.{AtFits, FramesFit, StateFits, NextFits}
 use Rattle.ll_laws.proofs.Values.{and_left, and_right, has_type_is}
 use Rattle.ll_laws.proofs.Steps.{step_fits}
 use Rattle.ll_laws.proofs.Runs.{start_fits}

@@ -1,8 +1,10 @@
 pub mod Agreeing
+pub mod Classes
 pub mod Escapes
 pub mod Filled
 pub mod Leading
 pub mod Made
+pub mod Naming
 pub mod Passes
 pub mod Placed
 pub mod Reading

@@ -1,5 +1,5 @@
 -- What holds of the operations and blocks that the explicit program is made of.
-use Rattle.std.proofs.Common.{◌≡◌, ℕ, zero, suc, ◌+◌, Bool, true, false, ◌&&◌, ◌||◌, List, [], ◌∷◌, ◌++◌, length, Option, Some, None, refl, sym, ap, ◌∙◌, subst, arith}
+use Rattle.std.proofs.Common.{◌≡◌, ℕ, ◌+◌, Bool, true, false, ◌&&◌, ◌||◌, List, [], ◌∷◌, ◌++◌, length, Option, Some, None, refl, sym, ap, ◌∙◌, subst, arith}
 use Rattle.std.specs.Prelude.{slice_get, cond, is_some}
 use Rattle.csub_tree.specs.declared.tree.CBinary.TheVariants.{Peq}
 use Rattle.csub_tree.specs.declared.tree.CConst.TheVariants as constant

@@ -13,7 +13,7 @@ use Rattle.ll_held.specs.Places.{PlacedAt}
 use Rattle.exc_transform.specs.Explicit.{is_marked}
 use Rattle.exc_transform.specs.Live.{live, handler_reads}
 use Rattle.exc_laws.specs.Ready.{marks_of, any_of, IsClosed, uses_slots, next_uses_slots, is_apart}
-use Rattle.exc_ready.specs.Raisable.{root_of, raises_alike, exit_raises_alike, sets_none_of, ops_raisable, all_among, reads_inputs, block_raisable, blocks_raisable, takes_params, graph_raisable, graphs_raisable, IsRaisable}
+use Rattle.exc_ready.specs.Raisable.{root_of, exit_raises_alike, sets_none_of, ops_raisable, all_among, block_raisable, blocks_raisable, takes_params, graph_raisable, graphs_raisable, IsRaisable}
 use Rattle.exc_ready.proofs.Placed.{placed_holds}
 
 pub is_not : (b : Bool) → not b ≡ true → b ≡ false

@@ -1,5 +1,5 @@
 -- What holds of each rest of a block holds of what is left to do.
-use Rattle.std.proofs.Common.{◌≡◌, ℕ, zero, suc, Bool, true, false, ◌||◌, List, [], ◌∷◌, drop, Option, Some, None, refl, sym, ap, ◌∙◌, subst}
+use Rattle.std.proofs.Common.{◌≡◌, ℕ, zero, suc, List, [], ◌∷◌, drop, Option, Some, None, refl, subst}
 use Rattle.std.specs.Prelude.{slice_get}
 use Rattle.ll_code.specs.Machine.{block_in}
 use Rattle.ll_code.specs.declared.program.LlOp.{LlOp}

@@ -1,5 +1,5 @@
 -- Each block of the explicit program reads its inputs alone.
-use Rattle.std.proofs.Common.{◌≡◌, ℕ, zero, suc, Bool, true, false, ◌&&◌, ◌||◌, List, [], ◌∷◌, Option, Some, None, refl, sym, ap, ◌∙◌, subst}
+use Rattle.std.proofs.Common.{◌≡◌, ℕ, zero, suc, Bool, true, false, ◌&&◌, ◌||◌, List, [], ◌∷◌, Some, refl, sym, ap, ◌∙◌, subst}
 use Rattle.std.specs.Prelude.{slice_get, cond, not}
 use Rattle.ll_code.specs.declared.program.LlOp.{LlOp}
 use Rattle.ll_code.specs.declared.program.LlExit.{LlExit}
@@ -13,12 +13,10 @@ use Rattle.ll_live.specs.Live as live
 use Rattle.ll_held.specs.Quiet.{ReadsInputs}
 use Rattle.exc_transform.specs.Explicit.{are_calm, leaves_calmly, block_calm, blocks_calm, graphs_calm}
 use Rattle.exc_transform.specs.Raising.{may_raise}
-use Rattle.exc_transform.specs.Live.{handler_reads}
 use Rattle.exc_transform.specs.Pieces.{graphs_of, explicit}
-use Rattle.exc_laws.specs.Ready.{marks_of, any_of, is_live, IsClosed}
+use Rattle.exc_laws.specs.Ready.{marks_of, any_of}
 use Rattle.exc_laws.specs.Stands.{needs}
-use Rattle.exc_laws.proofs.Tests.{or_first, or_second}
-use Rattle.exc_laws.proofs.Lives.{needed_live, reads_needed, rest_needed, more_needed, among_right}
+use Rattle.exc_laws.proofs.Lives.{needed_live, reads_needed, rest_needed, more_needed}
 use Rattle.exc_laws.proofs.Roots.{explicit_reads}
 use Rattle.exc_ready.specs.Raisable.{IsRaisable}
 use Rattle.exc_ready.proofs.Passes.{closed}

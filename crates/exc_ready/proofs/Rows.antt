@@ -1,18 +1,12 @@
 -- A program that raises an exception and catches it passes the test, its runs keep the rule, and its explicit program means the same.
-use Rattle.std.proofs.Common.{◌≡◌, ℕ, zero, suc, true, false, List, [], ◌∷◌, Option, Some, None, refl, codes, pos, ap, ◌∙◌, sym, subst}
-use Rattle.std.specs.Prelude.{ℤ}
+use Rattle.std.proofs.Common.{◌≡◌, ℕ, zero, suc, true, false, List, [], ◌∷◌, Some, None, refl, codes, pos, subst}
 use Rattle.rpy_base.specs.declared.outcome.Outcome.TheVariants.{Returned}
-use Rattle.csub_tree.specs.State.{Unset, Ptr, Static, Word, Null, Block, Core, Event}
-use Rattle.csub_tree.specs.Statement.{read, block_at}
-use Rattle.csub_tree.specs.declared.tree.CCell.{CCell, roll-CCell}
-use Rattle.csub_tree.specs.declared.tree.CCell.TheOpen.{CCell-F}
-use Rattle.csub_tree.specs.declared.tree.CStatic.{CStatic}
-use Rattle.csub_tree.specs.declared.tree.CConst.{CConst}
+use Rattle.csub_tree.specs.State.{Unset, Ptr, Null, Block, Core}
+use Rattle.csub_tree.specs.Statement.{read}
 use Rattle.csub_tree.specs.declared.tree.CConst.TheVariants as constant
 use Rattle.csub_tree.specs.declared.tree.COperand.{COperand}
 use Rattle.csub_tree.specs.declared.tree.COperand.TheVariants.{Var, Const}
 use Rattle.ll_code.specs.declared.program.LlStage.TheVariants as stage
-use Rattle.ll_code.specs.declared.program.LlType.{LlType}
 use Rattle.ll_code.specs.declared.program.LlType.TheVariants as type
 use Rattle.ll_code.specs.declared.program.LlOp.{LlOp}
 use Rattle.ll_code.specs.declared.program.LlOp.TheVariants as op
@@ -20,15 +14,15 @@ use Rattle.ll_code.specs.declared.program.LlExit.{LlExit}
 use Rattle.ll_code.specs.declared.program.LlExit.TheVariants as exit
 use Rattle.ll_code.specs.declared.program.LlGraph.{LlGraph}
 use Rattle.ll_code.specs.declared.program.LlProgram.{LlProgram}
-use Rattle.ll_code.specs.State.{State, At}
 use Rattle.ll_code.specs.Machine.{start, shapes_from}
-use Rattle.ll_code.specs.Meaning.{run, Ran, Unfinished, Ended, Came, Meant, within, LMeans}
-use Rattle.ll_code.specs.Typed.{IsWellTyped, begins_within, cells_within}
+use Rattle.ll_code.specs.Meaning.{run, Ran, Unfinished, Ended, Came, Meant, LMeans}
+use Rattle.ll_code.specs.Typed.{IsWellTyped, begins_within}
 use Rattle.exc_transform.specs.Pieces.{explicit}
 use Rattle.ll_points.specs.Agrees.{Agrees}
 use Rattle.exc_laws.specs.Ready.{exceptions_of}
 use Rattle.exc_laws.proofs.Whole.{means_forth}
 use Rattle.exc_ready.specs.Raisable.{is_raisable, IsRaisable}
+use Rattle.exc_ready.specs.Classes.{names_classes}
 use Rattle.exc_ready.specs.Along.{EachState, NamesClass, HasClass, RaisesClassed}
 use Rattle.exc_ready.proofs.Agreeing.{explicit_agrees}
 use Rattle.exc_ready.proofs.Whole.{allowed}
@@ -159,3 +153,26 @@ agrees = explicit_agrees caught typed refl passes
 
 agrees_so : Agrees (Some (1, 0)) (explicit caught)
 agrees_so = refl
+
+-- ---- classes
+
+-- an exception is made, and these are done
+abbrev making : List LlOp → LlProgram
+making ops = record (program 0 (main 0) (record (raiser (exit.Raise 0)) { blocks = record { inputs = []; ops = op.New 0 0 0 ∷ ops; exit = exit.Raise 0 } ∷ [] })) {
+  statics = record { kind = 1; cells = [] } ∷ [];
+}
+
+-- its class is named at once
+at_once : names_classes (making (op.SetField 0 0 0 (Const (constant.Static 1 0)) ∷ op.New 1 1 1 ∷ [])) ≡ true
+unfolding shapes_from
+at_once = refl
+
+-- not where another operation stands between
+too_late : names_classes (making (op.New 1 1 1 ∷ op.SetField 0 0 0 (Const (constant.Static 1 0)) ∷ [])) ≡ false
+unfolding shapes_from
+too_late = refl
+
+-- nor where it is taken away
+taken_away : names_classes (making (op.SetField 0 0 0 (Const (constant.Static 1 0)) ∷ op.SetField 0 0 0 (Const constant.Null) ∷ [])) ≡ false
+unfolding shapes_from
+taken_away = refl

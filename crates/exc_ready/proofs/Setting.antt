@@ -1,8 +1,7 @@
 -- An operation that stays in its block sets its variable, and no other.
-use Rattle.std.proofs.Common.{◌≡◌, ◌<◌, ℕ, zero, suc, ◌+◌, ◌-◌, Bool, true, false, ◌||◌, ◌==◌, List, [], ◌∷◌, ◌++◌, length, replicate, Option, Some, None, Result, Ok, Err, refl, sym, ap, ◌∙◌, subst, ℤ, pos, negsuc, arith}
-use Rattle.std.specs.Prelude.{slice_get, slice_set, slice_index_or, cond, nat_lt, nat_le, not}
-use Rattle.std.specs.Int.{w64, int_bit_and, int_bit_or, int_bit_xor, int_bit_not}
-use Rattle.csub_tree.specs.State.{Value, Unset, Word, Byte, Flag, Fun, Null, Ptr, Static, Block, Core, After, Onward, Puts as PutsByte, Told, Over, Stuck}
+use Rattle.std.proofs.Common.{◌≡◌, ◌<◌, ℕ, zero, suc, ◌+◌, ◌-◌, Bool, true, false, ◌||◌, List, length, Option, Some, None, Result, Ok, Err, refl, ap, ◌∙◌, ℤ, pos, negsuc}
+use Rattle.std.specs.Prelude.{slice_set, slice_index_or, cond, nat_lt, nat_le}
+use Rattle.csub_tree.specs.State.{Value, Unset, Word, Byte, Ptr, Static, Block, Core, After, Onward, Puts as PutsByte, Told, Over, Stuck}
 use Rattle.csub_tree.specs.Layout.{Shape, shape_at, place}
 use Rattle.csub_tree.specs.Operation as o
 use Rattle.csub_tree.specs.Operation.{Answer, is_unset, word_of, flag_of, byte_of, unary_of, binary_of}

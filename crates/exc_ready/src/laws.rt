@@ -1,5 +1,5 @@
 // Laws of programs that pass the test, over all of them.
-ghost use Rattle.std.specs.Prelude.{◌≡◌, ◌+◌, ℕ, List, []};
+ghost use Rattle.std.specs.Prelude.{◌≡◌, ◌+◌, ℕ, List, [], true};
 ghost use Rattle.ll_code.specs.State.{State};
 ghost use Rattle.csub_tree.specs.State.{Event};
 ghost use Rattle.ll_code.specs.Machine.{start};
@@ -13,6 +13,7 @@ ghost use Rattle.exc_laws.specs.Holds.{Found, AreApartOn, IsSmallOn, HasFewVaria
 ghost use Rattle.ll_held.specs.Quiet.{ReadsInputs};
 ghost use Rattle.ll_points.specs.Agrees.{Agrees};
 ghost use Rattle.exc_ready.specs.Raisable.{IsRaisable, slots_for};
+ghost use Rattle.exc_ready.specs.Classes.{names_classes, RaisesSome};
 ghost use Rattle.exc_ready.specs.Along.{EachState, RaisesClassed, RaisedLeads, LeavesMarked};
 
 /// In the run of any program an exception leaves none but a graph that is marked.
@@ -32,6 +33,14 @@ pub fn exceptions_lead_to_their_struct()
 /// what is raised has a class.
 pub fn runs_are_allowed()
     ensures { (p : LlProgram) → IsWellTyped p → p.stage ≡ stage.Raw → IsRaisable p → (args : List (List ℕ)) (steps : ℕ) → EachState (RaisesClassed p) p args steps → Allows p args steps }
+{}
+
+/// What is raised has a class in each run in which NULL is never raised, where each operation that makes
+/// an exception is followed by one that writes a static into the field that tells classes apart, nothing
+/// else is written there, and the statics have it.
+#[tactic(auto, using(crate::proofs::Classes::classed))]
+pub fn exceptions_have_classes()
+    ensures { (p : LlProgram) → IsWellTyped p → p.stage ≡ stage.Raw → IsRaisable p → names_classes p ≡ true → (args : List (List ℕ)) (steps : ℕ) → EachState (RaisesSome p) p args steps → EachState (RaisesClassed p) p args steps }
 {}
 
 /// The explicit program of such a program means what it means.

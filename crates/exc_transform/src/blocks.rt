@@ -4,7 +4,7 @@ ghost use Rattle.exc_transform.specs.Pieces as p;
 
 use crate::copies::{copy_types, copy_variables};
 use crate::family::{Family, kind_of};
-use crate::live::live;
+use crate::live::live_variables;
 use crate::pieces::{Around, Ending, add, ending_of, goes_on, piece, way_of};
 use crate::raising::{Raising, raises_within};
 use crate::slots::Slots;
@@ -23,7 +23,7 @@ fn push_rest(
 ) -> Result<(), NoMem>
     ensures { OnOk result (extra.new ≡ extra.old ++ p.rest_block (p.around_of around.entry.raising.graphs.now around.entry.raising.any around.entry.slots.family around.entry.slots.types.now around.entry.slots.kind around.entry.slots.test around.entry.result) rest.now exit.now (first + length extra.old + 1) ∷ []) }
 {
-    let inputs = live(alloc, around.raising, rest, exit)?;
+    let inputs = live_variables(alloc, around.raising, rest, exit)?;
     let own = add(first, extra.len() as u64)?;
     extra.push(piece(alloc, around, inputs, rest, exit, add(own, 1)?)?)
 }

@@ -19,3 +19,6 @@ mod slots;
 
 pub use calm::is_without_exceptions;
 pub use explicit::make_explicit;
+pub use family::{Family, family_of};
+pub use live::{handler_reads, live_variables};
+pub use raising::{Raising, any_marked, is_marked, raising_graphs};

@@ -78,7 +78,7 @@ fn push_set(op: &LlOp, set: &mut Seq<VarId>) -> Result<(), NoMem>
 }
 
 /// What operations and the exit behind them read before they set it.
-pub fn live(
+pub fn live_variables(
     alloc: Global,
     raising: Raising<'_>,
     ops: &[LlOp],

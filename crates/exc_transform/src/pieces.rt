@@ -4,7 +4,7 @@ ghost use Rattle.exc_transform.specs.Explicit as spec;
 ghost use Rattle.exc_transform.specs.Pieces as p;
 
 use crate::copies::{copy_link, copy_op};
-use crate::live::{as_operands, handler_reads, live};
+use crate::live::{as_operands, handler_reads, live_variables};
 use crate::raising::{Raising, is_tested};
 use crate::slots::{Slots, default_of, push_given, push_raise, push_taken, push_test};
 use ll_code::{LlBlock, LlExit, LlLink, LlOp, LlType, VarId};
@@ -132,7 +132,7 @@ fn on_rest(
 ) -> Result<LlLink, NoMem>
     ensures { IfOk result (λ made. made ≡ p.on_by (p.around_of around.entry.raising.graphs.now around.entry.raising.any around.entry.slots.family around.entry.slots.types.now around.entry.slots.kind around.entry.slots.test around.entry.result) rest.now exit.now way None) }
 {
-    let inputs = live(alloc, around.raising, rest, exit)?;
+    let inputs = live_variables(alloc, around.raising, rest, exit)?;
     Ok(LlLink {
         to: add(way, 1)?,
         args: as_operands(alloc, inputs.as_slice())?,

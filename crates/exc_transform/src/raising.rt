@@ -16,7 +16,8 @@ pub struct Raising<'a> {
     pub any: bool,
 }
 
-fn is_marked(marks: &[bool], n: u64) -> bool
+/// Whether a graph is marked.
+pub fn is_marked(marks: &[bool], n: u64) -> bool
     ensures { result ≡ spec.is_marked marks.now n }
 {
     match marks.get(n as usize) {

@@ -1,37 +1,22 @@
 -- What a core that leads gives to blocks, to graphs and back leads.
-use Rattle.std.proofs.Common.{◌≡◌, ℕ, zero, suc, ◌+◌, ◌-◌, Bool, true, false, ◌&&◌, ◌||◌, List, [], ◌∷◌, ◌++◌, length, map, replicate, Option, Some, None, Result, Ok, Err, refl, sym, ap, ◌∙◌, subst, arith, ℤ}
-use Rattle.std.specs.Prelude.{slice_get, slice_set, cond}
-use Rattle.csub_tree.specs.State.{Value, Unset, Word, Block, Core, After, Onward, Puts as PutsByte, Told, Over, Stuck}
-use Rattle.csub_tree.specs.Operation.{is_unset, flag_of, word_of}
-use Rattle.csub_tree.specs.Statement.{read, operand, operands, any_unset, on_block, reached, taken_by, ended, fail, fail_name_of, raised, raised_as, bytes_of, fun_of, same_result, same_types, same_type}
-use Rattle.csub_tree.specs.declared.stuck.StuckReason.{StuckReason}
-use Rattle.csub_tree.specs.declared.stuck.StuckReason.TheVariants.{Unset as IsUnset, Signature}
-use Rattle.csub_tree.specs.declared.tree.CType.{CType}
-use Rattle.csub_tree.specs.declared.tree.CType.TheVariants as c
+use Rattle.std.proofs.Common.{◌≡◌, ℕ, zero, suc, ◌+◌, true, List, [], ◌∷◌, ◌++◌, map, replicate, Option, Some, None, refl, sym, ap, ◌∙◌, subst, arith}
+use Rattle.std.specs.Prelude.{slice_get, slice_set}
+use Rattle.csub_tree.specs.State.{Value, Unset, Core}
+use Rattle.csub_tree.specs.Statement.{read, operand, operands, taken_by, same_result, same_types, same_type}
 use Rattle.csub_tree.specs.declared.tree.COperand.{COperand}
-use Rattle.rpy_base.specs.declared.outcome.FailName.{FailName}
 use Rattle.ll_code.specs.declared.program.LlType.{LlType}
 use Rattle.ll_code.specs.declared.program.LlType.TheVariants as type
 use Rattle.ll_code.specs.declared.program.LlStruct.{LlStruct}
-use Rattle.ll_code.specs.declared.program.LlLink.{LlLink}
-use Rattle.ll_code.specs.declared.program.LlOp.{LlOp}
-use Rattle.ll_code.specs.declared.program.LlOp.TheVariants as op
-use Rattle.ll_code.specs.declared.program.LlExit.{LlExit}
-use Rattle.ll_code.specs.declared.program.LlExit.TheVariants as exit
-use Rattle.ll_code.specs.declared.program.LlBlock.{LlBlock}
 use Rattle.ll_code.specs.declared.program.LlGraph.{LlGraph}
 use Rattle.ll_code.specs.declared.program.LlProgram.{LlProgram}
-use Rattle.ll_code.specs.State.{Frame, State, Calling, At, Returning, Throwing, Next, Goes, Sticks}
-use Rattle.ll_code.specs.Machine.{c_type, c_result, goes_on, set_all, begins, block_in, jump, branch, waiting, called, type_or_word, param_types, called_as, called_value, enters, entered, returned, given, operates, gives_back, type_in, leaves, step, does, shapes_of}
-use Rattle.ll_code.specs.Typed as typed
-use Rattle.ll_code.specs.Typed.{IsWellTyped, given_takes, all_given, all_taken, takes, result_ok, operation_ok, operations_ok, exit_ok, link_ok, block_ok, blocks_ok, graph_ok, graphs_ok, structs_ok, params_ok, is_type, are_types, is_kind, is_type_given, call_ok}
-use Rattle.ll_laws.specs.States.{AtFits, StateFits}
+use Rattle.ll_code.specs.Machine.{c_type, c_result, set_all, type_or_word}
+use Rattle.ll_code.specs.Typed.{given_takes, all_given, all_taken, takes, result_ok, structs_ok, params_ok, is_type, are_types, is_kind, is_type_given}
 use Rattle.ll_laws.proofs.Values.{and_left, and_right, is_same, has_type_is}
 use Rattle.ll_laws.proofs.Heap.{unset_at}
-use Rattle.ll_points.specs.Agrees.{Slots, Agrees, op_agrees, ops_agree, exit_agrees, block_agrees, blocks_agree, graphs_agree}
-use Rattle.ll_points.specs.Points.{LeadsBy, AllLead, MemoryLeads, FramesLead, CallingLeads, AtLeads, ReturningLeads, StateLeads, NextLeads}
-use Rattle.ll_points.proofs.Leading.{grows_same, frames_more, same_memory, vars_set, unset_leads, operand_leads}
-use Rattle.ll_points.proofs.Cores.{CoreLeads, Follows, AfterLeads, operation_leads}
+use Rattle.ll_points.specs.Agrees.{Slots}
+use Rattle.ll_points.specs.Points.{LeadsBy, AllLead}
+use Rattle.ll_points.proofs.Leading.{vars_set, unset_leads, operand_leads}
+use Rattle.ll_points.proofs.Cores.{CoreLeads}
 
 -- ---- values behind which nothing is set
 

@@ -1,6 +1,6 @@
 // The passes behind the checks, in a row.
 ghost use Rattle.std.specs.Prelude.{IfOk};
-ghost use Rattle.ll_file.specs.File.{IsFile};
+ghost use Rattle.ll_file.specs.File.{IsOfSome};
 
 use csub_tree::CFile;
 use ll_code::LlProgram;
@@ -27,9 +27,9 @@ pub fn low_level(alloc: Global, program: &Program, checked: &Checked) -> Result<
 }
 
 /// The C file of a program that has passed its checks, which keeps every rule of C files and means what
-/// a low-level program means that can be counted.
+/// a low-level program means.
 pub fn compile(alloc: Global, program: &Program, checked: &Checked) -> Result<CFile, NoMem>
-    ensures { IfOk result IsFile }
+    ensures { IfOk result IsOfSome }
 {
     let typed = low_level(alloc, program, checked)?;
     file_of(alloc, typed)

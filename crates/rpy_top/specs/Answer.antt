@@ -8,7 +8,7 @@ use Rattle.rpy_top.specs.Lower.{lowered}
 use Rattle.rpy_first.specs.Gives.{Gives}
 use Rattle.rpy_first.specs.Program.{program_of}
 use Rattle.rpy_top.specs.Built.{Built}
-use Rattle.ll_file.specs.File.{IsFile}
+use Rattle.ll_file.specs.File.{IsOfSome}
 use Rattle.csub_tree.specs.declared.tree.CFile.{CFile}
 use Rattle.ll_code.specs.declared.program.LlProgram.{LlProgram}
 use Rattle.rpy_first.specs.declared.fault.TranslateFault.{TranslateFault as FrontFault}
@@ -157,10 +157,10 @@ pub record OfBody (modules : List Named) (text : List ℕ) : Type 0 where
   pub is : only_body modules ≡ Some body
   pub built : Built (program_of body) text
 
--- the text is the spelling of a C file that keeps the rules, which the passes make of a low-level program
+-- the text is the spelling of a C file that keeps the rules, which the passes make of a low-level program and which means what that means
 pub record Emits (text : List ℕ) : Type 0 where
   pub file : CFile
-  pub is_file : IsFile file
+  pub is_file : IsOfSome file
   pub spells : text ≡ file_text file
 
 -- the text is a translation of modules: where they are one of the first path, it does what its body means
