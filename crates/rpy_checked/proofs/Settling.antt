@@ -1,34 +1,61 @@
 -- What closing a program's plan came to, said of the program.
-use Rattle.std.proofs.Common.{◌≡◌, ◌<◌, length, Result, Ok, Err, refl, sym, subst}
+use Rattle.std.proofs.Common.{◌≡◌, ◌<◌, length, Result, Ok, Err, refl, sym, ap, ◌∙◌, subst}
 use Rattle.rpy_tree.specs.declared.program.Program.{Program}
 use Rattle.flow_graph.specs.declared.graph.Graphs.{Graphs}
 use Rattle.flow_graph.specs.Whole.{Covers}
+use Rattle.flow_space.specs.Placed.{StandFor}
 use Rattle.class_desc.specs.Tables.{Tables, tables}
 use Rattle.ann_element.specs.declared.annotation.Annotation.{Annotation}
-use Rattle.ann_needs.specs.declared.state.State.{State}
 use Rattle.ann_layout.specs.Layout.{planned}
 use Rattle.ann_layout.specs.declared.layout.Planned.{Planned}
 use Rattle.ann_settled.specs.Settled as settled
 use Rattle.ann_settled.proofs.Ending.{basis}
+use Rattle.rtyper_core.specs.Typing.{Tells}
+use Rattle.rtyper_core.specs.declared.fault.TypeFault.{TypeFault}
+use Rattle.rtyper_core.specs.declared.fault.TypeFault.TheVariants as typing
 use Rattle.rpy_checked.specs.declared.fault.CheckFault.{CheckFault}
 use Rattle.rpy_checked.specs.declared.fault.CheckFault.TheVariants as fault
 use Rattle.rpy_checked.specs.Settles as spec
 
-module _ (p : Program) (gs : Graphs) where
-  settles_by : (n : Annotation) → spec.Annotates p (planned p gs (tables p)) (Ok n) → spec.Settles p (Ok (spec.checked (planned p gs (tables p)) n))
-  settles_by n h = (h.0, record { read = h.1.0; closed = h.1.1.0; least = λ classes lt. (h.1.1.1 (basis p gs (tables p) classes lt)).least })
+module _ (p : Program) (gs : Graphs) (covers : Covers p gs) (stand : StandFor p gs) where
+  -- ---- an annotation was found
 
-  pub settles : (t : Tables) (q : Planned) (n : Annotation) → t ≡ tables p → q ≡ planned p gs t → spec.Annotates p q (Ok n) → spec.Settles p (Ok (spec.checked q n))
-  settles t q n e f h =
+  settled_by : (n : Annotation) (h : spec.Annotates p (planned p gs (tables p)) (Ok n)) → settled.IsSettled p gs (tables p) n h.0
+  settled_by n h = record { read = h.1.0; closed = h.1.1.0; least = λ classes lt. (h.1.1.1 (basis p gs (tables p) classes lt)).least }
+
+  types_by : (n : Annotation) → spec.Annotates p (planned p gs (tables p)) (Ok n) → spec.Types p gs n (tables p) (Ok tt) → spec.HasTypes p gs n
+  types_by n h t = record { covers = covers; stand = stand; state = h.0; settled = settled_by n h; typed = t }
+
+  pub types : (t : Tables) (q : Planned) (n : Annotation) → t ≡ tables p → q ≡ planned p gs t → spec.Annotates p q (Ok n) → spec.Types p q.plan.graphs n q.plan.classes (Ok tt) → spec.Checks p (Ok (spec.checked q n))
+  types t q n e f h typed =
       let is : q ≡ planned p gs (tables p) = subst (λ u. q ≡ planned p gs u) e f in
-      subst (λ r. spec.Settles p (Ok (spec.checked r n))) (sym is) (settles_by n (subst (λ r. spec.Annotates p r (Ok n)) is h))
+      subst (λ r. spec.Checks p (Ok (spec.checked r n))) (sym is) (types_by n (subst (λ r. spec.Annotates p r (Ok n)) is h) (subst (λ r. spec.Types p r.plan.graphs n r.plan.classes (Ok tt)) is typed))
 
-  unsettles_by : Covers p gs → (x : CheckFault) → spec.Annotates p (planned p gs (tables p)) (Err x) → spec.Settles p (Err x)
-  unsettles_by covers (fault.Conflict file line words) h = (gs, (covers, λ classes lt. h (basis p gs (tables p) classes lt)))
-  unsettles_by covers (fault.Typing file line kind) h = absurd h
-  unsettles_by covers fault.NoMem h = tt
+  faults_by : (n : Annotation) → spec.Annotates p (planned p gs (tables p)) (Ok n) → (x : CheckFault) → spec.Types p gs n (tables p) (Err x) → spec.IsRefused p x
+  faults_by n h (fault.Typing file line kind) t = record { graphs = gs; covers = covers; stand = stand; annotation = n; state = h.0; settled = settled_by n h; fault = t.0; tells = t.1; told = t.2 }
+  faults_by n h fault.NoMem t = tt
+  faults_by n h (fault.Conflict file line words) (typing.ConstantModified node, tells, told) = absurd told
+  faults_by n h (fault.Conflict file line words) (typing.MaybeUnbound node, tells, told) = absurd told
+  faults_by n h (fault.Conflict file line words) (typing.Family node, tells, told) = absurd told
+  faults_by n h (fault.Conflict file line words) (typing.EntryResult node, tells, told) = absurd told
+  faults_by n h (fault.Conflict file line words) (typing.NoMem, tells, told) = absurd (no_memory told)
+    where
+      no_memory : fault.Conflict file line words ≡ fault.NoMem → ⊥
+      no_memory e = cc
 
-  pub unsettles : (t : Tables) (q : Planned) → t ≡ tables p → q ≡ planned p gs t → Covers p gs → (x : CheckFault) → spec.Annotates p q (Err x) → spec.Settles p (Err x)
-  unsettles t q e f covers x h =
+  pub faults : (t : Tables) (q : Planned) (n : Annotation) → t ≡ tables p → q ≡ planned p gs t → spec.Annotates p q (Ok n) → (x : CheckFault) → spec.Types p q.plan.graphs n q.plan.classes (Err x) → spec.IsRefused p x
+  faults t q n e f h x typed =
       let is : q ≡ planned p gs (tables p) = subst (λ u. q ≡ planned p gs u) e f in
-      unsettles_by covers x (subst (λ r. spec.Annotates p r (Err x)) is h)
+      faults_by n (subst (λ r. spec.Annotates p r (Ok n)) is h) x (subst (λ r. spec.Types p r.plan.graphs n r.plan.classes (Err x)) is typed)
+
+  -- ---- none was
+
+  refused_by : (x : CheckFault) → spec.Annotates p (planned p gs (tables p)) (Err x) → spec.IsRefused p x
+  refused_by (fault.Conflict file line words) h = record { graphs = gs; covers = covers; stand = stand; none = λ classes lt. h (basis p gs (tables p) classes lt) }
+  refused_by (fault.Typing file line kind) h = absurd h
+  refused_by fault.NoMem h = tt
+
+  pub refused : (t : Tables) (q : Planned) → t ≡ tables p → q ≡ planned p gs t → (x : CheckFault) → spec.Annotates p q (Err x) → spec.IsRefused p x
+  refused t q e f x h =
+      let is : q ≡ planned p gs (tables p) = subst (λ u. q ≡ planned p gs u) e f in
+      refused_by x (subst (λ r. spec.Annotates p r (Err x)) is h)

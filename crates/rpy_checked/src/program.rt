@@ -100,13 +100,13 @@ fn unannotated(alloc: Global, program: &Program, fault: AnnFault) -> CheckFault
 // ---- types
 
 fn typed_at(program: &Program, node: NodeId, kind: TypeKind) -> CheckFault
-    ensures { spec.IsUntyped result }
+    ensures { spec.IsAt program.now node kind result }
 {
     CheckFault::Typing(file_of(program, node), program.node_line(node), kind)
 }
 
 fn untyped(program: &Program, fault: TypeFault) -> CheckFault
-    ensures { spec.IsUntyped result }
+    ensures { spec.IsTold program.now fault result }
 {
     match fault {
         TypeFault::ConstantModified(node) => typed_at(program, node, TypeKind::ConstantModified),
@@ -151,7 +151,7 @@ fn typed(
     plan: &Plan,
     annotation: &Annotation,
 ) -> Result<(), CheckFault>
-    ensures { spec.IsTyping result }
+    ensures { spec.Types program.now plan.now.graphs annotation.now plan.now.classes result }
 {
     match typing(alloc, program, &plan.graphs, annotation, &plan.classes) {
         Ok(()) => Ok(()),
@@ -187,7 +187,7 @@ fn checked_of(planned: Planned, annotation: Annotation) -> Checked
 /// its refusal: a conflict, or the least fault of types.
 pub fn check(alloc: Global, program: &Program) -> Result<Checked, CheckFault>
     ensures covers { IfOk result (λ checked. Covers program.now checked.graphs) }
-    ensures least { spec.Settles program.now result }
+    ensures checks { spec.Checks program.now result }
 {
     let graphs = flow(alloc, program)?;
     let classes = Classes::new(alloc, program)?;

@@ -8,7 +8,7 @@ use Rattle.std.proofs.lemmas.Bool.Decides.{nat_tests}
 use Rattle.rpy_base.specs.Reading.{Disk}
 use Rattle.rpy_front.specs.Modules.{are_short}
 use Rattle.ll_code.specs.declared.program.LlProgram.{LlProgram}
-use Rattle.rpy_top.specs.Answer.{Filed, filed, Sunk, AllRead, AreBytes, AreFirst, AreSources, AreChecked, HasProgram, OfSources, WritesTo, WritesFiles, LowersTo, LowersFiles, MakesText, MakesCode, Stops, untranslated, Took, IsQuiet, PutEnds, Builds, StopsAt, StopsAtNext, StopsLoading, limit}
+use Rattle.rpy_top.specs.Answer.{Filed, filed, Sunk, AllRead, AreBytes, AreFirst, AreSources, AreChecked, AreRefused, OfSources, WritesTo, WritesFiles, LowersTo, LowersFiles, MakesText, MakesCode, Stops, untranslated, Took, IsQuiet, PutEnds, Builds, StopsAt, StopsAtNext, StopsLoading, limit}
 use Rattle.rpy_top.proofs.Rules.{and_both}
 use Rattle.rpy_top.specs.declared.building.BuildWork.{BuildWork}
 use Rattle.rpy_top.specs.declared.building.BuildWork.TheVariants.{Ended, AtFile, Refused, Misnamed}
@@ -90,7 +90,7 @@ text_made task names sources files (Err work) are w read = elim w [
   | inr f ↦ subst (λ x. Stops (AreChecked task) x names files) (sym f.1) (text_by_fault task names sources files f.0 are f.2 read)
 ]
 
-code_by_fault : (names sources : List (List ℕ)) (files : Filed) (f : TranslateFault) → AreSources files names sources → LowersTo sources (map module_name names) (Err f) → AllRead files → Stops HasProgram (untranslated f) names files
+code_by_fault : (names sources : List (List ℕ)) (files : Filed) (f : TranslateFault) → AreSources files names sources → LowersTo sources (map module_name names) (Err f) → AllRead files → Stops AreRefused (untranslated f) names files
 code_by_fault names sources files (fault.Source file line kind) are t read = ((sources, are, t), read)
 code_by_fault names sources files (fault.Name file line kind) are t read = ((sources, are, t), read)
 code_by_fault names sources files (fault.Conflict file line words) are t read = ((sources, are, t), read)
@@ -100,12 +100,12 @@ code_by_fault names sources files fault.NoMem are t read = read
 pub code_made : (names sources : List (List ℕ)) (files : Filed) (r : Result LlProgram BuildWork) → AreSources files names sources → LowersFiles sources names r → AllRead files → MakesCode true r names files
 code_made names sources files (Ok typed) are w read = ((sources, are, w), read)
 code_made names sources files (Err work) are w read = elim w [
-  | inl e ↦ subst (λ x. Stops HasProgram x names files) (sym e) read
-  | inr f ↦ subst (λ x. Stops HasProgram x names files) (sym f.1) (code_by_fault names sources files f.0 are f.2 read)
+  | inl e ↦ subst (λ x. Stops AreRefused x names files) (sym e) read
+  | inr f ↦ subst (λ x. Stops AreRefused x names files) (sym f.1) (code_by_fault names sources files f.0 are f.2 read)
 ]
 
 -- a file that is not read stops the work
-pub load_stops : (Checked : List (List ℕ) → List (List ℕ) → Type 0) (work : BuildWork) (names : List (List ℕ)) (files : Filed) → StopsLoading work names files → Stops Checked work names files
+pub load_stops : (Checked : TranslateFault → List (List ℕ) → List (List ℕ) → Type 0) (work : BuildWork) (names : List (List ℕ)) (files : Filed) → StopsLoading work names files → Stops Checked work names files
 load_stops Checked (Ended s) names files w = w
 load_stops Checked (AtFile file s) names files w = w
 load_stops Checked work names files w = absurd w

@@ -21,7 +21,10 @@ use Rattle.rpy_first.specs.Gives.{Gives}
 use Rattle.rpy_names.specs.Resolve.{prog}
 use Rattle.rpy_tree.specs.declared.program.Program.{Program}
 use Rattle.ll_code.specs.declared.program.LlProgram.{LlProgram}
-use Rattle.rpy_top.specs.Answer.{IsCheck, IsChecked, LowersProgram, LowersModules, LowersTo, WritesProgram, Sunk, Says, SaysLine, text_of, only_body, WritesModules, WritesTo}
+use Rattle.rpy_checked.specs.Settles.{IsRefused}
+use Rattle.rpy_checked.specs.declared.fault.CheckFault.{CheckFault}
+use Rattle.rpy_checked.specs.declared.fault.CheckFault.TheVariants as check
+use Rattle.rpy_top.specs.Answer.{IsCheck, IsChecked, check_fault, LowersProgram, LowersModules, LowersTo, WritesProgram, Sunk, Says, SaysLine, text_of, only_body, WritesModules, WritesTo}
 use Rattle.rpy_top.specs.declared.job.Task.{Task}
 use Rattle.rpy_top.specs.declared.job.Task.TheVariants.{Build, Check, Annotate, Flow}
 use Rattle.rpy_top.specs.declared.status.Status.{Status}
@@ -79,13 +82,13 @@ built_only name (m ∷ n ∷ ms) body text named is_path is = absurd (none_some 
 -- what becomes of sources is what becomes of their modules
 pub written : (task : Task) (sources names : List (List ℕ)) (ms : List Named) (r : Result (List ℕ) TranslateFault) → AreModules sources names ms → WritesModules task ms r → WritesTo task sources names r
 written Build sources names ms (Ok text) are t = record { modules = ms; make = record { are = are; program = t.0; is = t.1 }; is = t.2 }
-written Check sources names ms (Ok text) are t = record { modules = ms; make = record { are = are; program = t.0; is = t.1 }; is = t.2 }
+written Check sources names ms (Ok text) are t = record { modules = ms; make = record { are = are; program = t.0; is = t.1 }; approves = t.2 }
 written Annotate sources names ms (Ok text) are t = record { modules = ms; make = record { are = are; program = t.0; is = t.1 }; annotates = t.2 }
 written Flow sources names ms (Ok text) are t = record { modules = ms; make = record { are = are; program = t.0; is = t.1 }; draws = t.2 }
 written task sources names ms (Err (Source file line kind)) are t = absurd t
 written task sources names ms (Err (Name file line kind)) are t = record { modules = ms; are = are; misnamed = t }
-written task sources names ms (Err (Conflict file line words)) are t = record { modules = ms; make = record { are = are; program = t.0; is = t.1 }; checked = t.2 }
-written task sources names ms (Err (Typing file line kind)) are t = record { modules = ms; make = record { are = are; program = t.0; is = t.1 }; checked = t.2 }
+written task sources names ms (Err (Conflict file line words)) are t = record { modules = ms; make = record { are = are; program = t.0; is = t.1 }; refused = t.2; checked = t.3 }
+written task sources names ms (Err (Typing file line kind)) are t = record { modules = ms; make = record { are = are; program = t.0; is = t.1 }; refused = t.2; checked = t.3 }
 written task sources names ms (Err NoMem) are t = tt
 
 pub module_named : (name : List ℕ) → is_module_name name ≡ true → is_name name ≡ true
@@ -123,11 +126,11 @@ said_line status answered (Ok t) wanted err e s = subst (λ x. Says status answe
 said_line status answered (Err n) wanted err e s = inr (inr s)
 
 -- a refusal by the checks
-of_check : (task : Task) (ms : List Named) (p : Program) (fault : TranslateFault) → prog ms ≡ Some p → IsChecked task ms → IsCheck fault → WritesModules task ms (Err fault)
+of_check : (task : Task) (ms : List Named) (p : Program) (fault : TranslateFault) → prog ms ≡ Some p → IsChecked task ms → IsCheck p fault → WritesModules task ms (Err fault)
 of_check task ms p (Source file line kind) is checked t = absurd t
 of_check task ms p (Name file line kind) is checked t = absurd t
-of_check task ms p (Conflict file line words) is checked t = (p, is, checked)
-of_check task ms p (Typing file line kind) is checked t = (p, is, checked)
+of_check task ms p (Conflict file line words) is checked t = (p, is, t, checked)
+of_check task ms p (Typing file line kind) is checked t = (p, is, t, checked)
 of_check task ms p NoMem is checked t = tt
 
 -- what becomes of modules that make a program is what becomes of the program
@@ -141,8 +144,8 @@ of_program Build name ms p (Ok body) (Err (Typing file line kind)) named is give
 of_program Build name ms p (Err front.NotFirst) (Ok text) named is gives t = (p, is, inr (gives, t))
 of_program Build name ms p (Err front.NotFirst) (Err (Source file line kind)) named is gives t = absurd t
 of_program Build name ms p (Err front.NotFirst) (Err (Name file line kind)) named is gives t = absurd t
-of_program Build name ms p (Err front.NotFirst) (Err (Conflict file line words)) named is gives t = (p, is, gives)
-of_program Build name ms p (Err front.NotFirst) (Err (Typing file line kind)) named is gives t = (p, is, gives)
+of_program Build name ms p (Err front.NotFirst) (Err (Conflict file line words)) named is gives t = (p, is, t, gives)
+of_program Build name ms p (Err front.NotFirst) (Err (Typing file line kind)) named is gives t = (p, is, t, gives)
 of_program Build name ms p (Err front.NotFirst) (Err NoMem) named is gives t = tt
 of_program Build name ms p (Err front.NoMem) (Ok text) named is gives t = absurd t
 of_program Build name ms p (Err front.NoMem) (Err (Source file line kind)) named is gives t = absurd t
@@ -160,12 +163,12 @@ of_program Flow name ms p found (Ok text) named is gives t = (p, is, t)
 of_program Flow name ms p found (Err fault) named is gives t = of_check Flow ms p fault is tt t
 
 -- the low-level program of modules that make a program
-pub of_lowered : (ms : List Named) (p : Program) (r : Result LlProgram TranslateFault) → prog ms ≡ Some p → LowersProgram r → LowersModules ms r
+pub of_lowered : (ms : List Named) (p : Program) (r : Result LlProgram TranslateFault) → prog ms ≡ Some p → LowersProgram p r → LowersModules ms r
 of_lowered ms p (Ok typed) is t = (p, is)
 of_lowered ms p (Err (Source file line kind)) is t = absurd t
 of_lowered ms p (Err (Name file line kind)) is t = absurd t
-of_lowered ms p (Err (Conflict file line words)) is t = (p, is)
-of_lowered ms p (Err (Typing file line kind)) is t = (p, is)
+of_lowered ms p (Err (Conflict file line words)) is t = (p, is, t)
+of_lowered ms p (Err (Typing file line kind)) is t = (p, is, t)
 of_lowered ms p (Err NoMem) is t = tt
 
 -- and of sources
@@ -173,6 +176,12 @@ pub lowered_of : (sources names : List (List ℕ)) (ms : List Named) (r : Result
 lowered_of sources names ms (Ok typed) are t = record { modules = ms; make = record { are = are; program = t.0; is = t.1 } }
 lowered_of sources names ms (Err (Source file line kind)) are t = absurd t
 lowered_of sources names ms (Err (Name file line kind)) are t = record { modules = ms; are = are; misnamed = t }
-lowered_of sources names ms (Err (Conflict file line words)) are t = record { modules = ms; make = record { are = are; program = t.0; is = t.1 } }
-lowered_of sources names ms (Err (Typing file line kind)) are t = record { modules = ms; make = record { are = are; program = t.0; is = t.1 } }
+lowered_of sources names ms (Err (Conflict file line words)) are t = record { modules = ms; make = record { are = are; program = t.0; is = t.1 }; refused = t.2 }
+lowered_of sources names ms (Err (Typing file line kind)) are t = record { modules = ms; make = record { are = are; program = t.0; is = t.1 }; refused = t.2 }
 lowered_of sources names ms (Err NoMem) are t = tt
+
+-- what the checks refuse
+pub refused : (p : Program) (fault : CheckFault) (told : TranslateFault) → IsRefused p fault → told ≡ check_fault fault → IsCheck p told
+refused p (check.Conflict file line words) told h e = subst (IsCheck p) (sym e) h
+refused p (check.Typing file line kind) told h e = subst (IsCheck p) (sym e) h
+refused p check.NoMem told h e = subst (IsCheck p) (sym e) tt

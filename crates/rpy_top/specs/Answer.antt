@@ -13,6 +13,7 @@ use Rattle.csub_tree.specs.declared.tree.CFile.{CFile}
 use Rattle.ll_code.specs.declared.program.LlProgram.{LlProgram}
 use Rattle.rpy_first.specs.declared.fault.TranslateFault.{TranslateFault as FrontFault}
 use Rattle.rpy_first.specs.declared.fault.TranslateFault.TheVariants as front
+use Rattle.rpy_checked.specs.Settles.{HasTypes, HasNoAnnotation, HasFault}
 use Rattle.rpy_checked.specs.declared.fault.CheckFault.{CheckFault}
 use Rattle.rpy_checked.specs.declared.fault.CheckFault.TheVariants as check
 use Rattle.rpy_checked.specs.declared.fault.TypeKind.{TypeKind}
@@ -35,7 +36,6 @@ use Rattle.rpy_top.specs.declared.job.Task.{Task}
 use Rattle.rpy_top.specs.declared.job.Task.TheVariants.{Build, Check, Annotate, Flow}
 use Rattle.rpy_resolved.specs.Label.{class_labels, function_labels}
 use Rattle.flow_graph.specs.GraphText.{graphs_text}
-use Rattle.flow_graph.specs.Whole.{Covers}
 use Rattle.flow_graph.specs.declared.graph.Graphs.{Graphs}
 use Rattle.rpy_first.specs.declared.body.Body.{Body}
 use Rattle.rpy_top.specs.declared.status.Status.{Status}
@@ -163,20 +163,28 @@ pub record Emits (text : List ℕ) : Type 0 where
   pub is_file : IsOfSome file
   pub spells : text ≡ file_text file
 
--- the text is a translation of modules: where they are one of the first path, it does what its body means
-abbrev pub TranslatesModules : List Named → List ℕ → Type 0
-TranslatesModules modules text = OfBody modules text ⊎ ((only_body modules ≡ None) × Emits text)
+-- and the program has types
+pub record Compiles (program : Program) (text : List ℕ) : Type 0 where
+  pub graphs : Graphs
+  pub annotation : Annotation
+  pub types : HasTypes program graphs annotation
+  pub emits : Emits text
+
+-- the text is a translation of modules that make this program: where they are one of the first path, it does what its body means
+abbrev pub TranslatesModules : Program → List Named → List ℕ → Type 0
+TranslatesModules program modules text = OfBody modules text ⊎ ((only_body modules ≡ None) × Compiles program text)
 
 -- and the modules are the program that the sources are
 pub record Translates (sources names : List (List ℕ)) (text : List ℕ) : Type 0 where
   pub modules : List Named
   pub make : AreProgram sources names modules
-  pub is : TranslatesModules modules text
+  pub is : TranslatesModules make.program modules text
 
--- the text is that of graphs of the program's functions, one for each in their order
+-- the text is that of graphs by which the program has types, one for each of its functions in their order
 pub record DrawsProgram (program : Program) (text : List ℕ) : Type 0 where
   pub graphs : Graphs
-  pub covers : Covers program graphs
+  pub annotation : Annotation
+  pub types : HasTypes program graphs annotation
   pub is : text ≡ graphs_text (function_labels program) (class_labels program) graphs
 
 -- and the program is what the sources are
@@ -189,16 +197,23 @@ pub record Draws (sources names : List (List ℕ)) (text : List ℕ) : Type 0 wh
 abbrev pub approval : List ℕ
 approval = codes "ok\n"
 
+pub record ApprovesProgram (program : Program) (text : List ℕ) : Type 0 where
+  pub graphs : Graphs
+  pub annotation : Annotation
+  pub types : HasTypes program graphs annotation
+  pub is : text ≡ approval
+
+-- and the program is what the sources are
 pub record Approves (sources names : List (List ℕ)) (text : List ℕ) : Type 0 where
   pub modules : List Named
   pub make : AreProgram sources names modules
-  pub is : text ≡ approval
+  pub approves : ApprovesProgram make.program text
 
--- the text is that of an annotation of the program, by graphs of its functions
+-- the text is that of the annotation by which the program has types
 pub record AnnotatesProgram (program : Program) (text : List ℕ) : Type 0 where
   pub graphs : Graphs
-  pub covers : Covers program graphs
   pub annotation : Annotation
+  pub types : HasTypes program graphs annotation
   pub is : text ≡ annotation_text program graphs annotation
 
 -- and the program is what the sources are
@@ -219,10 +234,24 @@ abbrev pub IsChecked : Task → List Named → Type 0
 IsChecked Build ms = only_body ms ≡ None
 IsChecked task ms = Unit {0}
 
--- the sources are a program that is checked first
-pub record AreChecked (task : Task) (sources names : List (List ℕ)) : Type 0 where
+-- the program is refused by its checks, or there was no memory
+abbrev pub IsCheck : Program → TranslateFault → Type 0
+IsCheck program (InConflict file line words) = HasNoAnnotation program
+IsCheck program (NoTypes file line kind) = HasFault program (check.Typing file line kind)
+IsCheck program NoMemory = Unit {0}
+IsCheck program fault = ⊥
+
+-- the sources are a program that is refused so
+pub record AreRefused (fault : TranslateFault) (sources names : List (List ℕ)) : Type 0 where
   pub modules : List Named
   pub make : AreProgram sources names modules
+  pub refused : IsCheck make.program fault
+
+-- and that is checked first
+pub record AreChecked (task : Task) (fault : TranslateFault) (sources names : List (List ℕ)) : Type 0 where
+  pub modules : List Named
+  pub make : AreProgram sources names modules
+  pub refused : IsCheck make.program fault
   pub checked : IsChecked task modules
 
 -- the sources are modules, which make no program
@@ -247,48 +276,41 @@ check_fault check.NoMem = NoMemory
 abbrev pub OnlyBody : List Named → Result Body FrontFault → Type 0
 OnlyBody ms found = Gives (only_body ms) found
 
--- the program was refused by its checks, or there was no memory
-abbrev pub IsCheck : TranslateFault → Type 0
-IsCheck (InConflict file line words) = Unit {0}
-IsCheck (NoTypes file line kind) = Unit {0}
-IsCheck NoMemory = Unit {0}
-IsCheck fault = ⊥
-
 -- what a call answers that writes the C text of a program by its low-level program
-abbrev pub CompilesProgram : Result (List ℕ) TranslateFault → Type 0
-CompilesProgram (Ok text) = Emits text
-CompilesProgram (Err fault) = IsCheck fault
+abbrev pub CompilesProgram : Program → Result (List ℕ) TranslateFault → Type 0
+CompilesProgram p (Ok text) = Compiles p text
+CompilesProgram p (Err fault) = IsCheck p fault
 
 -- and one that gives its low-level program
-abbrev pub LowersProgram : Result LlProgram TranslateFault → Type 0
-LowersProgram (Ok typed) = Unit {0}
-LowersProgram (Err fault) = IsCheck fault
+abbrev pub LowersProgram : Program → Result LlProgram TranslateFault → Type 0
+LowersProgram p (Ok typed) = Unit {0}
+LowersProgram p (Err fault) = IsCheck p fault
 
 -- what a call answers that writes the C text of a program, whose only body was asked for
-abbrev pub BuildsProgram : List ℕ → Result Body FrontFault → Result (List ℕ) TranslateFault → Type 0
-BuildsProgram name (Ok body) (Ok text) = text ≡ text_of name body
-BuildsProgram name (Ok body) (Err NoMemory) = Unit {0}
-BuildsProgram name (Ok body) (Err fault) = ⊥
-BuildsProgram name (Err front.NotFirst) result = CompilesProgram result
-BuildsProgram name (Err fault) (Ok text) = ⊥
-BuildsProgram name (Err fault) (Err NoMemory) = Unit {0}
-BuildsProgram name (Err fault) (Err other) = ⊥
+abbrev pub BuildsProgram : List ℕ → Program → Result Body FrontFault → Result (List ℕ) TranslateFault → Type 0
+BuildsProgram name p (Ok body) (Ok text) = text ≡ text_of name body
+BuildsProgram name p (Ok body) (Err NoMemory) = Unit {0}
+BuildsProgram name p (Ok body) (Err fault) = ⊥
+BuildsProgram name p (Err front.NotFirst) result = CompilesProgram p result
+BuildsProgram name p (Err fault) (Ok text) = ⊥
+BuildsProgram name p (Err fault) (Err NoMemory) = Unit {0}
+BuildsProgram name p (Err fault) (Err other) = ⊥
 
 -- and one that writes something else of a program
-abbrev pub ShowsProgram : (List ℕ → Type 0) → Result (List ℕ) TranslateFault → Type 0
-ShowsProgram Shows (Ok text) = Shows text
-ShowsProgram Shows (Err fault) = IsCheck fault
+abbrev pub ShowsProgram : Program → (List ℕ → Type 0) → Result (List ℕ) TranslateFault → Type 0
+ShowsProgram p Shows (Ok text) = Shows text
+ShowsProgram p Shows (Err fault) = IsCheck p fault
 
 abbrev pub WritesProgram : Task → List ℕ → Program → Result Body FrontFault → Result (List ℕ) TranslateFault → Type 0
-WritesProgram Build name p found result = BuildsProgram name found result
-WritesProgram Check name p found result = ShowsProgram (λ text. text ≡ approval) result
-WritesProgram Annotate name p found result = ShowsProgram (AnnotatesProgram p) result
-WritesProgram Flow name p found result = ShowsProgram (DrawsProgram p) result
+WritesProgram Build name p found result = BuildsProgram name p found result
+WritesProgram Check name p found result = ShowsProgram p (ApprovesProgram p) result
+WritesProgram Annotate name p found result = ShowsProgram p (AnnotatesProgram p) result
+WritesProgram Flow name p found result = ShowsProgram p (DrawsProgram p) result
 
 -- what is written of the program that modules are
 abbrev pub WritesOf : Task → List Named → Program → List ℕ → Type 0
-WritesOf Build ms p text = TranslatesModules ms text
-WritesOf Check ms p text = text ≡ approval
+WritesOf Build ms p text = TranslatesModules p ms text
+WritesOf Check ms p text = ApprovesProgram p text
 WritesOf Annotate ms p text = AnnotatesProgram p text
 WritesOf Flow ms p text = DrawsProgram p text
 
@@ -297,8 +319,8 @@ abbrev pub WritesModules : Task → List Named → Result (List ℕ) TranslateFa
 WritesModules task ms (Ok text) = (p : Program) × (prog ms ≡ Some p) × WritesOf task ms p text
 WritesModules task ms (Err (Refused file line kind)) = ⊥
 WritesModules task ms (Err (NoProgram file line kind)) = IsMisnamed ms file line kind
-WritesModules task ms (Err (InConflict file line words)) = (p : Program) × (prog ms ≡ Some p) × IsChecked task ms
-WritesModules task ms (Err (NoTypes file line kind)) = (p : Program) × (prog ms ≡ Some p) × IsChecked task ms
+WritesModules task ms (Err (InConflict file line words)) = (p : Program) × (prog ms ≡ Some p) × IsCheck p (InConflict file line words) × IsChecked task ms
+WritesModules task ms (Err (NoTypes file line kind)) = (p : Program) × (prog ms ≡ Some p) × IsCheck p (NoTypes file line kind) × IsChecked task ms
 WritesModules task ms (Err NoMemory) = Unit {0}
 
 -- what a call answers that writes this of the program that sources are
@@ -306,8 +328,8 @@ abbrev pub WritesTo : Task → List (List ℕ) → List (List ℕ) → Result (L
 WritesTo task sources names (Ok text) = Writes task sources names text
 WritesTo task sources names (Err (Refused file line kind)) = IsRefusedAt sources names file line kind
 WritesTo task sources names (Err (NoProgram file line kind)) = AreNoProgram sources names file line kind
-WritesTo task sources names (Err (InConflict file line words)) = AreChecked task sources names
-WritesTo task sources names (Err (NoTypes file line kind)) = AreChecked task sources names
+WritesTo task sources names (Err (InConflict file line words)) = AreChecked task (InConflict file line words) sources names
+WritesTo task sources names (Err (NoTypes file line kind)) = AreChecked task (NoTypes file line kind) sources names
 WritesTo task sources names (Err NoMemory) = Unit {0}
 
 -- what a call answers that gives the low-level program of modules
@@ -316,7 +338,7 @@ LowersModules ms (Ok typed) = (p : Program) × (prog ms ≡ Some p)
 LowersModules ms (Err (Refused file line kind)) = ⊥
 LowersModules ms (Err (NoProgram file line kind)) = IsMisnamed ms file line kind
 LowersModules ms (Err NoMemory) = Unit {0}
-LowersModules ms (Err fault) = (p : Program) × (prog ms ≡ Some p)
+LowersModules ms (Err fault) = (p : Program) × (prog ms ≡ Some p) × IsCheck p fault
 
 -- and of sources
 abbrev pub LowersTo : List (List ℕ) → List (List ℕ) → Result LlProgram TranslateFault → Type 0
@@ -324,7 +346,7 @@ LowersTo sources names (Ok typed) = HasProgram sources names
 LowersTo sources names (Err (Refused file line kind)) = IsRefusedAt sources names file line kind
 LowersTo sources names (Err (NoProgram file line kind)) = AreNoProgram sources names file line kind
 LowersTo sources names (Err NoMemory) = Unit {0}
-LowersTo sources names (Err fault) = HasProgram sources names
+LowersTo sources names (Err fault) = AreRefused fault sources names
 
 -- ---- the work
 
@@ -340,13 +362,13 @@ StopsLoading (AtFile file TooLong) names files = StopsAt (IsTooLong limit files)
 StopsLoading (Ended NoMem) names files = AllRead files
 StopsLoading work names files = ⊥
 
--- the work on files that stops before something is made: what is known of sources that are checked
-abbrev pub Stops : (List (List ℕ) → List (List ℕ) → Type 0) → BuildWork → List (List ℕ) → Filed → Type 0
+-- the work on files that stops before something is made: what is known of sources that are refused by their checks
+abbrev pub Stops : (TranslateFault → List (List ℕ) → List (List ℕ) → Type 0) → BuildWork → List (List ℕ) → Filed → Type 0
 Stops Checked (Ended status) names files = StopsLoading (Ended status) names files
 Stops Checked (AtFile file status) names files = StopsLoading (AtFile file status) names files
 Stops Checked (RefusedAt file line kind) names files = OfSources (λ sources modules. IsRefusedAt sources modules file line kind) names files × AllRead files
-Stops Checked (Conflicts file line words) names files = OfSources Checked names files × AllRead files
-Stops Checked (Untypable file line kind) names files = OfSources Checked names files × AllRead files
+Stops Checked (Conflicts file line words) names files = OfSources (Checked (InConflict file line words)) names files × AllRead files
+Stops Checked (Untypable file line kind) names files = OfSources (Checked (NoTypes file line kind)) names files × AllRead files
 Stops Checked (Misnamed file line kind) names files = OfSources (λ sources modules. AreNoProgram sources modules file line kind) names files × AllRead files
 
 -- the text that is made of files, of which there are at most 64
@@ -358,7 +380,7 @@ MakesText task false result names files = (result ≡ Err (Ended TooMany)) × Al
 -- the low-level program
 abbrev pub MakesCode : Bool → Result LlProgram BuildWork → List (List ℕ) → Filed → Type 0
 MakesCode true (Ok typed) names files = OfSources HasProgram names files × AllRead files
-MakesCode true (Err work) names files = Stops HasProgram work names files
+MakesCode true (Err work) names files = Stops AreRefused work names files
 MakesCode false result names files = (result ≡ Err (Ended TooMany)) × AllRead files
 
 -- when the work on files ends in each way

@@ -2,7 +2,7 @@
 ghost use Rattle.std.specs.Prelude.{◌≡◌, ◌≤◌, ◌<◌, ◌++◌, map, length, true, IfOk, codes};
 ghost use Rattle.rpy_front.specs.Modules.{are_short};
 ghost use Rattle.rpy_top.specs.Command.{are_module_names, is_name, are_sources, module_name};
-ghost use Rattle.rpy_top.specs.Answer.{AnnotatesProgram, BuildsProgram, CompilesProgram, DrawsProgram, LowersModules, LowersProgram, LowersTo, OnlyBody, ShowsProgram, WritesModules, WritesProgram, WritesTo, approval, text_of};
+ghost use Rattle.rpy_top.specs.Answer.{AnnotatesProgram, ApprovesProgram, BuildsProgram, CompilesProgram, DrawsProgram, LowersModules, LowersProgram, LowersTo, OnlyBody, ShowsProgram, WritesModules, WritesProgram, WritesTo, text_of};
 
 use crate::fault::{TranslateFault, check_fault, front_fault};
 use crate::job::Task;
@@ -49,8 +49,9 @@ fn only_body(alloc: Global, modules: &[Named]) -> Result<Body, FrontFault>
 }
 
 // The C text of a program by its low-level program, once it has passed its checks.
+#[tactic(auto, using(crate::proofs::Translation::refused))]
 fn compiled(alloc: Global, program: &Program) -> Result<Text, TranslateFault>
-    ensures { CompilesProgram result }
+    ensures { CompilesProgram program.now result }
 {
     match check(alloc, program) {
         Ok(checked) => {
@@ -68,7 +69,7 @@ fn build(
     program: &Program,
     found: Result<Body, FrontFault>,
 ) -> Result<Text, TranslateFault>
-    ensures { BuildsProgram name.now found result }
+    ensures { BuildsProgram name.now program.now found result }
 {
     match found {
         Ok(body) => Ok(write_program(alloc, name, &body)?),
@@ -78,8 +79,9 @@ fn build(
 }
 
 // The text of a program's graphs.
+#[tactic(auto, using(crate::proofs::Translation::refused))]
 fn draw(alloc: Global, program: &Program) -> Result<Text, TranslateFault>
-    ensures { ShowsProgram (DrawsProgram program.now) result }
+    ensures { ShowsProgram program.now (DrawsProgram program.now) result }
 {
     match check(alloc, program) {
         Ok(checked) => Ok(graphs_text(alloc, program, &checked.graphs)?),
@@ -88,8 +90,9 @@ fn draw(alloc: Global, program: &Program) -> Result<Text, TranslateFault>
 }
 
 // The text of a program's annotation.
+#[tactic(auto, using(crate::proofs::Translation::refused))]
 fn annotate(alloc: Global, program: &Program) -> Result<Text, TranslateFault>
-    ensures { ShowsProgram (AnnotatesProgram program.now) result }
+    ensures { ShowsProgram program.now (AnnotatesProgram program.now) result }
 {
     match check(alloc, program) {
         Ok(checked) => Ok(annotation_text(alloc, program, &checked.graphs, &checked.annotation)?),
@@ -98,8 +101,9 @@ fn annotate(alloc: Global, program: &Program) -> Result<Text, TranslateFault>
 }
 
 // That a program has types.
+#[tactic(auto, using(crate::proofs::Translation::refused))]
 fn approve(alloc: Global, program: &Program) -> Result<Text, TranslateFault>
-    ensures { ShowsProgram (λ text. text ≡ approval) result }
+    ensures { ShowsProgram program.now (ApprovesProgram program.now) result }
 {
     match check(alloc, program) {
         Ok(_checked) => Ok(Text::from_bytes(alloc, b"ok\n")?),
@@ -167,8 +171,9 @@ pub fn write_sources(
 }
 
 // The low-level program of a program, once it has passed its checks.
+#[tactic(auto, using(crate::proofs::Translation::refused))]
 fn lower_program(alloc: Global, program: &Program) -> Result<LlProgram, TranslateFault>
-    ensures { LowersProgram result }
+    ensures { LowersProgram program.now result }
 {
     match check(alloc, program) {
         Ok(checked) => Ok(low_level(alloc, program, &checked)?),

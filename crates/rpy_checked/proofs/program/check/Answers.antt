@@ -1,15 +1,19 @@
 use Rattle.std.proofs.Common.{subst, sym, Ok}
 use Rattle.rpy_checked.specs.Settles as spec
-use Rattle.rpy_checked.proofs.Settling.{settles, unsettles}
+use Rattle.rpy_checked.proofs.Settling.{types, faults, refused}
 use Rattle.rpy_checked.proofs.program.check.Goals as goal
 
-pub returns-in-Err-clause-least : goal.returns-in-Err-clause-least
-returns-in-Err-clause-least c =
-    unsettles c.args.program.now c.in_ok-graphs.graphs c.in_ok-classes.classes c.in_ok-planned.planned c.in_ok-classes.ensures c.in_ok-planned.ensures
-    c.in_ok-graphs.ensures c.in-Err.fault c.in-Err.ensures
+pub returns-in-Err-clause-checks : goal.returns-in-Err-clause-checks
+returns-in-Err-clause-checks c =
+    refused c.args.program.now c.in_ok-graphs.graphs c.in_ok-graphs.ensures.covers c.in_ok-graphs.ensures.stand c.in_ok-classes.classes c.in_ok-planned.planned c.in_ok-classes.ensures c.in_ok-planned.ensures c.in-Err.fault c.in-Err.ensures
 
-pub returns-in-Ok-typed-clause-least : goal.returns-in-Ok-typed-clause-least
-returns-in-Ok-typed-clause-least c =
-    subst (λ r. spec.Settles c.args.program.now (Ok r)) (sym c.checked_of.ensures)
-    (settles c.args.program.now c.in_ok-graphs.graphs c.in_ok-classes.classes c.in_ok-planned.planned c.in-Ok.annotation c.in_ok-classes.ensures c.in_ok-planned.ensures
-    c.in-Ok.ensures)
+pub returns-in-Err-typed-clause-checks : goal.returns-in-Err-typed-clause-checks
+returns-in-Err-typed-clause-checks c =
+    faults c.args.program.now c.in_ok-graphs.graphs c.in_ok-graphs.ensures.covers c.in_ok-graphs.ensures.stand c.in_ok-classes.classes c.in_ok-planned.planned c.in-Ok.annotation c.in_ok-classes.ensures c.in_ok-planned.ensures c.in-Ok.ensures
+    c.in-Err-typed.fault c.in-Err-typed.ensures
+
+pub returns-in-Ok-typed-clause-checks : goal.returns-in-Ok-typed-clause-checks
+returns-in-Ok-typed-clause-checks c =
+    subst (λ r. spec.HasTypes c.args.program.now r.graphs r.annotation) (sym c.checked_of.ensures)
+    (types c.args.program.now c.in_ok-graphs.graphs c.in_ok-graphs.ensures.covers c.in_ok-graphs.ensures.stand c.in_ok-classes.classes c.in_ok-planned.planned c.in-Ok.annotation c.in_ok-classes.ensures c.in_ok-planned.ensures c.in-Ok.ensures
+    c.in-Ok-typed.ensures)
