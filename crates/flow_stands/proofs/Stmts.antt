@@ -446,10 +446,10 @@ module _ (p : Program) (gs : Graphs) (named_if : Bool) (builtins : (k : ℕ) →
   try_sim sc body cs other sim sim_c sim_o m b held R c t keeps s fit has =
       let inner : Scope = record { hands = has.1; default = has.2; covers = covers_within p.classes cs sc.covers; tried = true } in
       let below = clauses_below sc cs m t has.1 has.2 c.hands c.default has.4 in
-      let R2 = λ (r : ℕ) (u : State). hand_place p gs named_if has.1 has.2 (env u held) r (class_in u.world r) in
-      let c2 : Keep m inner held R2 = record { all = c.all; default = below.1; hands = below.0; taken = λ r u long. refl } in
-      let r = sim inner refl m b held R2 c2 (onto t has.0) (keeps_onto has.0 keeps) s fit has.5 in
-      tried_by (at_place (place b (env s held)) s.world) held s t (onto t has.0) R R2 (block p unwatched prev inner.covers body s) (block p unwatched prev sc.covers other) (handle p unwatched prev sc.covers cs) r.sim
+      let Raised-here = λ (r : ℕ) (u : State). hand_place p gs named_if has.1 has.2 (env u held) r (class_in u.world r) in
+      let c2 : Keep m inner held Raised-here = record { all = c.all; default = below.1; hands = below.0; taken = λ r u long. refl } in
+      let r = sim inner refl m b held Raised-here c2 (onto t has.0) (keeps_onto has.0 keeps) s fit has.5 in
+      tried_by (at_place (place b (env s held)) s.world) held s t (onto t has.0) R Raised-here (block p unwatched prev inner.covers body s) (block p unwatched prev sc.covers other) (handle p unwatched prev sc.covers cs) r.sim
       (λ u after. sim_o m has.0 held R c t keeps u (fit_on fit after) has.3)
       (λ x u after thrown. sim_c m held R c t keeps has.1 has.2 has.4 x u (fit_on fit after) thrown)
       refl
@@ -457,10 +457,10 @@ module _ (p : Program) (gs : Graphs) (named_if : Bool) (builtins : (k : ℕ) →
   at_last_sim : (sc : Scope) (body last : Block) → ((inner : Scope) → inner.covers ≡ sc.covers → BlockSim inner body) → BlockSim sc last → StmtSim sc (Finally body last)
   at_last_sim sc body last sim sim_l m b held R c t keeps s fit has =
       let inner : Scope = record { hands = []; default = record { to = has.4; keep = m }; covers = sc.covers; tried = true } in
-      let R2 = λ (r : ℕ) (u : State). place has.4 (take m (env u held) ++ Some (Ref r) ∷ []) in
-      let c2 : Keep m inner held R2 = record { all = c.all; default = omega arith; hands = tt; taken = λ r u long. refl } in
+      let Raised-here = λ (r : ℕ) (u : State). place has.4 (take m (env u held) ++ Some (Ref r) ∷ []) in
+      let c2 : Keep m inner held Raised-here = record { all = c.all; default = omega arith; hands = tt; taken = λ r u long. refl } in
       let ways : Ways = record { norm = has.0; brk = record { to = has.1; keep = m }; cont = record { to = has.2; keep = m }; ret = record { to = has.3; keep = m } } in
-      let r = sim inner refl m b held R2 c2 ways (record { brk = omega arith; cont = omega arith; ret = omega arith }) s fit has.18 in
+      let r = sim inner refl m b held Raised-here c2 ways (record { brk = omega arith; cont = omega arith; ret = omega arith }) s fit has.18 in
       finally_sim sc last sim_l m held R c t keeps has.0 has.1 has.2 has.3 has.4 has.5 has.6 has.7 has.8 has.9 has.10 has.11 has.12 has.13 has.14 has.15 has.16 has.17 (at_place (place b (env s held)) s.world) s fit (block p unwatched prev inner.covers body s) r.sim
 
   mark_by : (x : Bool) (sc : Scope) (m : ℕ) (held : List Value) (R : ℕ → State → Place) → Keep m sc held R → (s : State) → Fit (suc top) n s → (b q : ℕ) → MarkIf p gs named_if f n x sc b m q → goes (place b (env s held)) (place q (env s held)) s.world

@@ -284,14 +284,14 @@ module _ (p : Program) (gs : Graphs) (named_if : Bool) (builtins : (k : ℕ) →
           seq p gs named_if f instead frs (sim all has.0 has.1 ((held ++ list ∷ []) ++ vs) R c2 u fit_u has.3)
           (λ x u3 after3 y3.
           let fit_3 = fit_on fit_u after3 in
-          let W2 = (held ++ list ∷ []) ++ vs in
-          let V = W2 ++ x ∷ [] in
+          let With-list = (held ++ list ∷ []) ++ vs in
+          let V = With-list ++ x ∷ [] in
           let V_is : V ≡ held ++ (list ∷ (vs ++ x ∷ [])) = append_assoc (held ++ list ∷ []) vs (x ∷ []) ∙ append_assoc held (list ∷ []) (vs ++ x ∷ []) in
           seq p gs named_if f instead frs
-          (acts p gs named_if builtins stand prev top good f n instead frs all sc W2 R c2 u3 fit_3 V (x ∷ []) refl has.1 (all + 1) row.AddItem (m ∷ all ∷ []) (first advance all) (list ∷ x ∷ []) has.4 (omega arith)
-          (ap (λ z. z ∷ get_or (env u3 V) all None ∷ []) (land_at n u3 fit_3.long V held (vs ++ x ∷ []) list m V_is c.all) ∙ ap (λ z. Some list ∷ z ∷ []) (land_at n u3 fit_3.long V W2 [] x all refl c2.all))
-          (x ∷ []) (stay_at advance W2) Any (λ wt. omega arith) (λ wt. omega arith)
-          (λ r w j. (ap (place advance) (land_first n u3 fit_3.long V W2 (x ∷ []) all (Some r ∷ []) refl c2.all), tt)))
+          (acts p gs named_if builtins stand prev top good f n instead frs all sc With-list R c2 u3 fit_3 V (x ∷ []) refl has.1 (all + 1) row.AddItem (m ∷ all ∷ []) (first advance all) (list ∷ x ∷ []) has.4 (omega arith)
+          (ap (λ z. z ∷ get_or (env u3 V) all None ∷ []) (land_at n u3 fit_3.long V held (vs ++ x ∷ []) list m V_is c.all) ∙ ap (λ z. Some list ∷ z ∷ []) (land_at n u3 fit_3.long V With-list [] x all refl c2.all))
+          (x ∷ []) (stay_at advance With-list) Any (λ wt. omega arith) (λ wt. omega arith)
+          (λ r w j. (ap (place advance) (land_first n u3 fit_3.long V With-list (x ∷ []) all (Some r ∷ []) refl c2.all), tt)))
           (λ r u4 after4 y4. here p gs named_if f instead frs (onward u4) refl))
 
   -- the turns of a comprehension
