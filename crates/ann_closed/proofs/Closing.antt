@@ -1,13 +1,11 @@
--- Where all needs hold, by the tests, the assignment is closed.
+-- A need that holds by the test holds.
 use Rattle.std.proofs.Common.{◌≡◌, ◌<◌, ℕ, zero, suc, ◌&&◌, Bool, true, false, List, [], ◌∷◌, length, get_or, slice_get, Option, Some, None, refl, sym, ap, ◌∙◌, subst, arith}
 use Rattle.rpy_tree.specs.declared.program.ClassInfo.{ClassInfo}
 use Rattle.ann_lattice.specs.Shape.{Shape, Nothing}
 use Rattle.ann_lattice.specs.Order.{is_below}
-use Rattle.ann_lattice.specs.Assign.{Assignment, at, Need, Up, Set, Under, Holds, Closed}
+use Rattle.ann_lattice.specs.Assign.{Assignment, at, Need, Up, Set, Under, Holds}
 use Rattle.ann_lattice.proofs.Tested.{is_tested}
-use Rattle.ann_rules.specs.Program.{Whole}
-use Rattle.ann_rules.specs.Rules.{needs, no_need, rules}
-use Rattle.ann_closed.specs.Met.{all_below, is_above, is_set, holds, all_hold}
+use Rattle.ann_closed.specs.Met.{all_below, is_above, is_set, holds}
 
 abbrev is_no : Bool → Type 0
 is_no false = Unit {0}
@@ -39,11 +37,3 @@ module _ (k : List ClassInfo) where
   pub one_holds : (a : Assignment) (n : Need) → holds k a n ≡ true → Holds k a n
   one_holds a (Up c xs) e = above a.same xs a.cells c e
   one_holds a (Set m) e = marked a.marks m e
-
-  each_holds : (a : Assignment) (ns : List Need) → all_hold k a ns ≡ true → (r : ℕ) → Holds k a (get_or ns r no_need)
-  each_holds a [] e r = λ lt. tt
-  each_holds a (n ∷ ns) e zero = one_holds a n (first_of (holds k a n) (all_hold k a ns) e)
-  each_holds a (n ∷ ns) e (suc r) = each_holds a ns (second_of (holds k a n) (all_hold k a ns) e) r
-
-pub closed : (k : List ClassInfo) (p : Whole) (a : Assignment) → all_hold k a (needs p a) ≡ true → Closed k (rules p) a
-closed k p a e r = each_holds k a (needs p a) e r

@@ -1,6 +1,6 @@
-//! Whether an assignment is closed under all that its program's graphs ask.
+//! Whether what is asked of an assignment holds in it.
 #![tactic(auto)]
 
 mod met;
 
-pub use met::{is_closed, is_met};
+pub use met::is_met;

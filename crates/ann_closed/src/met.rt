@@ -1,17 +1,14 @@
-// Whether all that is asked of an assignment holds in it.
-ghost use Rattle.std.specs.Prelude.{◌≡◌, map, slice_get, IfOk, true};
+// Whether what is asked of an assignment holds in it.
+ghost use Rattle.std.specs.Prelude.{◌≡◌, map, slice_get};
 ghost use Rattle.ann_lattice.specs.Shape.{shape};
-ghost use Rattle.ann_lattice.specs.Assign.{Closed, Up};
-ghost use Rattle.ann_rules.specs.Rules.{needs, rules};
-ghost use Rattle.ann_needs.specs.View.{assignment, need_of, whole};
+ghost use Rattle.ann_lattice.specs.Assign.{Up};
+ghost use Rattle.ann_needs.specs.View.{assignment, need_of};
 ghost use Rattle.ann_closed.specs.Met as spec;
 
 use ann_element::{Element, Sites};
 use ann_lattice::below;
-use ann_needs::{Ask, Plan, State, all_asks};
+use ann_needs::{Ask, State};
 use class_desc::Classes;
-use rpy_base::NoMem;
-use std::alloc::Global;
 
 fn all_below(classes: &Classes, same: &Sites, xs: &[Element], z: &Element) -> bool
     ensures { result ≡ spec.all_below classes.now.classes same.now (map shape xs.now) (shape z.now) }
@@ -51,25 +48,4 @@ pub fn is_met(classes: &Classes, s: &State, ask: &Ask) -> bool
         Ask::Up(cell, xs) => is_above(classes, s, *cell, xs.as_slice()),
         Ask::Set(mark) => is_set(s, *mark),
     }
-}
-
-fn all_met(classes: &Classes, s: &State, asks: &[Ask]) -> bool
-    ensures { result ≡ spec.all_hold classes.now.classes (assignment s.now) (map need_of asks.now) }
-{
-    for ask in asks {
-        if !is_met(classes, s, ask) {
-            return false;
-        }
-    }
-    true
-}
-
-/// Whether all that the graphs ask of an assignment holds in it.
-#[tactic(auto, using(crate::proofs::Closing::closed))]
-pub fn is_closed(alloc: Global, p: &Plan, s: &State) -> Result<bool, NoMem>
-    ensures exact { IfOk result (λ closed. closed ≡ spec.all_hold p.now.classes.classes (assignment s.now) (needs (whole p.now) (assignment s.now))) }
-    ensures closed { IfOk result (λ closed. closed ≡ true → Closed p.now.classes.classes (rules (whole p.now)) (assignment s.now)) }
-{
-    let asks = all_asks(alloc, p, s)?;
-    Ok(all_met(&p.classes, s, asks.items.as_slice()))
 }

@@ -1,5 +1,4 @@
 -- Lemmas for the laws, and for code that grows an assignment.
 pub mod Meeting
 pub mod Asked
-pub mod Reached
 pub mod Naming

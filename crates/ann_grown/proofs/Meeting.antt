@@ -1,50 +1,21 @@
--- One need after the other is met.
-use Rattle.std.proofs.Common.{◌≡◌, ◌<◌, ℕ, Bool, true, false, List, [], ◌∷◌, length, get_or, set, refl, sym, ap, ◌∙◌, subst, ◌⊎◌, inl, inr, ◌≢◌, arith}
-use Rattle.std.specs.Prelude.{nat_lt, if◌then◌else◌}
-use Rattle.std.proofs.lemmas.List.{length-set, get_or-set_same, get_or-set_other}
-use Rattle.std.proofs.lemmas.Bool.{ltb-true}
+-- One need that is asked is met: a step.
+use Rattle.std.proofs.Common.{◌≡◌, ℕ, zero, suc, Bool, true, false, List, [], ◌∷◌, length, get_or, set, Some, None, refl, sym, ap, ◌∙◌, subst, ◌⊎◌, inl, inr, ◌≢◌, arith}
+use Rattle.std.specs.Prelude.{nat_lt, if◌then◌else◌, ◌&&◌, is_some, unwrap_or}
+use Rattle.std.proofs.lemmas.List.{length-set, get_or-set_other}
 use Rattle.rpy_tree.specs.declared.program.ClassInfo.{ClassInfo}
 use Rattle.ann_lattice.specs.Shape.{Shape, Nothing}
-use Rattle.ann_lattice.specs.Join.{join, is_clash, classes_after}
-use Rattle.ann_lattice.specs.Kind.{is_nothing}
-use Rattle.ann_lattice.specs.Laws.{IsTree}
-use Rattle.ann_lattice.specs.Assign.{Assignment, at, mark, Less, Need, Up, Set, Holds, raised, raise, meet, Rules, begin, step, Free, Fits, IsTable, Monotone}
-use Rattle.ann_lattice.proofs.Grows.{grown_is_least}
+use Rattle.ann_lattice.specs.Join.{join, is_clash}
+use Rattle.ann_lattice.specs.Assign.{Assignment, at, Need, Up, Set, raised, raise, meet, Grown, begin, step, Free, IsTable}
 use Rattle.ann_lattice.proofs.Tables.{meet_table}
-use Rattle.ann_lattice.proofs.Joined.{is_join}
 use Rattle.ann_laws.proofs.Calls.{above_clash}
-use Rattle.ann_laws.proofs.Equal.{reached_above}
 use Rattle.ann_laws.proofs.Pairs.{no}
 use Rattle.ann_rules.specs.Program.{Whole}
-use Rattle.ann_grown.specs.Partial.{Basis, IsPartial, NoneFree, Due, Grows, Meets, Keeps}
+use Rattle.ann_rules.specs.Rules.{needs, rules, no_need}
+use Rattle.ann_rules.proofs.Mono.{grown_by_rules}
+use Rattle.ann_grown.specs.Partial.{Basis, IsPartial, NoneFree, IsOne, IsAsked, IsFirst, clash_at, Keeps, Meets}
 
 same_number : (c d : ℕ) → (c ≡ d) ⊎ (c ≢ d)
 same_number c d = grind arith
-
--- ---- growing
-
-pub grows_self : (a : Assignment) → Grows a a
-grows_self a = record { marks = λ m e. e; values = λ c e. e }
-
-pub grows_on : (a b d : Assignment) → Grows a b → Grows b d → Grows a d
-grows_on a b d g h = record { marks = λ m e. h.marks m (g.marks m e); values = λ c e. h.values c (g.values c e) }
-
-pub keeps_self : (p : Whole) (a : Assignment) → Keeps p a a
-keeps_self p a spots start basis h = h
-
-pub keeps_on : (p : Whole) (a b d : Assignment) → Keeps p a b → Keeps p b d → Keeps p a d
-keeps_on p a b d g h spots start basis i = h spots start basis (g spots start basis i)
-
-pub meets_self : (p : Whole) (ns : List Need) (a : Assignment) → Meets p ns a a
-meets_self p ns a = record { grows = λ tree. grows_self a; partial = λ spots start basis h due. h }
-
--- the first need, then the others
-pub meets_on : (p : Whole) (n : Need) (ns : List Need) (a b d : Assignment) → Meets p (n ∷ []) a b → Meets p ns b d → Meets p (n ∷ ns) a d
-meets_on p n ns a b d g h = record {
-  grows = λ tree. grows_on a b d (g.grows tree) (h.grows tree);
-  partial = λ spots start basis i due.
-      h.partial spots start basis (g.partial spots start basis i (λ e fits closed free. ((due e fits closed free).0, tt))) (λ e fits closed free. (due e fits closed free).1);
-}
 
 -- ---- one need
 
@@ -65,7 +36,7 @@ module _ (k : List ClassInfo) where
   up_marks true es a c = raise_marks es a c
   up_marks false es a c = refl
 
-  set_cells : (b : Bool) (a : Assignment) (m : ℕ) → length (if b then record { cells = a.cells; marks = set a.marks m true; same = a.same } else a).cells ≡ length a.cells
+  set_cells : (b : Bool) (a : Assignment) (m : ℕ) → (if b then record { cells = a.cells; marks = set a.marks m true; same = a.same } else a).cells ≡ a.cells
   set_cells true a m = refl
   set_cells false a m = refl
 
@@ -73,94 +44,150 @@ module _ (k : List ClassInfo) where
   set_marks true a m = length-set a.marks m true
   set_marks false a m = refl
 
-  pub meet_cells : (q : Need) (a : Assignment) → length (meet k q a).cells ≡ length a.cells
+  meet_cells : (q : Need) (a : Assignment) → length (meet k q a).cells ≡ length a.cells
   meet_cells (Up c es) a = up_cells (nat_lt c (length a.cells)) es a c
-  meet_cells (Set m) a = set_cells (nat_lt m (length a.marks)) a m
+  meet_cells (Set m) a = ap length (set_cells (nat_lt m (length a.marks)) a m)
 
-  pub meet_marks : (q : Need) (a : Assignment) → length (meet k q a).marks ≡ length a.marks
+  meet_marks : (q : Need) (a : Assignment) → length (meet k q a).marks ≡ length a.marks
   meet_marks (Up c es) a = up_marks (nat_lt c (length a.cells)) es a c
   meet_marks (Set m) a = set_marks (nat_lt m (length a.marks)) a m
 
-  -- one need alone, as the only rule
-  abbrev only : Need → Rules
-  only q r a = q
+  -- ---- the other cells are as they were
 
-  only_monotone : (q : Need) (spots : ℕ → Bool) (start : Assignment) → Monotone k (only q) spots start
-  only_monotone q spots start r a b t l fits closed free = closed r
+  raise_other : (es : List Shape) (a : Assignment) (c d : ℕ) → d ≢ c → at (raise k c es a) d ≡ at a d
+  raise_other [] a c d other = refl
+  raise_other (e ∷ es) a c d other = raise_other es (raised k c e a) c d other ∙ get_or-set_other a.cells c d (join k (at a c) e) Nothing other
 
-  meet_less : (q : Need) (spots : ℕ → Bool) (a b : Assignment) → IsTree k → IsTable (length a.same) a.same → Fits k a b → Holds k b q → Free spots b → Less k (meet k q a) b
-  meet_less q spots a b tree t fits h free =
-      grown_is_least k tree (only q) spots a t (only_monotone q spots a) (meet k q a) (step a 0 begin) b fits (λ r. h) free
+  up_other : (b : Bool) (es : List Shape) (a : Assignment) (c d : ℕ) → d ≢ c → at (if b then raise k c es a else a) d ≡ at a d
+  up_other true es a c d other = raise_other es a c d other
+  up_other false es a c d other = refl
 
-  -- ---- what stays
+  pub meet_other : (es : List Shape) (a : Assignment) (c d : ℕ) → d ≢ c → at (meet k (Up c es) a) d ≡ at a d
+  meet_other es a c d other = up_other (nat_lt c (length a.cells)) es a c d other
 
-  module _ (tree : IsTree k) where
-    -- a join has a value where its first part has one
-    valued : (t : List ℕ) (x y : Shape) → is_nothing x ≡ false → is_nothing (join k x y) ≡ false
-    valued t x y e = reached_above k (classes_after k t x y) x (join k x y) ((is_join k tree t).left x y) e (is_nothing (join k x y)) refl
+-- ---- a step without conflict
 
-    raised_value : (e : Shape) (a : Assignment) (c d : ℕ) → c < length a.cells → (d ≡ c) ⊎ (d ≢ c) → is_nothing (at a d) ≡ false → is_nothing (at (raised k c e a) d) ≡ false
-    raised_value e a c d lt (inl same) i =
-        ap is_nothing (ap (λ j. get_or (set a.cells c (join k (at a c) e)) j Nothing) same ∙ get_or-set_same a.cells c (join k (at a c) e) Nothing lt)
-        ∙ valued a.same (at a c) e (ap (λ j. is_nothing (at a j)) (sym same) ∙ i)
-    raised_value e a c d lt (inr other) i = ap is_nothing (get_or-set_other a.cells c d (join k (at a c) e) Nothing other) ∙ i
+and_no : (a b : Bool) → a ≡ true → (a && b) ≡ false → b ≡ false
+and_no true b h e = e
+and_no false b h e = absurd (no h)
 
-    raise_values : (es : List Shape) (a : Assignment) (c d : ℕ) → c < length a.cells → is_nothing (at a d) ≡ false → is_nothing (at (raise k c es a) d) ≡ false
-    raise_values [] a c d lt i = i
-    raise_values (e ∷ es) a c d lt i =
-        let n : length (raised k c e a).cells ≡ length a.cells = length-set a.cells c (join k (at a c) e) in
-        raise_values es (raised k c e a) c d (omega (arith, lt, n)) (raised_value e a c d lt (same_number d c) i)
+and_left : (a b : Bool) → (a && b) ≡ true → a ≡ true
+and_left true b e = refl
+and_left false b e = e
 
-    raise_marked : (es : List Shape) (a : Assignment) (c m : ℕ) → mark a m ≡ true → mark (raise k c es a) m ≡ true
-    raise_marked [] a c m i = i
-    raise_marked (e ∷ es) a c m i = raise_marked es (raised k c e a) c m i
+and_right : (a b : Bool) → (a && b) ≡ true → b ≡ true
+and_right true b e = e
+and_right false b e = absurd (no e)
 
-    up_grows : (t : Bool) (es : List Shape) (a : Assignment) (c : ℕ) → nat_lt c (length a.cells) ≡ t → Grows a (if t then raise k c es a else a)
-    up_grows true es a c e = record { marks = λ m. raise_marked es a c m; values = λ d. raise_values es a c d (ltb-true c (length a.cells) e) }
-    up_grows false es a c e = grows_self a
+found_not : (b : Bool) (c : ℕ) → (if b then Some c else None) ≡ None → b ≡ false
+found_not true c e = absurd (no (sym (ap is_some e)))
+found_not false c e = refl
 
-    set_marked : (a : Assignment) (m d : ℕ) → m < length a.marks → (d ≡ m) ⊎ (d ≢ m) → mark a d ≡ true → get_or (set a.marks m true) d false ≡ true
-    set_marked a m d lt (inl same) i = ap (λ j. get_or (set a.marks m true) j false) same ∙ get_or-set_same a.marks m true false lt
-    set_marked a m d lt (inr other) i = get_or-set_other a.marks m d true false other ∙ i
+found_so : (b : Bool) (c d : ℕ) → (if b then Some c else None) ≡ Some d → b ≡ true
+found_so true c d e = refl
+found_so false c d e = absurd (no (ap is_some e))
 
-    set_grows : (t : Bool) (a : Assignment) (m : ℕ) → nat_lt m (length a.marks) ≡ t → Grows a (if t then record { cells = a.cells; marks = set a.marks m true; same = a.same } else a)
-    set_grows true a m e = record { marks = λ d. set_marked a m d (ltb-true m (length a.marks) e) (same_number d m); values = λ c i. i }
-    set_grows false a m e = grows_self a
+found_it : (b : Bool) (c d : ℕ) → (if b then Some c else None) ≡ Some d → c ≡ d
+found_it true c d e = ap (λ o. unwrap_or o c) e
+found_it false c d e = absurd (no (ap is_some e))
 
-    meet_grows : (q : Need) (a : Assignment) → Grows a (meet k q a)
-    meet_grows (Up c es) a = up_grows (nat_lt c (length a.cells)) es a c refl
-    meet_grows (Set m) a = set_grows (nat_lt m (length a.marks)) a m refl
+module _ (k : List ClassInfo) (spots : ℕ → Bool) where
+  pub free_on : (n : Need) (a : Assignment) → clash_at spots (meet k n a) n ≡ None → Free spots a → Free spots (meet k n a)
+  free_on (Up c es) a e free d h = by_cell (same_number d c)
+    where
+      by_cell : (d ≡ c) ⊎ (d ≢ c) → is_clash (at (meet k (Up c es) a) d) ≡ false
+      by_cell (inl i) =
+          ap (λ j. is_clash (at (meet k (Up c es) a) j)) i
+          ∙ and_no (spots c) (is_clash (at (meet k (Up c es) a) c)) (ap spots (sym i) ∙ h) (found_not (spots c && is_clash (at (meet k (Up c es) a) c)) c e)
+      by_cell (inr other) = ap is_clash (meet_other k es a c d other) ∙ free d h
+  free_on (Set m) a e free d h = ap (λ cells. is_clash (get_or cells d Nothing)) (set_cells k (nat_lt m (length a.marks)) a m) ∙ free d h
 
-module _ (p : Whole) (q : Need) (a : Assignment) where
+  pub spot_of : (n : Need) (a : Assignment) (c : ℕ) → clash_at spots a n ≡ Some c → spots c ≡ true
+  spot_of (Up d es) a c e =
+      ap spots (sym (found_it (spots d && is_clash (at a d)) d c e))
+      ∙ and_left (spots d) (is_clash (at a d)) (found_so (spots d && is_clash (at a d)) d c e)
+  spot_of (Set m) a c e = absurd (no (ap is_some e))
+
+  pub clash_of : (n : Need) (a : Assignment) (c : ℕ) → clash_at spots a n ≡ Some c → is_clash (at a c) ≡ true
+  clash_of (Up d es) a c e =
+      ap (λ j. is_clash (at a j)) (sym (found_it (spots d && is_clash (at a d)) d c e))
+      ∙ and_right (spots d) (is_clash (at a d)) (found_so (spots d && is_clash (at a d)) d c e)
+  clash_of (Set m) a c e = absurd (no (ap is_some e))
+
+-- ---- by its number
+
+record Numbered (n : Need) (ns : List Need) : Type 0 where
+  number : ℕ
+  is : get_or ns number no_need ≡ n
+
+numbered : (n : Need) (ns : List Need) → IsOne n ns → Numbered n ns
+numbered n [] h = absurd h
+numbered n (m ∷ ms) (inl e) = record { number = zero; is = e }
+numbered n (m ∷ ms) (inr h) = let q = numbered n ms h in record { number = suc q.number; is = q.is }
+
+module _ (p : Whole) (spots : ℕ → Bool) (a : Assignment) (n : Need) (asked : IsAsked p a n) where
   abbrev k : List ClassInfo
   k = p.tables.classes
 
-  still : (spots : ℕ → Bool) (start : Assignment) → Basis p spots start → IsPartial p spots start a → Due p spots start (q ∷ []) → IsPartial p spots start (meet k q a)
-  still spots start basis h due = record {
-    cells = meet_cells k q a ∙ h.cells;
-    marks = meet_marks k q a ∙ h.marks;
-    table = meet_table (length start.same) k q a h.table;
-    least = λ b fits closed free.
-        meet_less k q spots a b basis.classes.tree (subst (λ n. IsTable n a.same) (sym h.table.count) h.table)
-        (record {
-          cells = fits.cells ∙ sym h.cells;
-          marks = fits.marks ∙ sym h.marks;
-          table = subst (λ n. IsTable n b.same) (sym h.table.count) fits.table;
-          above = h.least b fits closed free;
-          formed = fits.formed;
-        })
-        (due b fits closed free).0 free;
+  by_number : Numbered n (needs p a)
+  by_number = numbered n (needs p a) asked
+
+  pub asked_step : (Free spots a → Free spots (meet k n a)) → Keeps p spots a (meet k n a)
+  asked_step free start h = record {
+    grown = subst (λ m. Grown k (rules p) start (meet k m a)) by_number.is (step a by_number.number h.grown);
+    free = free h.free;
   }
 
-  pub meets : Meets p (q ∷ []) a (meet k q a)
-  meets = record { grows = λ tree. meet_grows k tree q a; partial = still }
+  pub kept : clash_at spots (meet k n a) n ≡ None → Keeps p spots a (meet k n a)
+  kept e = asked_step (free_on k spots n a e)
+
+  pub met : (c : ℕ) → clash_at spots (meet k n a) n ≡ Some c → Meets p spots a (meet k n a) c
+  met c e start h = record {
+    before = a;
+    grown = h;
+    rule = by_number.number;
+    step = ap (λ m. meet k m a) (sym by_number.is);
+    spot = spot_of k spots n (meet k n a) c e;
+    clash = clash_of k spots n (meet k n a) c e;
+  }
+
+-- ---- all that is grown
+
+module _ (p : Whole) (start : Assignment) where
+  abbrev all : List ClassInfo
+  all = p.tables.classes
+
+  pub grown_cells : (a : Assignment) → Grown all (rules p) start a → length a.cells ≡ length start.cells
+  grown_cells _ begin = refl
+  grown_cells _ (step a r g) = meet_cells all (rules p r a) a ∙ grown_cells a g
+
+  grown_marks : (a : Assignment) → Grown all (rules p) start a → length a.marks ≡ length start.marks
+  grown_marks _ begin = refl
+  grown_marks _ (step a r g) = meet_marks all (rules p r a) a ∙ grown_marks a g
+
+  grown_table : IsTable (length start.same) start.same → (a : Assignment) → Grown all (rules p) start a → IsTable (length start.same) a.same
+  grown_table t _ begin = t
+  grown_table t _ (step a r g) = meet_table (length start.same) all (rules p r a) a (grown_table t a g)
+
+pub partial_grown : (p : Whole) (spots : ℕ → Bool) (start a : Assignment) → Basis p spots start → Grown p.tables.classes (rules p) start a → IsPartial p spots start a
+partial_grown p spots start a basis g = record {
+  cells = grown_cells p start a g;
+  marks = grown_marks p start a g;
+  table = grown_table p start basis.table a g;
+  least = grown_by_rules p basis.classes spots start basis.placed basis.table a g;
+}
+
+-- and where it is the first conflict
+pub partial_first : (p : Whole) (spots : ℕ → Bool) (start a : Assignment) (c : ℕ) → Basis p spots start → IsFirst p spots start a c → IsPartial p spots start a
+partial_first p spots start a c basis f =
+    subst (IsPartial p spots start) (sym f.step) (partial_grown p spots start (meet p.tables.classes (rules p f.rule f.before) f.before) basis (step f.before f.rule f.grown.grown))
 
 -- ---- a conflict
 
-clash_of : (b : Bool) → (b ≡ false → b ≡ true → ⊥)
-clash_of true e f = no (sym e)
-clash_of false e f = no f
+clashes : (b : Bool) → (b ≡ false → b ≡ true → ⊥)
+clashes true e f = no (sym e)
+clashes false e f = no f
 
 pub none_free : (p : Whole) (spots : ℕ → Bool) (start a : Assignment) → IsPartial p spots start a → (c : ℕ) → spots c ≡ true → is_clash (at a c) ≡ true → NoneFree p spots start
 none_free p spots start a h c e i b fits closed free =
-    clash_of (is_clash (at a c)) (above_clash p.tables.classes b.same (at a c) (at b c) (free c e) ((h.least b fits closed free).cells c)) i
+    clashes (is_clash (at a c)) (above_clash p.tables.classes b.same (at a c) (at b c) (free c e) ((h.least b fits closed free).cells c)) i

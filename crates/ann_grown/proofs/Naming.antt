@@ -1,5 +1,5 @@
 -- An element written with the least site of each class is below what it was below.
-use Rattle.std.proofs.Common.{◌≡◌, ℕ, zero, suc, Bool, List, [], ◌∷◌, length, map, get_or, Option, Some, None, refl, sym, ◌∙◌, subst}
+use Rattle.std.proofs.Common.{◌≡◌, ℕ, zero, suc, Bool, List, [], ◌∷◌, map, get_or, Option, Some, None, refl, sym, ap, ◌∙◌, subst}
 use Rattle.std.proofs.lemmas.List.{length-map}
 use Rattle.rpy_tree.specs.declared.program.ClassInfo.{ClassInfo}
 use Rattle.ann_element.specs.Sites.{leader, Same}
@@ -7,10 +7,12 @@ use Rattle.ann_lattice.specs.Shape.{Shape, Nothing, NoneOnly, Truth, Num, Str, T
 use Rattle.ann_lattice.specs.Order.{Below, least, none, none_str, none_list, none_dict, none_inst, none_fun, truth, num, str, tuple, list, dict, inst, fun, clash, Each, no_more, and_more, In, Held, kept, lists, all_lists, dicts, all_dicts}
 use Rattle.ann_lattice.specs.Join.{Within}
 use Rattle.ann_lattice.specs.Laws.{name_of, named, all_named}
-use Rattle.ann_lattice.specs.Assign.{Assignment, at, Less, IsTable}
+use Rattle.ann_lattice.specs.Assign.{Assignment, at, Less}
 use Rattle.ann_lattice.proofs.Ordered.{held_append, held_split}
 use Rattle.ann_rules.specs.Program.{Whole}
-use Rattle.ann_grown.specs.Partial.{IsPartial, Keeps, with_leaders}
+use Rattle.ann_lattice.specs.Join.{is_clash}
+use Rattle.ann_lattice.specs.Assign.{Free}
+use Rattle.ann_grown.specs.Partial.{IsPartial, with_leaders}
 
 module _ (k : List ClassInfo) (t u : List ℕ) (w : Within t u) (leads : (s : ℕ) → leader t (leader t s) ≡ leader t s) where
   led : (s v : ℕ) → Same u s v → Same u (leader t s) v
@@ -92,8 +94,8 @@ named_at t [] c = refl
 named_at t (x ∷ xs) zero = refl
 named_at t (x ∷ xs) (suc c) = named_at t xs c
 
-pub keeps_named : (p : Whole) (a : Assignment) → Keeps p a (with_leaders a)
-keeps_named p a spots start basis h = record {
+pub partial_named : (p : Whole) (spots : ℕ → Bool) (start a : Assignment) → IsPartial p spots start a → IsPartial p spots start (with_leaders a)
+partial_named p spots start a h = record {
   cells = length-map a.cells (named a.same) ∙ h.cells;
   marks = h.marks;
   table = h.table;
@@ -107,6 +109,18 @@ keeps_named p a spots start basis h = record {
       };
 }
 
--- the start is below each above it
-pub partial_start : (p : Whole) (spots : ℕ → Bool) (start : Assignment) → IsTable (length start.same) start.same → IsPartial p spots start start
-partial_start p spots start table = record { cells = refl; marks = refl; table = table; least = λ b fits closed free. fits.above }
+named_clash : (t : List ℕ) (x : Shape) → is_clash (named t x) ≡ is_clash x
+named_clash t Nothing = refl
+named_clash t NoneOnly = refl
+named_clash t (Truth a) = refl
+named_clash t (Num a) = refl
+named_clash t (Str a) = refl
+named_clash t (Tup xs) = refl
+named_clash t (Lst s n) = refl
+named_clash t (Dct s n) = refl
+named_clash t (Inst c n) = refl
+named_clash t (Fun fs n) = refl
+named_clash t (Clash o q) = refl
+
+pub free_named : (spots : ℕ → Bool) (a : Assignment) → Free spots a → Free spots (with_leaders a)
+free_named spots a free c e = ap is_clash (named_at a.same a.cells c) ∙ (named_clash a.same (at a c) ∙ free c e)

@@ -1,16 +1,12 @@
--- Assignments that grow towards the least one: each is below all that are closed and free of conflict.
-use Rattle.std.specs.Prelude.{◌≡◌, ℕ, Bool, true, false, List, [], ◌∷◌, length, map, slice_get, Some}
-use Rattle.rpy_tree.specs.declared.program.ClassInfo.{ClassInfo}
-use Rattle.flow_graph.specs.declared.graph.Op.{Op}
-use Rattle.flow_graph.specs.declared.graph.Block.{Block}
-use Rattle.flow_graph.specs.declared.graph.Graph.{Graph}
-use Rattle.ann_lattice.specs.Kind.{is_nothing}
-use Rattle.ann_lattice.specs.Assign.{Assignment, Need, at, mark, Fits, Closed, Free, IsTable, IsLeast}
-use Rattle.ann_lattice.specs.Laws.{IsTree, named}
+-- Assignments that grow step by step, each below all that are closed and free of conflict; and the first conflict.
+use Rattle.std.specs.Prelude.{◌≡◌, ◌⊎◌, ◌&&◌, if◌then◌else◌, ℕ, Bool, true, List, [], ◌∷◌, length, map, Option, Some, None}
+use Rattle.ann_lattice.specs.Join.{is_clash}
+use Rattle.ann_lattice.specs.Assign.{Assignment, Need, Up, Set, at, meet, Grown, Fits, Closed, Free, IsTable, IsLeast}
+use Rattle.ann_lattice.specs.Laws.{named}
 use Rattle.ann_laws.specs.Rows.{HasClasses}
 use Rattle.ann_rules.specs.Program.{Whole}
-use Rattle.ann_rules.specs.Rules.{rules, goes_on}
-use Rattle.ann_rules.specs.Hold.{AllHold, IsPlaced}
+use Rattle.ann_rules.specs.Rules.{needs, rules}
+use Rattle.ann_rules.specs.Hold.{IsPlaced}
 
 -- what growing rests on: the classes are a tree, each part has its cell, and the sites of the start are a table
 pub record Basis (p : Whole) (spots : ℕ → Bool) (start : Assignment) : Type 0 where
@@ -29,49 +25,52 @@ pub record IsPartial (p : Whole) (spots : ℕ → Bool) (start a : Assignment) :
 abbrev pub NoneFree : Whole → (ℕ → Bool) → Assignment → Type 0
 NoneFree p spots start = (b : Assignment) → Fits p.tables.classes start b → Closed p.tables.classes (rules p) b → Free spots b → ⊥
 
--- these needs hold in each that is
-abbrev pub Due : Whole → (ℕ → Bool) → Assignment → List Need → Type 0
-Due p spots start ns = (b : Assignment) → Fits p.tables.classes start b → Closed p.tables.classes (rules p) b → Free spots b → AllHold p.tables.classes b ns
+-- ---- needs
 
--- marks stay set, and what has a value keeps one
-pub record Grows (a b : Assignment) : Type 0 where
-  pub marks : (m : ℕ) → mark a m ≡ true → mark b m ≡ true
-  pub values : (c : ℕ) → is_nothing (at a c) ≡ false → is_nothing (at b c) ≡ false
+-- it is one of these
+abbrev pub IsOne : Need → List Need → Type 0
+IsOne n [] = ⊥
+IsOne n (m ∷ ms) = (m ≡ n) ⊎ IsOne n ms
 
--- a grew to b, by needs that hold in each closed, free assignment if these do
-pub record Meets (p : Whole) (ns : List Need) (a b : Assignment) : Type 0 where
-  pub grows : IsTree p.tables.classes → Grows a b
-  pub partial : (spots : ℕ → Bool) (start : Assignment) → Basis p spots start → IsPartial p spots start a → Due p spots start ns → IsPartial p spots start b
+-- each of the former is one of the latter
+abbrev pub AreOf : List Need → List Need → Type 0
+AreOf ms ns = (n : Need) → IsOne n ms → IsOne n ns
 
--- b is below each closed, free assignment if a is
-abbrev pub Keeps : Whole → Assignment → Assignment → Type 0
-Keeps p a b = (spots : ℕ → Bool) (start : Assignment) → Basis p spots start → IsPartial p spots start a → IsPartial p spots start b
+-- the graphs ask it of this assignment
+abbrev pub IsAsked : Whole → Assignment → Need → Type 0
+IsAsked p a n = IsOne n (needs p a)
 
--- each of these operations gave a value, or may go on without
-abbrev pub AllGo : Whole → Assignment → ℕ → List Op → Type 0
-AllGo p a g [] = Unit {0}
-AllGo p a g (o ∷ os) = (goes_on p a g o ≡ true) × AllGo p a g os
+-- ---- steps
 
--- the block of this number in the graph of that number is reached
-pub record IsReached (p : Whole) (g : ℕ) (graph : Graph) (n : ℕ) (c : Block) (a : Assignment) : Type 0 where
-  pub graph_is : slice_get p.graphs g ≡ Some graph
-  pub block_is : slice_get graph.blocks n ≡ Some c
-  pub marked : mark a (p.places.block g n) ≡ true
+-- Steps led to it from the start, each of which met one need that was asked of the assignment as it was then; no cell that must not is in conflict.
+pub record IsGrown (p : Whole) (spots : ℕ → Bool) (start a : Assignment) : Type 0 where
+  pub grown : Grown p.tables.classes (rules p) start a
+  pub free : Free spots a
 
--- b is below each closed, free assignment if a is, in which the block is reached; it is in b, and these operations gave values there
-pub record HasReached (p : Whole) (g : ℕ) (graph : Graph) (n : ℕ) (c : Block) (os : List Op) (spots : ℕ → Bool) (start b : Assignment) : Type 0 where
-  pub partial : IsPartial p spots start b
-  pub reached : IsReached p g graph n c b
-  pub go : AllGo p b g os
+-- Such steps led to the assignment before the last step; that met one need more, and put a conflict into this cell, where none may be.
+pub record IsFirst (p : Whole) (spots : ℕ → Bool) (start a : Assignment) (c : ℕ) : Type 0 where
+  pub before : Assignment
+  pub grown : IsGrown p spots start before
+  pub rule : ℕ
+  pub step : a ≡ meet p.tables.classes (rules p rule before) before
+  pub spot : spots c ≡ true
+  pub clash : is_clash (at a c) ≡ true
 
-abbrev pub Reaches : Whole → ℕ → Graph → ℕ → Block → Assignment → Assignment → List Op → Type 0
-Reaches p g graph n c a b os =
-    IsReached p g graph n c a → (spots : ℕ → Bool) (start : Assignment) → Basis p spots start → IsPartial p spots start a → HasReached p g graph n c os spots start b
+-- the cell of a need, where a conflict stands there and none may
+abbrev pub clash_at : (ℕ → Bool) → Assignment → Need → Option ℕ
+clash_at spots a (Up c es) = if spots c && is_clash (at a c) then Some c else None
+clash_at spots a (Set m) = None
+
+-- what such steps lead to from a they lead to from there to b
+abbrev pub Keeps : Whole → (ℕ → Bool) → Assignment → Assignment → Type 0
+Keeps p spots a b = (start : Assignment) → IsGrown p spots start a → IsGrown p spots start b
+
+-- and there to the first conflict
+abbrev pub Meets : Whole → (ℕ → Bool) → Assignment → Assignment → ℕ → Type 0
+Meets p spots a b c = (start : Assignment) → IsGrown p spots start a → IsFirst p spots start b c
+
+-- ---- names
 
 -- each element written with the least site of each class
 abbrev pub with_leaders : Assignment → Assignment
 with_leaders a = record { cells = map (named a.same) a.cells; marks = a.marks; same = a.same }
-
--- where the latter needs hold, so do the former
-abbrev pub IsPart : List Need → List Need → Type 0
-IsPart ms ns = (k : List ClassInfo) (b : Assignment) → AllHold k b ns → AllHold k b ms

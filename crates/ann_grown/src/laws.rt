@@ -1,16 +1,19 @@
 // Laws of growing step by step, over all programs, graphs and assignments.
-ghost use Rattle.std.specs.Prelude.{◌≡◌, ◌∷◌, [], ℕ, Bool, true};
+ghost use Rattle.std.specs.Prelude.{◌≡◌, ℕ, Bool, true, false};
 ghost use Rattle.ann_lattice.specs.Join.{is_clash};
-ghost use Rattle.ann_lattice.specs.Assign.{Assignment, Need, at, meet};
+ghost use Rattle.ann_lattice.specs.Assign.{Assignment, Need, Up, Set, Grown, Free, at, meet};
 ghost use Rattle.ann_rules.specs.Program.{Whole};
-ghost use Rattle.ann_rules.specs.Rules.{needs};
-ghost use Rattle.ann_grown.specs.Partial.{Basis, IsPartial, NoneFree, Due, Meets};
+ghost use Rattle.ann_rules.specs.Rules.{rules};
+ghost use Rattle.ann_grown.specs.Partial.{Basis, IsPartial, NoneFree, IsAsked, Keeps};
 
-/// What the graphs ask of an assignment that is below each closed, free one holds in each of those; and
-/// met, it leaves what grew below them.
-pub fn what_is_met_is_partial()
-    ensures due { (p : Whole) (spots : ℕ → Bool) (start a : Assignment) → Basis p spots start → IsPartial p spots start a → Due p spots start (needs p a) }
-    ensures met { (p : Whole) (n : Need) (a : Assignment) → Meets p (n ∷ []) a (meet p.tables.classes n a) }
+/// What such steps lead to is below each closed, free assignment.
+pub fn what_is_grown_is_partial()
+    ensures { (p : Whole) (spots : ℕ → Bool) (start a : Assignment) → Basis p spots start → Grown p.tables.classes (rules p) start a → IsPartial p spots start a }
+{}
+
+/// A need that is asked is a step, if its cell is in no conflict behind it.
+pub fn what_is_asked_is_a_step()
+    ensures { (p : Whole) (spots : ℕ → Bool) (a : Assignment) (n : Need) → IsAsked p a n → (Free spots a → Free spots (meet p.tables.classes n a)) → Keeps p spots a (meet p.tables.classes n a) }
 {}
 
 /// Where an assignment that is below each closed, free one has a conflict at a place where none may be,

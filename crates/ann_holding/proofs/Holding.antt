@@ -23,7 +23,7 @@ use Rattle.ann_closed.specs.Met.{holds, all_hold}
 use Rattle.ann_closed.proofs.Closing.{one_holds}
 use Rattle.ann_needs.specs.View.{callee_of}
 use Rattle.ann_needs.specs.declared.plan.Callee.{Callee}
-use Rattle.ann_meets.specs.Links as unmet
+use Rattle.ann_holding.specs.Links as unmet
 use Rattle.ann_holding.specs.Holds as spec
 
 module _ (p : Whole) (a : Assignment) where

@@ -11,7 +11,7 @@ use Rattle.ann_rules.specs.Rules as rule
 use Rattle.ann_closed.specs.Met.{all_hold}
 use Rattle.ann_needs.specs.View.{callee_of, graph_ties}
 use Rattle.ann_needs.specs.declared.plan.Callee.{Callee}
-use Rattle.ann_meets.specs.Links as unmet
+use Rattle.ann_holding.specs.Links as unmet
 
 module _ (p : Whole) (a : Assignment) where
   abbrev pub all_met : List Need → Bool

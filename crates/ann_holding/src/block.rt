@@ -3,8 +3,8 @@ ghost use Rattle.std.specs.Prelude.{◌≡◌, map, IfOk};
 ghost use Rattle.ann_needs.specs.View.{assignment, need_of, whole};
 ghost use Rattle.ann_holding.specs.Holds as spec;
 
+use crate::link::{exception_asks, exit_asks};
 use ann_closed::is_met;
-use ann_meets::{exception_asks, exit_asks};
 use ann_needs::{Ask, Asks, Plan, State, goes_on, op_asks};
 use flow_graph::{Block, Exit, Graph, Op};
 use rpy_base::NoMem;

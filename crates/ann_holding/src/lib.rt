@@ -2,6 +2,7 @@
 #![tactic(auto)]
 
 mod block;
+mod link;
 mod whole;
 
 pub use whole::all_holds;

@@ -1,4 +1,6 @@
 -- Lemmas for the code.
 pub mod Raising
 pub mod Steps
-pub mod Linked
+pub mod Stepping
+mod Pieces
+pub mod Asking

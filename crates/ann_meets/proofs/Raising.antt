@@ -10,7 +10,7 @@ use Rattle.ann_needs.proofs.Read.{cell_some}
 use Rattle.rpy_tree.specs.declared.program.ClassInfo.{ClassInfo}
 use Rattle.ann_lattice.specs.Shape.{Shape, Nothing, shape}
 use Rattle.ann_lattice.specs.Join.{join, classes_after}
-use Rattle.ann_lattice.specs.Assign.{Assignment, at, Need, Up, Set, raised, raise, meet}
+use Rattle.ann_lattice.specs.Assign.{Assignment, at, Up, raised, raise, meet}
 
 module _ (k : List ClassInfo) (c : ℕ) where
   split_by : (b : Bool) (e : Shape) (es : List Shape) (a : Assignment) → nat_lt c (length a.cells) ≡ b

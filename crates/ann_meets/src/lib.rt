@@ -1,12 +1,18 @@
-//! Growing: what the parts of a program ask of an annotation is met, part by part.
+//! Growing: what the parts of a program ask of an annotation is met step by step, up to the first conflict.
 #![tactic(auto)]
 
 mod block;
-mod link;
+mod call;
+mod calling;
+mod grow;
 mod meet;
 mod part;
+mod stop;
+mod tied;
 
 pub use block::grow_block;
-pub use link::{exception_asks, exit_asks};
-pub use meet::News;
-pub use part::{grow_entry, grow_site, grow_start, grow_ties};
+pub use grow::grow_part;
+pub use meet::{News, is_spot};
+pub use part::{OpPlace, Part, Piece, Way};
+pub use stop::Stop;
+pub use tied::grow_ties;

@@ -165,17 +165,3 @@ graph_ties p a g graph = rules.tie_ops p a g graph (rules.all_ops p a g graph gr
 
 abbrev pub pairs_needs : program.Whole → Assignment → ℕ → Bool → List (Const × Const) → List Need
 pairs_needs p a s dict cs = rule.from_each (rules.pair_needs p a s dict) cs
-
--- ---- all of a kind
-
-abbrev pub reached_block : program.Whole → Assignment → ℕ → Graph → ℕ → Block → List Need
-reached_block p a g graph n b = rule.when (mark a (p.places.block g n)) (rules.block_needs p a g graph b)
-
-abbrev pub graphs_needs : program.Whole → Assignment → ℕ → List Graph → List Need
-graphs_needs p a n gs = rules.numbered p a (rules.graph_needs p a) n gs
-
-abbrev pub starts_needs : program.Whole → Assignment → ℕ → List Callee → List Need
-starts_needs p a n cs = rules.numbered p a (rules.start_needs p a) n (map callee_of cs)
-
-abbrev pub sites_needs : program.Whole → Assignment → ℕ → List Site → List Need
-sites_needs p a n ss = rules.numbered p a (rules.site_needs p a) n ss

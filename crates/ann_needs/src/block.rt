@@ -49,7 +49,8 @@ fn value_of(alloc: Global, p: &Plan, s: &State, g: usize, v: VarId) -> Result<El
     s.element(alloc, p.variable(g, v))
 }
 
-fn operands_of(
+/// The elements of operands.
+pub fn operands_of(
     alloc: Global,
     p: &Plan,
     s: &State,
@@ -130,8 +131,8 @@ fn misfit(alloc: Global) -> Result<Seq<Element>, NoMem>
     Ok(list)
 }
 
-// What the result is to be above.
-fn asked(
+/// What the result of an operation is to be above.
+pub fn asked(
     alloc: Global,
     p: &Plan,
     s: &State,
@@ -151,7 +152,8 @@ fn asked(
     Ok(list)
 }
 
-fn has_unreached(xs: &[Element]) -> bool
+/// Whether some operand is not reached.
+pub fn has_unreached(xs: &[Element]) -> bool
     ensures { result ≡ some_nothing (map shape xs.now) }
 {
     match xs {
@@ -160,7 +162,8 @@ fn has_unreached(xs: &[Element]) -> bool
     }
 }
 
-fn has_conflict(xs: &[Element]) -> bool
+/// Whether some element is a conflict.
+pub fn has_conflict(xs: &[Element]) -> bool
     ensures { result ≡ some_clash (map shape xs.now) }
 {
     match xs {

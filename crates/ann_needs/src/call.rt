@@ -120,8 +120,8 @@ fn with_receiver(alloc: Global, class: ClassId, xs: &[Element]) -> Result<Seq<El
     Ok(all)
 }
 
-// A call reaches a method with an instance of a class and these arguments.
-fn reach_method(
+/// A call reaches a method with an instance of a class and these arguments.
+pub fn reach_method(
     alloc: Global,
     p: &Plan,
     asks: &mut Asks,
@@ -194,7 +194,8 @@ fn tie_params(
     }
 }
 
-fn tie_two(
+/// Two functions that one call reaches share their parameters, receivers aside, and their results.
+pub fn tie_two(
     alloc: Global,
     p: &Plan,
     s: &State,
@@ -363,6 +364,7 @@ fn reach_methods(
     Ok(())
 }
 
+/// The methods without their classes.
 pub fn functions_of(alloc: Global, methods: &[(ClassId, FunId)]) -> Result<Seq<FunId>, NoMem>
     ensures { IfOk result (λ fs. fs ≡ map (λ f. f.1) methods.now) }
 {

@@ -1,39 +1,123 @@
 -- What growing came to is the least that is closed and free, or shows that there is none.
-use Rattle.std.proofs.Common.{◌≡◌, ◌<◌, ℕ, length, sym, subst, true}
+use Rattle.std.proofs.Common.{◌≡◌, ◌<◌, ◌≤◌, ℕ, zero, suc, Bool, true, false, List, length, get_or, replicate, Ok, Err, refl, sym, ap, ◌∙◌, subst, ◌⊎◌, inl, inr, arith}
+use Rattle.std.specs.Prelude.{◌==◌, ◌||◌}
+use Rattle.std.proofs.lemmas.List.{length-replicate, get_or_past}
 use Rattle.rpy_tree.specs.declared.program.Program.{Program}
 use Rattle.flow_graph.specs.declared.graph.Graphs.{Graphs}
 use Rattle.class_desc.specs.Tables.{Tables}
-use Rattle.ann_element.specs.declared.annotation.Annotation.{Annotation}
+use Rattle.ann_lattice.specs.Shape.{Nothing}
 use Rattle.ann_lattice.specs.Join.{is_clash}
-use Rattle.ann_lattice.specs.Assign.{Assignment, at}
+use Rattle.ann_lattice.specs.Assign.{Assignment, Grown, begin, at, Free}
 use Rattle.ann_laws.specs.Rows.{HasClasses}
+use Rattle.ann_laws.proofs.Pairs.{no}
+use Rattle.ann_rules.specs.Rules.{rules}
 use Rattle.ann_grown.specs.Partial as partial
-use Rattle.ann_grown.proofs.Meeting.{none_free}
-use Rattle.ann_grown.proofs.Naming.{partial_start, keeps_named}
-use Rattle.ann_needs.specs.View.{assignment, whole}
+use Rattle.ann_grown.proofs.Meeting.{grown_cells, partial_grown, partial_first, none_free}
+use Rattle.ann_grown.proofs.Naming.{partial_named, free_named}
+use Rattle.ann_meets.specs.Steps.{spots_in, FirstAt, Stopped}
+use Rattle.ann_meets.specs.declared.stop.Stop.{Stop}
+use Rattle.ann_states.specs.Marked.{AreSpots}
+use Rattle.ann_shown.specs.Told.{IsTold, IsMet}
+use Rattle.ann_shown.specs.declared.told.Told.{Told}
+use Rattle.ann_shown.proofs.Rowing.{of_row}
+use Rattle.ann_needs.specs.View.{nowhere, whole}
 use Rattle.ann_needs.specs.declared.state.State.{State}
 use Rattle.ann_layout.specs.Layout.{planned}
 use Rattle.ann_layout.specs.declared.layout.Planned.{Planned}
-use Rattle.ann_places.specs.Spots.{spots, start}
+use Rattle.ann_places.specs.Spots.{among, spot_cells, spots, start}
 use Rattle.ann_places.proofs.Spotting.{is_placed, alone_table}
 use Rattle.ann_settled.specs.Settled as spec
+use Rattle.ann_settled.specs.declared.settle.Unsettled.{Unsettled}
+use Rattle.ann_settled.specs.declared.settle.Unsettled.TheVariants as unsettled
 
 pub basis : (p : Program) (gs : Graphs) (t : Tables) → HasClasses t → 0 < length p.sites → spec.Basis p (planned p gs t)
 basis p gs t classes lt = record { classes = classes; placed = is_placed p gs t; table = alone_table p.sites lt }
 
--- ---- growing
+-- ---- marks
 
-pub begun : (p : Program) (q : Planned) (s t : State) → assignment s ≡ spec.begin p q → spec.Keeps q s t → spec.IsGrown p q t
-begun p q s t e keeps b =
-    keeps (spots q.plan) (spec.begin p q) b
-    (subst (λ a. partial.IsPartial (whole q.plan) (spots q.plan) (spec.begin p q) a) (sym e) (partial_start (whole q.plan) (spots q.plan) (spec.begin p q) b.table))
+or_first : (a b : Bool) → a ≡ true → (a || b) ≡ true
+or_first true b e = refl
+or_first false b e = absurd (no e)
 
-pub led : (q : Planned) (s t u : State) → spec.Keeps q s t → assignment u ≡ partial.with_leaders (assignment t) → spec.Keeps q s u
-led q s t u keeps e spots start basis h =
-    subst (λ a. partial.IsPartial (whole q.plan) spots start a) (sym e) (keeps_named (whole q.plan) (assignment t) spots start basis (keeps spots start basis h))
+or_second : (a b c : Bool) → (b ≡ true → c ≡ true) → (a || b) ≡ true → (a || c) ≡ true
+or_second true b c f e = refl
+or_second false b c f e = f e
 
-pub grown_on : (p : Program) (q : Planned) (s t : State) → spec.IsGrown p q s → spec.Keeps q s t → spec.IsGrown p q t
-grown_on p q s t g keeps b = keeps (spots q.plan) (spec.begin p q) b (g b)
+within_or_past : (c n : ℕ) → (c < n) ⊎ (n ≤ c)
+within_or_past c n = grind arith
 
-pub none_left : (p : Program) (q : Planned) (s : State) (c : ℕ) → spec.IsGrown p q s → (spots q.plan c ≡ true) × (is_clash (at (assignment s) c) ≡ true) → spec.NoneFree p q
-none_left p q s c g h b = none_free (whole q.plan) (spots q.plan) (spec.begin p q) (assignment s) (g b) c h.0 h.1
+empty_cell : (n c : ℕ) → get_or (replicate n Nothing) c Nothing ≡ Nothing
+empty_cell zero c = refl
+empty_cell (suc n) zero = refl
+empty_cell (suc n) (suc c) = empty_cell n c
+
+module _ (q : Planned) (marks : List Bool) (h : AreSpots q.plan q.cells marks) where
+  spot_on : (c : ℕ) → spots_in marks c ≡ true → spots q.plan c ≡ true
+  spot_on c e = or_second (c == nowhere) (get_or marks c false) (among c (spot_cells q.plan)) (h.only c) e
+
+  free_on : (a : Assignment) → length a.cells ≡ q.cells → Free (spots_in marks) a → Free (spots q.plan) a
+  free_on a n free c e = by_place (within_or_past c q.cells)
+    where
+      by_place : (c < q.cells) ⊎ (q.cells ≤ c) → is_clash (at a c) ≡ false
+      by_place (inl lt) = free c (or_second (c == nowhere) (among c (spot_cells q.plan)) (get_or marks c false) (h.each c lt) e)
+      by_place (inr le) = ap is_clash (get_or_past a.cells c Nothing (omega (arith, le, n)))
+
+-- ---- the beginning
+
+module _ (p : Program) (q : Planned) where
+  begin_free : (free : ℕ → Bool) → Free free (spec.begin p q)
+  begin_free free c e = ap is_clash (empty_cell q.cells c)
+
+  begins : (free : ℕ → Bool) → partial.IsGrown (whole q.plan) free (spec.begin p q) (spec.begin p q)
+  begins free = record { grown = begin; free = begin_free free }
+
+  begin_cells : length (spec.begin p q).cells ≡ q.cells
+  begin_cells = length-replicate q.cells Nothing
+
+  cells_there : (a : Assignment) → Grown q.plan.classes.classes (rules (whole q.plan)) (spec.begin p q) a → length a.cells ≡ q.cells
+  cells_there a g = grown_cells (whole q.plan) (spec.begin p q) a g ∙ begin_cells
+
+-- ---- the end
+
+module _ (p : Program) (q : Planned) (marks : List Bool) (h : AreSpots q.plan q.cells marks) (a : Assignment) (is : a ≡ spec.begin p q) where
+  pub settled : (s : State) → spec.Settles q (spots_in marks) a s → spec.Ends p q (Ok s)
+  settled s f =
+      let g = f (spec.begin p q) (subst (partial.IsGrown (whole q.plan) (spots_in marks) (spec.begin p q)) (sym is) (begins p q (spots_in marks))) in (
+        record {
+          complete = g.named.all.complete;
+          closed = g.named.all.closed;
+          free = subst (Free (spots q.plan)) (sym g.named.named)
+              (free_named (spots q.plan) g.grown (free_on q marks h g.grown (cells_there p q g.grown g.is_grown.grown) g.is_grown.free));
+        },
+        λ b. subst (partial.IsPartial (whole q.plan) (spots q.plan) (spec.begin p q)) (sym g.named.named)
+            (partial_named (whole q.plan) (spots q.plan) (spec.begin p q) g.grown (partial_grown (whole q.plan) (spots q.plan) (spec.begin p q) g.grown b g.is_grown.grown)),
+      )
+
+  first_at : (b : Assignment) (c : ℕ) → partial.IsFirst (whole q.plan) (spots_in marks) (spec.begin p q) b c → partial.IsFirst (whole q.plan) (spots q.plan) (spec.begin p q) b c
+  first_at b c f = record {
+    before = f.before;
+    grown = record { grown = f.grown.grown; free = free_on q marks h f.before (cells_there p q f.before f.grown.grown) f.grown.free };
+    rule = f.rule;
+    step = f.step;
+    spot = spot_on q marks h c f.spot;
+    clash = f.clash;
+  }
+
+  met_at : (b : Assignment) (c : ℕ) (t : Told) → partial.IsFirst (whole q.plan) (spots q.plan) (spec.begin p q) b c → IsTold p (whole q.plan) b c t
+      → spec.NoneFree p q × IsMet p q.plan (spec.begin p q) t
+  met_at b c t f told = (
+    λ basis. none_free (whole q.plan) (spots q.plan) (spec.begin p q) b (partial_first (whole q.plan) (spots q.plan) (spec.begin p q) b c basis f) c f.spot f.clash,
+    record { cell = c; after = b; first = f; told = told; row = of_row (whole q.plan) (spots q.plan) (spec.begin p q) b c f },
+  )
+
+  pub stopped : (b : Assignment) (e : Stop) (u : Unsettled) → Stopped (whole q.plan) (spots_in marks) a b e → spec.Tells p q b e u → spec.Ends p q (Err u)
+  stopped b e unsettled.NoMem f t = tt
+  stopped b e (unsettled.Conflict told) f t =
+      let at_stop : FirstAt (whole q.plan) (spots_in marks) (spec.begin p q) b e =
+      f (spec.begin p q) (subst (partial.IsGrown (whole q.plan) (spots_in marks) (spec.begin p q)) (sym is) (begins p q (spots_in marks))) in
+      met_at b t.0 told (first_at b t.0 (subst (FirstAt (whole q.plan) (spots_in marks) (spec.begin p q) b) t.1.0 at_stop)) t.1.1
+
+-- ---- one sweep more
+
+pub settles_by : (q : Planned) (free : ℕ → Bool) (a b c : Assignment) (s : State) → partial.Keeps (whole q.plan) free a b → partial.Keeps (whole q.plan) free b c → spec.IsNamed q c s → spec.Settles q free a s
+settles_by q free a b c s f g named start h = record { grown = c; is_grown = g start (f start h); named = named }

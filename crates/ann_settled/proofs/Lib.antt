@@ -1,2 +1,3 @@
 -- Lemmas for the code.
 pub mod Ending
+pub mod Nodes

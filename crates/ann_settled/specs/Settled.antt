@@ -1,12 +1,10 @@
 -- The least annotation that is closed under all that its program's graphs ask and free of conflict.
-use Rattle.std.specs.Prelude.{◌≡◌, ◌<◌, ◌==◌, ◌&&◌, ℕ, Bool, true, List, length, Result, Ok, Err}
+use Rattle.std.specs.Prelude.{◌≡◌, ◌<◌, ◌==◌, ◌&&◌, ℕ, Bool, true, length, Result, Ok, Err}
 use Rattle.rpy_tree.specs.declared.program.Program.{Program}
 use Rattle.flow_graph.specs.declared.graph.Graphs.{Graphs}
 use Rattle.class_desc.specs.Tables.{Tables}
-use Rattle.ann_element.specs.declared.element.Element.{Element}
 use Rattle.ann_element.specs.declared.annotation.Annotation.{Annotation}
-use Rattle.ann_lattice.specs.Join.{is_clash}
-use Rattle.ann_lattice.specs.Assign.{Assignment, at, Closed, Free, IsLeast}
+use Rattle.ann_lattice.specs.Assign.{Assignment, Closed, Free, IsLeast}
 use Rattle.ann_laws.specs.Rows.{HasClasses}
 use Rattle.ann_rules.specs.Rules.{rules}
 use Rattle.ann_grown.specs.Partial as partial
@@ -16,10 +14,12 @@ use Rattle.ann_layout.specs.Layout.{planned}
 use Rattle.ann_layout.specs.declared.layout.Planned.{Planned}
 use Rattle.ann_places.specs.Spots.{spots, empty, start}
 use Rattle.ann_settled.specs.Read.{annotation}
+use Rattle.ann_settled.specs.Nodes.{AreNodes}
 use Rattle.ann_settled.specs.declared.settle.Unsettled.{Unsettled}
 use Rattle.ann_settled.specs.declared.settle.Unsettled.TheVariants as unsettled
-use Rattle.ann_settled.specs.declared.settle.Verdict.{Verdict}
-use Rattle.ann_settled.specs.declared.settle.Verdict.TheVariants as verdict
+use Rattle.ann_meets.specs.declared.stop.Stop.{Stop}
+use Rattle.ann_meets.specs.declared.stop.Stop.TheVariants as stop
+use Rattle.ann_shown.specs.Told.{IsTold, IsMet}
 
 -- each cell and each mark is there
 abbrev pub is_complete : Planned → State → Bool
@@ -39,35 +39,53 @@ begin p q = empty q.cells q.marks p.sites
 abbrev pub Basis : Program → Planned → Type 0
 Basis p q = partial.Basis (whole q.plan) (spots q.plan) (begin p q)
 
-abbrev pub Keeps : Planned → State → State → Type 0
-Keeps q s t = partial.Keeps (whole q.plan) (assignment s) (assignment t)
-
 abbrev pub IsGrown : Program → Planned → State → Type 0
 IsGrown p q s = Basis p q → partial.IsPartial (whole q.plan) (spots q.plan) (begin p q) (assignment s)
-
-abbrev pub Judged : Planned → State → Verdict → Type 0
-Judged q s verdict.Settled = IsClosed q s
-Judged q s (verdict.Conflict c) = (spots q.plan c ≡ true) × (is_clash (at (assignment s) c) ≡ true)
-Judged q s verdict.Open = Unit {0}
 
 abbrev pub NoneFree : Program → Planned → Type 0
 NoneFree p q = Basis p q → partial.NoneFree (whole q.plan) (spots q.plan) (begin p q)
 
--- closed and free, and below each that is; or none is
+-- all that the rules ask holds, in cells and marks that are all there
+pub record IsAllThere (q : Planned) (s : State) : Type 0 where
+  pub complete : is_complete q s ≡ true
+  pub closed : Closed q.plan.classes.classes (rules (whole q.plan)) (assignment s)
+
+-- so it is where the elements are written with the least site of each class
+pub record IsNamed (q : Planned) (a : Assignment) (s : State) : Type 0 where
+  pub named : assignment s ≡ partial.with_leaders a
+  pub all : IsAllThere q s
+
+-- what grew without conflict is closed, once it is written so
+pub record IsSettling (q : Planned) (free : ℕ → Bool) (start : Assignment) (s : State) : Type 0 where
+  pub grown : Assignment
+  pub is_grown : partial.IsGrown (whole q.plan) free start grown
+  pub named : IsNamed q grown s
+
+-- what grew to a without conflict is settled in the state
+abbrev pub Settles : Planned → (ℕ → Bool) → Assignment → State → Type 0
+Settles q free a s = (start : Assignment) → partial.IsGrown (whole q.plan) free start a → IsSettling q free start s
+
+-- the conflict in the cell at which growing stopped is told
+abbrev pub Tells : Program → Planned → Assignment → Stop → Unsettled → Type 0
+Tells p q a e (unsettled.Conflict t) = (c : ℕ) × ((e ≡ stop.Conflict c) × IsTold p (whole q.plan) a c t)
+Tells p q a e unsettled.NoMem = Unit {0}
+
+-- closed and free, and below each that is; or none is, and growing meets the conflict that is told
 abbrev pub Ends : Program → Planned → Result State Unsettled → Type 0
 Ends p q (Ok s) = IsClosed q s × IsGrown p q s
-Ends p q (Err (unsettled.Conflict n)) = NoneFree p q
+Ends p q (Err (unsettled.Conflict t)) = NoneFree p q × IsMet p q.plan (begin p q) t
 Ends p q (Err unsettled.NoMem) = Unit {0}
 
 -- ---- the annotation
 
--- the annotation is what stands in these cells and marks, one for each part of the program
+-- the annotation is what stands in these cells and marks, one for each part of the program; a node has the element of the first operation that
+-- gives its value and has one
 abbrev pub IsRead : Planned → State → Annotation → Type 0
-IsRead q s n = n ≡ annotation s q.plan.classes n.nodes q.plan.places
+IsRead q s n = (n ≡ annotation s q.plan.classes n.nodes q.plan.places) × AreNodes q.plan s n.nodes
 
 abbrev pub Closes : Program → Planned → Result Annotation Unsettled → Type 0
 Closes p q (Ok n) = (s : State) × (IsRead q s n × (IsClosed q s × IsGrown p q s))
-Closes p q (Err (unsettled.Conflict n)) = NoneFree p q
+Closes p q (Err (unsettled.Conflict t)) = NoneFree p q × IsMet p q.plan (begin p q) t
 Closes p q (Err unsettled.NoMem) = Unit {0}
 
 -- The annotation is what stands in these cells and marks, one for each part of the program; all that the rules of its graphs ask holds there; no

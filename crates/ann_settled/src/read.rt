@@ -10,7 +10,8 @@ use rpy_base::{NoMem, Seq, Text};
 use rpy_tree::ClassId;
 use std::alloc::Global;
 
-fn cell_of(alloc: Global, cells: &[Element], place: usize) -> Result<Element, NoMem>
+/// The element of a cell.
+pub fn cell_of(alloc: Global, cells: &[Element], place: usize) -> Result<Element, NoMem>
     ensures { IfOk result (λ e. e ≡ spec.element_at cells.now place) }
 {
     match cells.get(place) {

@@ -1,7 +1,7 @@
-// The least annotation of a program.
-ghost use Rattle.std.specs.Prelude.{◌≡◌, true, IfOk, OnOk};
-ghost use Rattle.ann_needs.specs.View.{assignment};
-ghost use Rattle.ann_places.specs.Spots.{empty};
+// The least annotation of a program, or the first conflict that growing meets.
+ghost use Rattle.std.specs.Prelude.{◌≡◌, true, false, IfErr, IfOk, OnOk};
+ghost use Rattle.ann_needs.specs.View.{assignment, whole};
+ghost use Rattle.ann_meets.specs.Steps.{spots_in, Stopped};
 ghost use Rattle.ann_settled.specs.Settled as spec;
 
 use crate::node::nodes_of;
@@ -9,19 +9,21 @@ use crate::read::read;
 use ann_element::Annotation;
 use ann_holding::all_holds;
 use ann_layout::Planned;
-use ann_needs::{Plan, State};
-use ann_states::{find_clash, nothing_reached, write_leaders};
+use ann_meets::Stop;
+use ann_needs::State;
+use ann_shown::{Told, tell};
+use ann_states::{named_cells, nothing_reached, spots_of};
 use ann_swept::{Work, begin, sweep, wake_all};
-use flow_graph::{Block, Op};
-use rpy_base::NoMem;
-use rpy_tree::{NodeId, Program};
+use rpy_base::{NoMem, Seq};
+use rpy_tree::Program;
 use std::alloc::Global;
+use std::mem;
 
-/// Why there is no annotation: none is closed and free of conflict, and growing met one at this node; or
+/// Why there is no annotation: none is closed and free of conflict, and growing met this conflict first; or
 /// there was no memory.
-#[derive(Clone, Copy, Debug, PartialEq, Eq)]
+#[derive(Drop)]
 pub enum Unsettled {
-    Conflict(NodeId),
+    Conflict(Told),
     NoMem,
 }
 
@@ -36,47 +38,7 @@ impl From<NoMem> for Unsettled {
     }
 }
 
-// ---- conflicts
-
-fn op_at(p: &Plan, cell: usize, g: usize, ops: &[Op]) -> Option<NodeId> {
-    for op in ops {
-        if p.variable(g, op.result) == cell {
-            return Some(op.node);
-        }
-    }
-    None
-}
-
-fn block_at(p: &Plan, cell: usize, g: usize, blocks: &[Block]) -> Option<NodeId> {
-    for block in blocks {
-        match op_at(p, cell, g, block.ops.as_slice()) {
-            None => {}
-            Some(node) => return Some(node),
-        }
-    }
-    None
-}
-
-// The node of the operation whose result stands in a cell, else the first node.
-fn node_at(p: &Plan, cell: usize) -> NodeId {
-    for (g, graph) in p.graphs.graphs.as_slice().iter().enumerate() {
-        match block_at(p, cell, g, graph.blocks.as_slice()) {
-            None => {}
-            Some(node) => return node,
-        }
-    }
-    0
-}
-
 // ---- the end of growing
-
-/// What a state is: closed and free, in conflict at a cell where none may be, or neither.
-#[derive(Clone, Copy, Debug, PartialEq, Eq)]
-pub enum Verdict {
-    Settled,
-    Conflict(usize),
-    Open,
-}
 
 // Whether each cell and each mark is there.
 fn is_complete(planned: &Planned, s: &State) -> bool
@@ -85,63 +47,88 @@ fn is_complete(planned: &Planned, s: &State) -> bool
     s.cells.len() == planned.cells && s.marks.len() == planned.marks
 }
 
-fn judge(alloc: Global, planned: &Planned, s: &State) -> Result<Verdict, NoMem>
-    ensures { IfOk result (λ verdict. spec.Judged planned.now s.now verdict) }
+fn is_closed(alloc: Global, planned: &Planned, s: &State) -> Result<bool, NoMem>
+    ensures { IfOk result (λ closed. closed ≡ true → spec.IsAllThere planned.now s.now) }
 {
-    match find_clash(s, &planned.plan) {
-        Some(cell) => Ok(Verdict::Conflict(cell)),
-        None => {
-            if !is_complete(planned, s) {
-                return Ok(Verdict::Open);
-            }
-            if all_holds(alloc, &planned.plan, s)? {
-                Ok(Verdict::Settled)
-            } else {
-                Ok(Verdict::Open)
-            }
-        }
+    if is_complete(planned, s) {
+        all_holds(alloc, &planned.plan, s)
+    } else {
+        Ok(false)
     }
 }
 
-// Grows until nothing waits, and writes each element with the least sites.
-fn grow(alloc: Global, planned: &Planned, s: &mut State, work: &mut Work) -> Result<(), NoMem>
-    ensures { OnOk result (spec.Keeps planned.now s.old s.new) }
+// Writes each element with the least sites. Where all that is asked does not hold so, the elements are left
+// as they were.
+fn is_settled(alloc: Global, planned: &Planned, s: &mut State) -> Result<bool, NoMem>
+    ensures settled { IfOk result (λ settled. settled ≡ true → spec.IsNamed planned.now (assignment s.old) s.new) }
+    ensures open { IfOk result (λ settled. settled ≡ false → assignment s.new ≡ assignment s.old) }
 {
-    sweep(alloc, &planned.plan, s, work)?;
-    write_leaders(alloc, s)
+    let named = named_cells(alloc, s)?;
+    let cells = mem::replace(&mut s.cells, named);
+    if is_closed(alloc, planned, s)? {
+        return Ok(true);
+    }
+    s.cells = cells;
+    Ok(false)
 }
 
-fn start(
+// Steps until all that is asked holds, or to the first conflict.
+#[tactic(auto, using(crate::proofs::Ending::settles_by))]
+fn grow(
+    alloc: Global,
+    planned: &Planned,
+    spots: &Seq<bool>,
+    s: &mut State,
+    work: &mut Work,
+) -> Result<(), Stop>
+    ensures settled { OnOk result (spec.Settles planned.now (spots_in spots.now) (assignment s.old) s.new) }
+    ensures first { IfErr result (Stopped (whole planned.now.plan) (spots_in spots.now) (assignment s.old) (assignment s.new)) }
+{
+    let plan = &planned.plan;
+    begin(alloc, plan, spots, s, work)?;
+    for _pass in 0..u64::MAX {
+        sweep(alloc, plan, spots, s, work)?;
+        if is_settled(alloc, planned, s)? {
+            return Ok(());
+        }
+        wake_all(work, plan)?;
+    }
+    Err(Stop::NoMem)
+}
+
+// Why growing stopped, as it is told.
+fn why_stopped(
     alloc: Global,
     program: &Program,
     planned: &Planned,
-    work: &mut Work,
-) -> Result<State, NoMem>
-    ensures { IfOk result (λ s. spec.IsGrown program.now planned.now s) }
+    s: &State,
+    stop: Stop,
+) -> Unsettled
+    ensures { spec.Tells program.now planned.now (assignment s.now) stop result }
 {
-    let mut s = nothing_reached(alloc, program, planned.cells, planned.marks)?;
-    begin(alloc, &planned.plan, &mut s, work)?;
-    Ok(s)
+    match stop {
+        Stop::NoMem => Unsettled::NoMem,
+        Stop::Conflict(cell) => match tell(alloc, program, &planned.plan, s, cell) {
+            Ok(Some(told)) => Unsettled::Conflict(told),
+            _ => Unsettled::NoMem,
+        },
+    }
 }
 
+#[tactic(auto, using(crate::proofs::Ending::stopped))]
 fn settle(alloc: Global, program: &Program, planned: &Planned) -> Result<State, Unsettled>
     ensures { spec.Ends program.now planned.now result }
 {
+    let spots = spots_of(alloc, &planned.plan, planned.cells)?;
     let mut work = Work::new(alloc, &planned.plan, planned.cells, planned.marks)?;
-    let mut s = start(alloc, program, planned, &mut work)?;
-    for _pass in 0..u64::MAX {
-        grow(alloc, planned, &mut s, &mut work)?;
-        match judge(alloc, planned, &s)? {
-            Verdict::Settled => return Ok(s),
-            Verdict::Conflict(cell) => {
-                return Err(Unsettled::Conflict(node_at(&planned.plan, cell)));
-            }
-            Verdict::Open => wake_all(&mut work, &planned.plan)?,
-        }
+    let mut s = nothing_reached(alloc, program, planned.cells, planned.marks)?;
+    match grow(alloc, planned, &spots, &mut s, &mut work) {
+        Ok(()) => Ok(s),
+        Err(stop) => Err(why_stopped(alloc, program, planned, &s, stop)),
     }
-    Err(Unsettled::NoMem)
 }
 
+#[tactic(auto, using(crate::proofs::Nodes::read_by))]
 fn read_out(alloc: Global, planned: &Planned, s: State) -> Result<Annotation, NoMem>
     ensures { IfOk result (λ n. spec.IsRead planned.now s n) }
 {
@@ -151,7 +138,7 @@ fn read_out(alloc: Global, planned: &Planned, s: State) -> Result<Annotation, No
 }
 
 /// The least annotation that is closed under all that the graphs of a planned program ask and free of
-/// conflict. Or there is none.
+/// conflict. Or there is none, with the first conflict that growing meets.
 pub fn close(alloc: Global, program: &Program, planned: &Planned) -> Result<Annotation, Unsettled>
     ensures { spec.Closes program.now planned.now result }
 {

@@ -1,4 +1,3 @@
 -- Lemmas for the code.
-pub mod Cells
-pub mod Told
+pub mod Marks
 pub mod Items

@@ -1,11 +1,11 @@
-//! The state in which nothing is reached, states written with least sites, and conflicts where none may
-//! stand.
+//! The state in which nothing is reached, states written with least sites, and the cells in which no
+//! conflict may stand.
 #![tactic(auto)]
 
-mod clashing;
+mod marking;
 mod naming;
 mod starting;
 
-pub use clashing::find_clash;
-pub use naming::write_leaders;
+pub use marking::spots_of;
+pub use naming::{all_named, named_cells};
 pub use starting::nothing_reached;

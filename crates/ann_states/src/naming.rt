@@ -1,5 +1,5 @@
 // States whose elements are written with the least site of each class.
-ghost use Rattle.std.specs.Prelude.{◌≡◌, map, IfOk, OnOk};
+ghost use Rattle.std.specs.Prelude.{◌≡◌, map, IfOk};
 ghost use Rattle.ann_lattice.specs.Shape.{shape, shapes, Tup};
 ghost use Rattle.ann_lattice.specs.Laws as laws;
 ghost use Rattle.ann_needs.specs.View.{assignment};
@@ -50,8 +50,9 @@ fn named_tuple(alloc: Global, same: &Sites, parts: &[Element]) -> Result<Element
     Ok(tuple(all))
 }
 
+/// Elements, each written with the least site of each class.
 #[cycle(named)]
-fn all_named(alloc: Global, same: &Sites, parts: &[Element]) -> Result<Seq<Element>, NoMem>
+pub fn all_named(alloc: Global, same: &Sites, parts: &[Element]) -> Result<Seq<Element>, NoMem>
     ensures { IfOk result (λ ns. map shape ns ≡ map (laws.named same.now) (map shape parts.now)) }
 {
     let mut all = Seq::new(alloc);
@@ -61,11 +62,9 @@ fn all_named(alloc: Global, same: &Sites, parts: &[Element]) -> Result<Seq<Eleme
     Ok(all)
 }
 
-/// Each element is written with the least site of each class.
-pub fn write_leaders(alloc: Global, s: &mut State) -> Result<(), NoMem>
-    ensures { OnOk result (assignment s.new ≡ with_leaders (assignment s.old)) }
+/// The cells of a state, each element written with the least site of each class.
+pub fn named_cells(alloc: Global, s: &State) -> Result<Seq<Element>, NoMem>
+    ensures { IfOk result (λ cells. map shape cells ≡ (with_leaders (assignment s.now)).cells) }
 {
-    let cells = all_named(alloc, &s.same, s.cells.as_slice())?;
-    s.cells = cells;
-    Ok(())
+    all_named(alloc, &s.same, s.cells.as_slice())
 }

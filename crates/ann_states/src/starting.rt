@@ -26,7 +26,7 @@ fn unreached(alloc: Global, count: usize) -> Result<Seq<Element>, NoMem>
     Ok(cells)
 }
 
-fn unset(alloc: Global, count: usize) -> Result<Seq<bool>, NoMem>
+pub fn unset(alloc: Global, count: usize) -> Result<Seq<bool>, NoMem>
     ensures { IfOk result (λ marks. marks ≡ replicate count false) }
 {
     let mut marks = Seq::new(alloc);

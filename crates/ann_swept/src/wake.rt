@@ -1,7 +1,7 @@
 // What has to be gone through again. Nothing rests on it: whether all that is asked holds is looked up at
 // the end.
 use crate::reader::{Place, Readers};
-use ann_element::{Element, is_conflict};
+use ann_element::Element;
 use ann_meets::News;
 use ann_needs::{Plan, State};
 use flow_graph::{Block, Graph, Op};
@@ -28,8 +28,6 @@ enum Concern {
 pub struct Work {
     of_cells: Seq<Concern>,
     of_marks: Seq<Concern>,
-    /// Whether no conflict may stand in a cell.
-    spots: Seq<bool>,
     /// For each graph whether some node has several results.
     several: Seq<bool>,
     pub starts: Seq<FunId>,
@@ -39,8 +37,6 @@ pub struct Work {
     pub untied: Seq<bool>,
     /// Whether classes of sites may have become one.
     pub united: bool,
-    /// Whether a conflict stands where none may.
-    pub clash: bool,
     pub readers: Readers,
     /// The blocks that call methods of instances.
     pub callers: Seq<Place>,
@@ -99,7 +95,6 @@ fn concern_op(work: &mut Work, p: &Plan, place: Place, op: &Op) {
     let loose = p.loose(place.graph, op.result);
     put(&mut work.of_cells, cell, Concern::Result(place));
     put(&mut work.of_marks, loose, Concern::Result(place));
-    mark(&mut work.spots, cell, true);
 }
 
 fn concern_ops(work: &mut Work, p: &Plan, place: Place, ops: &[Op]) {
@@ -223,14 +218,6 @@ fn shared_of(p: &Plan, cells: usize) -> usize {
     shared
 }
 
-fn spots_of(alloc: Global, shared: usize, cells: usize) -> Result<Seq<bool>, NoMem> {
-    let mut list = Seq::new(alloc);
-    for cell in 0..cells {
-        list.push(cell < shared)?;
-    }
-    Ok(list)
-}
-
 impl Work {
     /// Nothing waits.
     pub fn new(alloc: Global, p: &Plan, cells: usize, marks: usize) -> Result<Work, NoMem> {
@@ -239,7 +226,6 @@ impl Work {
         let mut work = Work {
             of_cells: nobody(alloc, cells)?,
             of_marks: nobody(alloc, marks)?,
-            spots: spots_of(alloc, shared, cells)?,
             several: several_of(alloc, p)?,
             starts: Seq::new(alloc),
             contents: Seq::new(alloc),
@@ -247,7 +233,6 @@ impl Work {
             waiting: unset(alloc, graphs, false)?,
             untied: unset(alloc, graphs, false)?,
             united: false,
-            clash: false,
             readers: Readers::new(alloc, shared)?,
             callers: Seq::new(alloc),
         };
@@ -313,17 +298,10 @@ impl Work {
         Ok(())
     }
 
-    fn note(&mut self, cell: usize, e: &Element) {
-        self.united = self.united || has_site(e);
-        if is_conflict(e) && is_set(&self.spots, cell) {
-            self.clash = true;
-        }
-    }
-
     fn take_cell(&mut self, p: &Plan, s: &State, cell: usize, tying: bool) -> Result<(), NoMem> {
         match s.cells.get(cell) {
             None => {}
-            Some(e) => self.note(cell, e),
+            Some(e) => self.united = self.united || has_site(e),
         }
         self.wake_readers(p, cell);
         match self.of_cells.get(cell) {

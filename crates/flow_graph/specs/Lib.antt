@@ -1,2 +1,3 @@
 pub mod GraphText
+pub mod Values
 pub mod Whole

@@ -18,8 +18,8 @@ use Rattle.flow_stands.specs.Stands as stands
 use Rattle.flow_space.specs.declared.code.Hand.{Hand}
 use Rattle.flow_space.specs.declared.code.Scope.{Scope}
 use Rattle.flow_space.specs.declared.statement.Ways.{Ways}
-use Rattle.flow_space.specs.Programs.{value_in}
-use Rattle.flow_space.specs.Trees.{program_of, function_of, block_of}
+use Rattle.resolved_meaning.specs.Programs.{value_in}
+use Rattle.resolved_meaning.specs.Trees.{program_of, function_of, block_of}
 use Rattle.flow_space.specs.Placed.{Part, Headed, ShapeAt, BlockAt, GraphAt, GraphsAt, FlowAt, hands_of}
 use Rattle.flow_space.proofs.Parts.{part_then, part_patch}
 

@@ -1,5 +1,4 @@
 -- Lemmas.
-pub mod Bases
 pub mod Counted
 pub mod Graphs
 pub mod Hands
@@ -7,4 +6,3 @@ pub mod Items
 pub mod Layers
 pub mod Narrows
 pub mod Parts
-pub mod Sites

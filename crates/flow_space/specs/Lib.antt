@@ -1,3 +1,1 @@
 pub mod Placed
-pub mod Programs
-pub mod Trees

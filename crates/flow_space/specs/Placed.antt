@@ -11,6 +11,9 @@ use Rattle.rpy_resolved.specs.declared.tree.Resolved.{Resolved}
 use Rattle.rpy_resolved.specs.declared.tree.Stmt.{Stmt}
 use Rattle.rpy_resolved.specs.declared.tree.Subject.{Subject}
 use Rattle.rpy_resolved.specs.declared.tree.Target.{Target}
+use Rattle.resolved_laws.specs.Meant.{meant_by}
+use Rattle.resolved_laws.specs.Uncopied.{uncopied}
+use Rattle.resolver_laws.specs.Listing.{HasNoInnerClasses}
 use Rattle.flow_graph.specs.declared.graph.Block.{Block}
 use Rattle.flow_graph.specs.declared.graph.Graph.{Graph}
 use Rattle.flow_graph.specs.declared.graph.Graphs.{Graphs}
@@ -19,7 +22,7 @@ use Rattle.flow_stands.specs.Places.{Aim, Hand, Scope, Ways, Jump, Shape, Go, Fo
 use Rattle.flow_stands.specs.Stands as stands
 use Rattle.flow_stands.specs.Stands.{Branch, count}
 use Rattle.rpy_resolved.specs.declared.tree.Function.{Function}
-use Rattle.flow_space.specs.Trees.{program_of, function_of, expr_of, exprs_of, pairs_of, subject_of, target_of, targets_of, condition_of, stmt_of, block_of, clauses_of}
+use Rattle.resolved_meaning.specs.Trees.{program_of, function_of, expr_of, exprs_of, pairs_of, subject_of, target_of, targets_of, condition_of, stmt_of, block_of, clauses_of}
 use Rattle.flow_space.specs.declared.code.Aim as code_aim
 use Rattle.flow_space.specs.declared.code.Hand as code_hand
 use Rattle.flow_space.specs.declared.code.Jump as code_jump
@@ -301,6 +304,10 @@ GraphsAt program functions graphs = (i : ℕ) (function : Function) (graph : Gra
 abbrev pub FlowAt : Resolved → Graphs → Type 0
 FlowAt program gs = stands.Stand (program_of program) gs false
 
--- they are those of a program with bound names that has as many functions
-abbrev pub StandFor : Program → Graphs → Type 0
-StandFor p gs = (r : Resolved) × (length r.functions ≡ function_count p.modules) × FlowAt r gs
+-- they are those of a program with bound names that has as many functions. Without the copies of checked operations it is the program that
+-- the meaning makes of the modules, where no class stands within a class and each function of the modules is one of the program's
+pub record StandFor (p : Program) (gs : Graphs) : Type 0 where
+  pub resolved : Resolved
+  pub count : length resolved.functions ≡ function_count p.modules
+  pub meant : HasNoInnerClasses p.modules → function_count p.modules ≤ length p.functions → uncopied (program_of resolved) ≡ meant_by p
+  pub stand : FlowAt resolved gs

@@ -2,8 +2,8 @@
 ghost use Rattle.std.specs.Prelude.{◌≡◌, ◌==◌};
 ghost use Rattle.std.specs.List.{list_any};
 ghost use Rattle.rpy_meaning.specs.Classes as spec;
-ghost use Rattle.flow_space.specs.Programs as programs;
-ghost use Rattle.flow_space.specs.Trees.{clause_of, clauses_of, program_of};
+ghost use Rattle.resolved_meaning.specs.Programs as programs;
+ghost use Rattle.resolved_meaning.specs.Trees.{clause_of, clauses_of, program_of};
 
 use rpy_meaning::Covers;
 use rpy_resolved::{Clause, Resolved};
@@ -17,7 +17,7 @@ const VALUE_ERROR: ClassId = 8;
 
 const ATTRIBUTE_ERROR: ClassId = 9;
 
-#[tactic(auto, using(crate::proofs::Bases::class_there, crate::proofs::Bases::class_missing))]
+#[tactic(auto, using(resolved_meaning::proofs::Bases::class_there, resolved_meaning::proofs::Bases::class_missing))]
 fn base_of(program: &Resolved, class: ClassId) -> Option<ClassId>
     ensures { result ≡ spec.base_of (spec.class_at (programs.classes_in program.now) class) }
 {
@@ -28,7 +28,7 @@ fn base_of(program: &Resolved, class: ClassId) -> Option<ClassId>
 }
 
 // Whether a class is among so many of a line of bases.
-#[tactic(auto, using(crate::proofs::Bases::line_step))]
+#[tactic(auto, using(resolved_meaning::proofs::Bases::line_step))]
 fn is_in_line(program: &Resolved, levels: usize, class: Option<ClassId>, base: ClassId) -> bool
     ensures { result ≡ list_any (λ e. e == base) (spec.line_of (programs.classes_in program.now) levels class) }
 {
@@ -44,7 +44,7 @@ fn is_in_line(program: &Resolved, levels: usize, class: Option<ClassId>, base: C
 }
 
 /// Whether the first class is the second one or below it.
-#[tactic(auto, using(crate::proofs::Bases::class_count))]
+#[tactic(auto, using(resolved_meaning::proofs::Bases::class_count))]
 fn is_below(program: &Resolved, class: ClassId, base: ClassId) -> bool
     ensures { result ≡ spec.is_below (programs.classes_in program.now) class base }
 {
@@ -65,7 +65,7 @@ fn is_below_one(program: &Resolved, class: ClassId, bases: &[ClassId]) -> bool
 }
 
 // Whether a clause takes the exceptions of a class.
-#[tactic(auto, unfolding(crate::specs::Trees::program_of))]
+#[tactic(auto, unfolding(resolved_meaning::specs::Trees::program_of))]
 fn takes(program: &Resolved, clause: &Clause, class: ClassId) -> bool
     ensures { result ≡ spec.takes (program_of program.now).classes (clause_of program.now.sites clause.now).classes class }
 {

@@ -1,106 +1,24 @@
 // Expressions to blocks. What comes after a part is put first, so each block goes on to blocks with
 // known numbers. Where a part begins, the first variables of a block are the function's locals, and
 // those that enclosing parts hold stand behind them. A part's value is one more.
-ghost use Rattle.std.specs.Prelude.{◌≡◌, ◌≤◌, ◌+◌, ◌∷◌, ◌++◌, [], pos, IfOk};
+ghost use Rattle.std.specs.Prelude.{◌≡◌, ◌+◌, ◌∷◌, ◌++◌, [], pos, IfOk};
 ghost use Rattle.rpy_meaning.specs.declared.row.RowOp.TheVariants as row;
 ghost use Rattle.flow_stands.specs.Places.{range, first_and as on_first_and, Go};
 ghost use Rattle.flow_stands.specs.Stands as stands;
-ghost use Rattle.flow_space.specs.Placed.{Part, ShapeAt, ActsAt, MeetsAt, ExprAt, ExprsAt, ApplyAt, NotAt, LogicAt, TestAt, WayAt, TruthAt, AsksAt, SidesAt, DisplayAt, PairsAt, PairAt, SubjectAt, GatherAt, ComprehensionAt, BindAt, ItemAt, PartsAt, ItemsAt, NarrowedAt, IsBeside, AreArgs, branch_of, jump_of};
+ghost use Rattle.flow_space.specs.Placed.{Part, ShapeAt, ActsAt, ExprAt, ExprsAt, ApplyAt, NotAt, LogicAt, TestAt, WayAt, TruthAt, AsksAt, SidesAt, DisplayAt, PairsAt, PairAt, SubjectAt, GatherAt, ComprehensionAt, BindAt, ItemAt, PartsAt, ItemsAt, branch_of, jump_of};
 
-use crate::NEVER;
-use crate::code::{Act, Code, Jump, Scope, jump_and, jump_first, jump_stored, local_place, op_at};
+use crate::code::{Code, Jump, Scope, jump_and, jump_first, jump_stored, local_place, op_at};
 use crate::copy::copy_op;
-use crate::narrow::{Kind, Narrowing, Side, narrowed};
+use crate::narrow::{narrowed, needs_sides, put_narrowing};
+use crate::operation::{put_copy, put_last, put_leaf, put_meeting};
 use crate::places::{narrow, one, plus, range, three, two};
 use crate::walk::{Walk, put_advance, put_turn, step_of};
-use rpy_base::{NoMem, Own, Seq};
+use rpy_base::{NoMem, Own};
 use rpy_copies::copy_const;
 use rpy_meaning::RowOp;
 use rpy_resolved::{Expr, Subject, Target};
 use rpy_tree::{CmpOp, NodeId, SiteId};
 use std::alloc::Global;
-
-// Nothing follows what raises.
-fn onward(alloc: Global, op: &RowOp, norm: u64, m: usize, last: usize) -> Result<Jump, NoMem>
-    ensures { IfOk result (λ jump. jump_of jump ≡ stands.onward op.now norm m last) }
-{
-    match op {
-        RowOp::Raise => jump_first(alloc, NEVER, 0),
-        _ => jump_and(alloc, norm, m, last),
-    }
-}
-
-// An operation on the last of m + count variables, in whose place its result goes on.
-fn put_last(
-    alloc: Global,
-    code: &mut Code,
-    scope: &Scope,
-    of: Act,
-    m: usize,
-    count: usize,
-    norm: u64,
-) -> Result<u64, NoMem>
-    ensures { IfOk result (λ b. Part code.old.blocks code.new.blocks (ActsAt scope.now b of.op (range m count) (m + count) (stands.onward of.op norm m (m + count)))) }
-{
-    let args = range(alloc, m, count)?;
-    let last = plus(m, count)?;
-    let jump = onward(alloc, &of.op, norm, m, last)?;
-    code.put_op(alloc, scope, of, args, last, jump)
-}
-
-// An operation without operands.
-fn put_leaf(
-    alloc: Global,
-    code: &mut Code,
-    scope: &Scope,
-    of: Act,
-    m: usize,
-    norm: u64,
-) -> Result<u64, NoMem>
-    ensures { IfOk result (λ b. Part code.old.blocks code.new.blocks (ActsAt scope.now b of.op [] m (stands.onward of.op norm m m))) }
-{
-    put_last(alloc, code, scope, of, m, 0, norm)
-}
-
-// A copy of the variable at a place.
-fn put_copy(
-    alloc: Global,
-    code: &mut Code,
-    scope: &Scope,
-    node: NodeId,
-    place: usize,
-    m: usize,
-    norm: u64,
-) -> Result<u64, NoMem>
-    ensures { IfOk result (λ b. Part code.old.blocks code.new.blocks (ActsAt scope.now b row.Copy (place ∷ []) m (on_first_and norm m m))) }
-{
-    let args = one(alloc, place)?;
-    let jump = jump_and(alloc, norm, m, m)?;
-    code.put_op(alloc, scope, op_at(node, true, RowOp::Copy), args, m, jump)
-}
-
-// The meeting of the ways of `and` and `or`, and the end of a dict's display and of a comprehension: the
-// value is the last of m + 1 variables.
-fn put_meeting(
-    alloc: Global,
-    code: &mut Code,
-    scope: &Scope,
-    node: NodeId,
-    m: usize,
-    norm: u64,
-) -> Result<u64, NoMem>
-    ensures { IfOk result (λ b. Part code.old.blocks code.new.blocks (MeetsAt scope.now b m norm)) }
-{
-    put_last(
-        alloc,
-        code,
-        scope,
-        op_at(node, true, RowOp::Copy),
-        m,
-        1,
-        norm,
-    )
-}
 
 /// Blocks that evaluate an expression where m variables are there, and the first of them. They go on
 /// to `norm` with its value as one more variable.
@@ -386,90 +304,6 @@ fn put_branches(
         value: false,
     };
     put_simple(alloc, code, scope, e, node, m, yes, no)
-}
-
-// Whether what a test says needs a side of its comparison.
-fn needs_side(e: &Expr, truth: bool) -> bool {
-    match narrowed(e, truth) {
-        None => false,
-        Some(narrowing) => match narrowing.kind {
-            Kind::NonNegative(_) => true,
-            _ => false,
-        },
-    }
-}
-
-// Whether the two sides of a comparison are needed after it.
-fn needs_sides(e: &Expr) -> bool {
-    needs_side(e, true) || needs_side(e, false)
-}
-
-// The place of a side of a comparison whose left side is at m.
-fn side_place(m: usize, side: Side) -> Result<usize, NoMem>
-    ensures { IfOk result (λ place. m ≤ place) }
-{
-    match side {
-        Side::Left => Ok(m),
-        Side::Right => plus(m, 1),
-    }
-}
-
-// The local and a side of a comparison, which stands before its value.
-fn beside_args(
-    alloc: Global,
-    local: usize,
-    side: Side,
-    m: usize,
-    value: usize,
-) -> Result<Seq<usize>, NoMem>
-    ensures { IfOk result (λ args. IsBeside args local m value) }
-{
-    let place = side_place(m, side)?;
-    if place <= value {
-        two(alloc, local, place)
-    } else {
-        Err(NoMem)
-    }
-}
-
-fn narrowing_args(
-    alloc: Global,
-    local: usize,
-    kind: Kind,
-    m: usize,
-    value: usize,
-) -> Result<Seq<usize>, NoMem>
-    ensures { IfOk result (λ args. AreArgs kind args local m value) }
-{
-    match kind {
-        Kind::NonNegative(side) => beside_args(alloc, local, side, m, value),
-        Kind::DropNone => one(alloc, local),
-        Kind::OnlyNone => one(alloc, local),
-        Kind::FalseNone => one(alloc, local),
-        Kind::Lower(_) => one(alloc, local),
-    }
-}
-
-// A block in which the local is narrowed, where the value that was tested is at a place.
-fn put_narrowing(
-    alloc: Global,
-    code: &mut Code,
-    scope: &Scope,
-    node: NodeId,
-    narrowing: Narrowing,
-    m: usize,
-    value: usize,
-    to: u64,
-) -> Result<Jump, NoMem>
-    ensures { IfOk result (λ jump. Part code.old.blocks code.new.blocks (NarrowedAt scope.now narrowing m value to (jump_of jump))) }
-{
-    let count = plus(value, 1)?;
-    let local = local_place(scope, narrowing.local)?;
-    let args = narrowing_args(alloc, local, narrowing.kind, m, value)?;
-    let jump = jump_stored(alloc, to, m, narrowing.local, count)?;
-    let of = op_at(node, false, narrowing.kind.op());
-    let block = code.put_op(alloc, scope, of, args, count, jump)?;
-    jump_first(alloc, block, count)
 }
 
 // On to a branch with the first m variables, perhaps with the value at a place.

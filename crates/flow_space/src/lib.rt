@@ -6,6 +6,7 @@ mod copy;
 mod covers;
 mod expression;
 mod narrow;
+mod operation;
 mod places;
 mod statement;
 mod walk;

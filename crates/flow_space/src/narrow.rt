@@ -1,13 +1,17 @@
 // What a test says of a local.
-ghost use Rattle.std.specs.Prelude.{◌≡◌, ◌⊎◌, List, IfSome};
+ghost use Rattle.std.specs.Prelude.{◌≡◌, ◌≤◌, ◌⊎◌, List, IfSome, IfOk};
 ghost use Rattle.rpy_tree.specs.declared.program.Site.{Site};
 ghost use Rattle.flow_stands.specs.Stands.{Reads, is_local, some_is_local};
-ghost use Rattle.flow_space.specs.Placed.{narrowing_op};
-ghost use Rattle.flow_space.specs.Trees.{expr_of, exprs_of};
+ghost use Rattle.flow_space.specs.Placed.{Part, NarrowedAt, IsBeside, AreArgs, narrowing_op, jump_of};
+ghost use Rattle.resolved_meaning.specs.Trees.{expr_of, exprs_of};
 
+use crate::code::{Code, Jump, Scope, jump_first, jump_stored, local_place, op_at};
+use crate::places::{one, plus, two};
+use rpy_base::{NoMem, Seq};
 use rpy_meaning::RowOp;
 use rpy_resolved::{Expr, Subject, Target};
-use rpy_tree::{ClassId, CmpOp};
+use rpy_tree::{ClassId, CmpOp, NodeId};
+use std::alloc::Global;
 
 /// In a branch a local is what an operation gives of it, which is the same.
 #[derive(Clone, Copy, Debug, PartialEq, Eq)]
@@ -282,4 +286,90 @@ pub fn narrowed(e: &Expr, truth: bool) -> Option<Narrowing>
         Expr::Apply(_, _, op, es) => applied(op, es.as_slice(), truth),
         _ => None,
     }
+}
+
+// ---- operations that narrow
+
+// Whether what a test says needs a side of its comparison.
+fn needs_side(e: &Expr, truth: bool) -> bool {
+    match narrowed(e, truth) {
+        None => false,
+        Some(narrowing) => match narrowing.kind {
+            Kind::NonNegative(_) => true,
+            _ => false,
+        },
+    }
+}
+
+// Whether the two sides of a comparison are needed after it.
+pub fn needs_sides(e: &Expr) -> bool {
+    needs_side(e, true) || needs_side(e, false)
+}
+
+// The place of a side of a comparison whose left side is at m.
+fn side_place(m: usize, side: Side) -> Result<usize, NoMem>
+    ensures { IfOk result (λ place. m ≤ place) }
+{
+    match side {
+        Side::Left => Ok(m),
+        Side::Right => plus(m, 1),
+    }
+}
+
+// The local and a side of a comparison, which stands before its value.
+fn beside_args(
+    alloc: Global,
+    local: usize,
+    side: Side,
+    m: usize,
+    value: usize,
+) -> Result<Seq<usize>, NoMem>
+    ensures { IfOk result (λ args. IsBeside args local m value) }
+{
+    let place = side_place(m, side)?;
+    if place <= value {
+        two(alloc, local, place)
+    } else {
+        Err(NoMem)
+    }
+}
+
+fn narrowing_args(
+    alloc: Global,
+    local: usize,
+    kind: Kind,
+    m: usize,
+    value: usize,
+) -> Result<Seq<usize>, NoMem>
+    ensures { IfOk result (λ args. AreArgs kind args local m value) }
+{
+    match kind {
+        Kind::NonNegative(side) => beside_args(alloc, local, side, m, value),
+        Kind::DropNone => one(alloc, local),
+        Kind::OnlyNone => one(alloc, local),
+        Kind::FalseNone => one(alloc, local),
+        Kind::Lower(_) => one(alloc, local),
+    }
+}
+
+// A block in which the local is narrowed, where the value that was tested is at a place.
+pub fn put_narrowing(
+    alloc: Global,
+    code: &mut Code,
+    scope: &Scope,
+    node: NodeId,
+    narrowing: Narrowing,
+    m: usize,
+    value: usize,
+    to: u64,
+) -> Result<Jump, NoMem>
+    ensures { IfOk result (λ jump. Part code.old.blocks code.new.blocks (NarrowedAt scope.now narrowing m value to (jump_of jump))) }
+{
+    let count = plus(value, 1)?;
+    let local = local_place(scope, narrowing.local)?;
+    let args = narrowing_args(alloc, local, narrowing.kind, m, value)?;
+    let jump = jump_stored(alloc, to, m, narrowing.local, count)?;
+    let of = op_at(node, false, narrowing.kind.op());
+    let block = code.put_op(alloc, scope, of, args, count, jump)?;
+    jump_first(alloc, block, count)
 }

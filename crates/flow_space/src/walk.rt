@@ -5,7 +5,7 @@ ghost use Rattle.rpy_meaning.specs.declared.row.RowOp.TheVariants as row;
 ghost use Rattle.flow_stands.specs.Places.{first_and as on_first_and};
 ghost use Rattle.flow_stands.specs.Stands as stands;
 ghost use Rattle.flow_space.specs.Placed.{Part, ActsAt, TurnAt, jump_of};
-ghost use Rattle.flow_space.specs.Trees.{subject_of};
+ghost use Rattle.resolved_meaning.specs.Trees.{subject_of};
 
 use crate::code::{Code, Head, Jump, Scope, jump_and, jump_first, op_at};
 use crate::places::{plus, two};

@@ -12,7 +12,8 @@ use crate::{NEVER, RETURN};
 use flow_graph::{Graph, Graphs};
 use rpy_base::{NoMem, Seq};
 use rpy_meaning::RowOp;
-use rpy_resolved::{Function, Resolved, resolved};
+use rpy_resolved::{Function, Resolved};
+use rpy_resolver::resolved;
 use rpy_tree::{FunId, Program};
 use std::alloc::Global;
 

@@ -12,7 +12,7 @@ use meaning_runner::{run_program, start_world};
 use rpy_base::{NoMem, Text};
 use rpy_front::{are_short, read_modules};
 use rpy_names::resolve;
-use rpy_resolved::resolved;
+use rpy_resolver::resolved;
 use rpy_tree::Program;
 use show::{put_ran, put_run};
 use std::alloc::Global;

@@ -16,7 +16,7 @@ use Rattle.meaning_runner.specs.declared.stop.Stop.{Stop}
 use Rattle.meaning_runner.specs.declared.stop.Stop.TheVariants as stop
 use Rattle.meaning_runner.specs.Endings.{Stops, Ends, Holds}
 use Rattle.meaning_runner.specs.Evaluates.{framed, given, behind, asked, body, called, entered}
-use Rattle.meaning_runner.specs.Trees.{program_of, function_of}
+use Rattle.resolved_meaning.specs.Trees.{program_of, function_of}
 use Rattle.meaning_runner.proofs.Endings.{stops_held}
 
 -- ---- parameters

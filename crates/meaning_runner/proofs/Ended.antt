@@ -9,8 +9,8 @@ use Rattle.rpy_meaning.specs.Meaning as meaning
 use Rattle.rpy_meaning.specs.Meaning.{Sem}
 use Rattle.rpy_meaning.specs.Tree.{Program}
 use Rattle.rpy_meaning.specs.World.{World}
-use Rattle.rpy_operate.specs.Programs as programs
-use Rattle.rpy_operate.specs.Programs.{class_of}
+use Rattle.resolved_meaning.specs.Programs as programs
+use Rattle.resolved_meaning.specs.Programs.{class_of}
 use Rattle.rpy_resolved.specs.declared.tree.Class.{Class}
 use Rattle.rpy_resolved.specs.declared.tree.Resolved.{Resolved}
 use Rattle.meaning_runner.specs.declared.stop.Stop.{Stop}
@@ -19,9 +19,9 @@ use Rattle.meaning_runner.specs.declared.place.Place.{Place}
 use Rattle.meaning_runner.specs.Endings.{Ends}
 use Rattle.meaning_runner.specs.Evaluates.{below, called}
 use Rattle.meaning_runner.specs.Runs.{ended_so}
-use Rattle.meaning_runner.specs.Trees.{program_of}
+use Rattle.resolved_meaning.specs.Trees.{program_of}
 use Rattle.meaning_runner.proofs.Levels.{below_top}
-use Rattle.meaning_runner.proofs.Trees.{classes_are}
+use Rattle.resolved_meaning.proofs.Layers.{classes_are}
 
 pub name_there : (r : Resolved) (n : ℕ) (class : Class) → slice_get r.classes n ≡ Some class → meaning.name_of (slice_get (program_of r).classes n) ≡ Some (outcome.Raised class.name)
 name_there r n class h = rw (classes_are r, slice_get-map (class_of r.sites) r.classes n, h)

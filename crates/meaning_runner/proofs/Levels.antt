@@ -12,7 +12,7 @@ use Rattle.meaning_runner.specs.declared.stop.Stop.{Stop}
 use Rattle.meaning_runner.specs.declared.stop.Stop.TheVariants as stop
 use Rattle.meaning_runner.specs.Endings.{Stops, Ends}
 use Rattle.meaning_runner.specs.Evaluates.{below, asked, block, body}
-use Rattle.meaning_runner.specs.Trees.{program_of}
+use Rattle.resolved_meaning.specs.Trees.{program_of}
 
 below_none : (p : Program) (t : Task) (s : State) → below p 0 t s ≡ Wrong
 unfolding below

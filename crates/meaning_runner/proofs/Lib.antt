@@ -5,6 +5,5 @@ pub mod Levels
 pub mod Operate
 pub mod Starts
 pub mod Targets
-pub mod Trees
 pub mod Tries
 pub mod Walks

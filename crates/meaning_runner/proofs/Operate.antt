@@ -10,7 +10,7 @@ use Rattle.rpy_meaning.specs.Tree.{Program}
 use Rattle.rpy_meaning.specs.World.{World, Answer, Gives, Throws, Fails, Lacks, Enters, Bad}
 use Rattle.rpy_meaning.specs.Operations.{op}
 use Rattle.rpy_operate.specs.Answers.{Answers, told}
-use Rattle.rpy_operate.specs.Programs as programs
+use Rattle.resolved_meaning.specs.Programs as programs
 use Rattle.rpy_operate.specs.declared.answer.Answer as code
 use Rattle.rpy_operate.specs.declared.answer.Answer.TheVariants as answer
 use Rattle.rpy_resolved.specs.declared.tree.Resolved.{Resolved}
@@ -18,7 +18,7 @@ use Rattle.meaning_runner.specs.declared.place.Place.{Place}
 use Rattle.meaning_runner.specs.declared.stop.State.{State}
 use Rattle.meaning_runner.specs.Endings.{state_of}
 use Rattle.meaning_runner.specs.Evaluates.{operate, called}
-use Rattle.meaning_runner.specs.Trees.{program_of}
+use Rattle.resolved_meaning.specs.Trees.{program_of}
 use Rattle.meaning_runner.proofs.Endings.{then_pure}
 
 -- the answer of the definition that the code's stands for

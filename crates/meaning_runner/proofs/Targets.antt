@@ -12,7 +12,7 @@ use Rattle.meaning_runner.specs.declared.place.Place.{Place}
 use Rattle.meaning_runner.specs.declared.stop.Stop.{Stop}
 use Rattle.meaning_runner.specs.Endings.{Stops, Ends}
 use Rattle.meaning_runner.specs.Evaluates.{bind, bind_part, bind_parts, operate, store_pair, store_pairs, value}
-use Rattle.meaning_runner.specs.Trees.{target_of, targets_of}
+use Rattle.resolved_meaning.specs.Trees.{target_of, targets_of}
 use Rattle.meaning_runner.proofs.Endings.{goes_then, stops_then}
 
 pub then_then : {A B C : Type 0} (m : Ending A) (f : A → Eval B) (g : B → Eval C) → then_go (then_go m f) g ≡ then_go m (λ a. λ s. then_go (f a s) g)

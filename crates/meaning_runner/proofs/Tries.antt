@@ -15,7 +15,7 @@ use Rattle.meaning_runner.specs.declared.stop.Stop.{Stop}
 use Rattle.meaning_runner.specs.declared.stop.Stop.TheVariants as stop
 use Rattle.meaning_runner.specs.Endings.{Stops, Ends}
 use Rattle.meaning_runner.specs.Evaluates.{handle, caught}
-use Rattle.meaning_runner.specs.Trees.{program_of, clause_of}
+use Rattle.resolved_meaning.specs.Trees.{program_of, clause_of}
 
 module _ (p : Program) (watch : Watch) (prev : Sem) (m : Ending Flow) (other : Eval Flow) (handle : ℕ → Eval Flow) where
   pub tried_next : (s u : State) (result : Result Flow Stop) → Ends m (Ok Next) s → Ends (other s) result u → Ends (meaning.tried p watch prev m other handle) result u

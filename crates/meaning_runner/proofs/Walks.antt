@@ -16,7 +16,7 @@ use Rattle.meaning_runner.specs.declared.stop.Stop.{Stop}
 use Rattle.meaning_runner.specs.declared.stop.Stop.TheVariants as stop
 use Rattle.meaning_runner.specs.Endings.{Stops, Ends}
 use Rattle.meaning_runner.specs.Evaluates.{Turned, Over, On, turned, if_item, over_by, asked, truth, block, perform_bare, turn, each_item, for_loop, gather, gathered, while_turn, while_loop}
-use Rattle.meaning_runner.specs.Trees.{program_of, expr_of, target_of, block_of, condition_of}
+use Rattle.resolved_meaning.specs.Trees.{program_of, expr_of, target_of, block_of, condition_of}
 use Rattle.meaning_runner.proofs.Endings.{goes_then, stops_then}
 use Rattle.meaning_runner.proofs.Levels.{none_below, asked_below}
 

@@ -16,7 +16,7 @@ use Rattle.rpy_resolved.specs.declared.tree.Clause.{Clause}
 use Rattle.rpy_resolved.specs.declared.tree.Function.{Function}
 use Rattle.rpy_resolved.specs.declared.tree.Resolved.{Resolved}
 use Rattle.meaning_runner.specs.declared.place.Place.{Place}
-use Rattle.meaning_runner.specs.Trees.{Head, program_of, expr_of, exprs_of, pairs_of, subject_of, target_of, targets_of, condition_of, stmt_of, block_of, clauses_of, clause_of, function_of}
+use Rattle.resolved_meaning.specs.Trees.{Head, program_of, expr_of, exprs_of, pairs_of, subject_of, target_of, targets_of, condition_of, stmt_of, block_of, clauses_of, clause_of, function_of}
 
 -- what may be asked below a place with so many levels
 unfoldable pub below : tree.Program → ℕ → Sem

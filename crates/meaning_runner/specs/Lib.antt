@@ -2,4 +2,3 @@ pub mod Endings
 pub mod Evaluates
 pub mod Runs
 pub mod Starts
-pub mod Trees

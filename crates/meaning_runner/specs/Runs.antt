@@ -8,7 +8,7 @@ use Rattle.rpy_resolved.specs.declared.tree.Resolved.{Resolved}
 use Rattle.meaning_runner.specs.declared.runs.Run.{Run}
 use Rattle.meaning_runner.specs.declared.stop.Stop.{Stop}
 use Rattle.meaning_runner.specs.declared.stop.Stop.TheVariants as stop
-use Rattle.meaning_runner.specs.Trees.{program_of}
+use Rattle.resolved_meaning.specs.Trees.{program_of}
 
 abbrev pub run_of : Run → meaning.Run
 run_of run = record { outcome = run.outcome; held = run.held; world = run.world }

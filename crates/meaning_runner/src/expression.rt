@@ -4,7 +4,7 @@ ghost use Rattle.rpy_meaning.specs.Evaluation as eval;
 ghost use Rattle.meaning_runner.specs.Endings.{Ends, state_of};
 ghost use Rattle.meaning_runner.specs.Evaluates as spec;
 ghost use Rattle.rpy_meaning.specs.Tree as tree;
-ghost use Rattle.meaning_runner.specs.Trees.{condition_of, expr_of, exprs_of, pairs_of, subject_of, target_of};
+ghost use Rattle.resolved_meaning.specs.Trees.{condition_of, expr_of, exprs_of, pairs_of, subject_of, target_of};
 
 use crate::call::{operated, perform};
 use crate::place::Place;

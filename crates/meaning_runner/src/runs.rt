@@ -3,7 +3,7 @@ ghost use Rattle.std.specs.Prelude.{◌≡◌, ◌-◌, [], ◌∷◌, length, s
 ghost use Rattle.rpy_tree.specs.Value.{Ref};
 ghost use Rattle.rpy_meaning.specs.Meaning as meaning;
 ghost use Rattle.meaning_runner.specs.Runs.{run_of, ended_so};
-ghost use Rattle.meaning_runner.specs.Trees.{program_of};
+ghost use Rattle.resolved_meaning.specs.Trees.{program_of};
 
 use crate::call::called;
 use crate::place::{Place, no_covers};

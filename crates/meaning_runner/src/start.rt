@@ -2,7 +2,7 @@
 ghost use Rattle.std.specs.Prelude.{◌≡◌, ◌∷◌, [], ◌++◌, map, filter_map, IfOk, OnOk};
 ghost use Rattle.rpy_tree.specs.Value as value;
 ghost use Rattle.rpy_meaning.specs.Meaning as meaning;
-ghost use Rattle.rpy_operate.specs.Programs as programs;
+ghost use Rattle.resolved_meaning.specs.Programs as programs;
 ghost use Rattle.meaning_runner.specs.Starts as spec;
 
 use rpy_base::{NoMem, Seq, Text};

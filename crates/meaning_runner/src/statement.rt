@@ -4,7 +4,7 @@ ghost use Rattle.rpy_meaning.specs.Evaluation as eval;
 ghost use Rattle.meaning_runner.specs.Endings.{Ends, as_flow, flow_of, state_of};
 ghost use Rattle.meaning_runner.specs.Evaluates as spec;
 ghost use Rattle.rpy_meaning.specs.Tree as tree;
-ghost use Rattle.meaning_runner.specs.Trees.{block_of, clause_of, clauses_of, expr_of, subject_of, target_of, targets_of};
+ghost use Rattle.resolved_meaning.specs.Trees.{block_of, clause_of, clauses_of, expr_of, subject_of, target_of, targets_of};
 
 use crate::expression::{truth, value};
 use crate::place::Place;

@@ -5,7 +5,7 @@ ghost use Rattle.meaning_runner.specs.Endings.{Ends, state_of};
 ghost use Rattle.meaning_runner.specs.Evaluates as spec;
 ghost use Rattle.rpy_meaning.specs.Meaning as meaning;
 ghost use Rattle.rpy_meaning.specs.Tree as tree;
-ghost use Rattle.meaning_runner.specs.Trees.{expr_of, program_of, target_of, targets_of};
+ghost use Rattle.resolved_meaning.specs.Trees.{expr_of, program_of, target_of, targets_of};
 
 use crate::call::{operated, perform, perform_holding};
 use crate::expression::{value, value_holding};

@@ -4,10 +4,10 @@ ghost use Rattle.std.specs.List.{list_any};
 ghost use Rattle.rpy_meaning.specs.Classes as classes;
 ghost use Rattle.rpy_meaning.specs.Evaluation as eval;
 ghost use Rattle.rpy_meaning.specs.Meaning as meaning;
-ghost use Rattle.rpy_operate.specs.Programs as programs;
+ghost use Rattle.resolved_meaning.specs.Programs as programs;
 ghost use Rattle.meaning_runner.specs.Endings.{flow_of, walking_of};
 ghost use Rattle.meaning_runner.specs.Evaluates as own;
-ghost use Rattle.meaning_runner.specs.Trees.{clause_of, clauses_of, function_of, program_of};
+ghost use Rattle.resolved_meaning.specs.Trees.{clause_of, clauses_of, function_of, program_of};
 
 use crate::stop::Flow;
 use rpy_base::{NoMem, Seq};
@@ -194,7 +194,7 @@ fn is_below_one(program: &Resolved, class: ClassId, bases: &[ClassId]) -> bool
 }
 
 /// Whether a clause takes the exceptions of a class.
-#[tactic(auto, unfolding(crate::specs::Trees::program_of))]
+#[tactic(auto, unfolding(resolved_meaning::specs::Trees::program_of))]
 pub fn takes(program: &Resolved, clause: &Clause, class: ClassId) -> bool
     ensures { result ≡ classes.takes (program_of program.now).classes (clause_of program.now.sites clause.now).classes class }
 {

@@ -5,7 +5,7 @@ ghost use Rattle.meaning_runner.specs.Endings.{Ends, as_flow, as_turned, as_walk
 ghost use Rattle.meaning_runner.specs.Evaluates as spec;
 ghost use Rattle.rpy_meaning.specs.Meaning as meaning;
 ghost use Rattle.rpy_meaning.specs.declared.row.RowOp.TheVariants as row;
-ghost use Rattle.meaning_runner.specs.Trees.{program_of};
+ghost use Rattle.resolved_meaning.specs.Trees.{program_of};
 
 use crate::call::{operated, perform, perform_bare};
 use crate::expression::{truth, value, value_holding};

@@ -51,7 +51,15 @@ module _ (p : Program) (gs : Graphs) (covers : Covers p gs) (stand : StandFor p 
   -- ---- none was
 
   refused_by : (x : CheckFault) → spec.Annotates p (planned p gs (tables p)) (Err x) → spec.IsRefused p x
-  refused_by (fault.Conflict file line words) h = record { graphs = gs; covers = covers; stand = stand; none = λ classes lt. h (basis p gs (tables p) classes lt) }
+  refused_by (fault.Conflict file line words) h = record {
+    graphs = gs;
+    covers = covers;
+    stand = stand;
+    none = λ classes lt. h.0 (basis p gs (tables p) classes lt);
+    told = h.1.0;
+    met = h.1.1.0;
+    shown = h.1.1.1;
+  }
   refused_by (fault.Typing file line kind) h = absurd h
   refused_by fault.NoMem h = tt
 

@@ -1,6 +1,6 @@
 -- What the checks of a program say of it.
-use Rattle.std.specs.Prelude.{◌≡◌, ℕ, List, Option, None, Result, Ok, Err}
-use Rattle.rpy_tree.specs.Places.{node_line}
+use Rattle.std.specs.Prelude.{◌≡◌, ◌<◌, ◌^◌, ℕ, List, length, Option, None, Result, Ok, Err}
+use Rattle.rpy_tree.specs.Places.{node_file, node_line}
 use Rattle.rpy_tree.specs.declared.program.Program.{Program}
 use Rattle.flow_graph.specs.declared.graph.Graphs.{Graphs}
 use Rattle.flow_graph.specs.Whole.{Covers}
@@ -8,7 +8,11 @@ use Rattle.flow_space.specs.Placed.{StandFor}
 use Rattle.class_desc.specs.Tables.{Tables, tables}
 use Rattle.ann_element.specs.declared.annotation.Annotation.{Annotation}
 use Rattle.ann_needs.specs.declared.state.State.{State}
+use Rattle.ann_layout.specs.Layout.{plan, planned}
 use Rattle.ann_layout.specs.declared.layout.Planned.{Planned}
+use Rattle.ann_places.specs.Spots.{start}
+use Rattle.ann_shown.specs.Told.{IsMet}
+use Rattle.ann_shown.specs.declared.told.Told.{Told}
 use Rattle.ann_settled.specs.Settled as settled
 use Rattle.rtyper_core.specs.Typing.{least_fault, Tells}
 use Rattle.rtyper_core.specs.declared.fault.TypeFault.{TypeFault}
@@ -18,11 +22,19 @@ use Rattle.rpy_checked.specs.declared.fault.CheckFault.TheVariants as fault
 use Rattle.rpy_checked.specs.declared.fault.TypeKind.{TypeKind}
 use Rattle.rpy_checked.specs.declared.fault.TypeKind.TheVariants as type
 use Rattle.rpy_checked.specs.declared.program.Checked.{Checked}
+use Rattle.rpy_checked.specs.Words.{conflict_words}
 
--- a conflict, or want of memory
-abbrev pub IsUnsettled : CheckFault → Type 0
-IsUnsettled (fault.Typing file line kind) = ⊥
-IsUnsettled other = Unit {0}
+-- ---- conflicts
+
+-- the place of the file of a node
+abbrev pub IsFile : Program → ℕ → ℕ → Type 0
+IsFile p node file = length p.modules < 2 ^ 32 → file ≡ node_file p.modules node
+
+-- a conflict is shown by its file, its line and its words; or memory was wanting
+abbrev pub IsShown : Program → Told → CheckFault → Type 0
+IsShown p t (fault.Conflict file line words) = IsFile p t.spot.node file × ((line ≡ node_line p.modules t.spot.node) × (words ≡ conflict_words p t))
+IsShown p t (fault.Typing file line kind) = ⊥
+IsShown p t fault.NoMem = Unit {0}
 
 -- ---- faults of types
 
@@ -48,7 +60,8 @@ Types p gs n t (Err e) = (f : TypeFault) × Tells (least_fault p gs n t) (Err f)
 
 abbrev pub Annotates : Program → Planned → Result Annotation CheckFault → Type 0
 Annotates p q (Ok n) = (s : State) × (settled.IsRead q s n × (settled.IsClosed q s × settled.IsGrown p q s))
-Annotates p q (Err (fault.Conflict file line words)) = settled.NoneFree p q
+Annotates p q (Err (fault.Conflict file line words)) =
+    settled.NoneFree p q × ((t : Told) × (IsMet p q.plan (settled.begin p q) t × IsShown p t (fault.Conflict file line words)))
 Annotates p q (Err (fault.Typing file line kind)) = ⊥
 Annotates p q (Err fault.NoMem) = Unit {0}
 
@@ -66,12 +79,16 @@ pub record HasTypes (p : Program) (gs : Graphs) (n : Annotation) : Type 0 where
   pub settled : settled.IsSettled p gs (tables p) n state
   pub typed : least_fault p gs n (tables p) ≡ None
 
--- by graphs that stand for the program's functions, no annotation is closed under all that they ask and free of conflict
-pub record HasNoAnnotation (p : Program) : Type 0 where
+-- By graphs that stand for the program's functions, no annotation is closed under all that they ask and free of conflict. Growing, step by step from
+-- the annotation in which nothing is reached, meets a conflict first, and that is shown.
+pub record HasConflict (p : Program) (e : CheckFault) : Type 0 where
   pub graphs : Graphs
   pub covers : Covers p graphs
   pub stand : StandFor p graphs
   pub none : settled.NoneSettled p graphs (tables p)
+  pub told : Told
+  pub met : IsMet p (plan p graphs (tables p)) (start (planned p graphs (tables p))) told
+  pub shown : IsShown p told e
 
 -- by such graphs, with the least annotation, there is a fault of types, and the least one is told
 pub record HasFault (p : Program) (e : CheckFault) : Type 0 where
@@ -86,7 +103,7 @@ pub record HasFault (p : Program) (e : CheckFault) : Type 0 where
   pub told : IsTold p fault e
 
 abbrev pub IsRefused : Program → CheckFault → Type 0
-IsRefused p (fault.Conflict file line words) = HasNoAnnotation p
+IsRefused p (fault.Conflict file line words) = HasConflict p (fault.Conflict file line words)
 IsRefused p (fault.Typing file line kind) = HasFault p (fault.Typing file line kind)
 IsRefused p fault.NoMem = Unit {0}
 

@@ -1,19 +1,22 @@
 // The checks of a program: annotation and types.
-ghost use Rattle.std.specs.Prelude.{◌≡◌, IfOk};
+ghost use Rattle.std.specs.Prelude.{◌≡◌, ◌++◌, IfOk, OnOk};
+ghost use Rattle.std.specs.List.{flat_map};
 ghost use Rattle.flow_graph.specs.Whole.{Covers};
 ghost use Rattle.rpy_checked.specs.Settles as spec;
+ghost use Rattle.rpy_checked.specs.Words as words;
 
 use crate::fault::{CheckFault, TypeKind};
-use ann_element::{Annotation, Element, Sites, Spot, SpotKind};
-use ann_fixpoint::{AnnFault, annotate, spot_word};
+use ann_element::{Annotation, Element, Sites, SpotKind};
 use ann_layout::{Planned, plan_of};
 use ann_needs::Plan;
 use ann_settled::{Unsettled, close};
+use ann_shown::Told;
 use ann_text::put_element;
 use class_desc::Classes;
 use flow_graph::Graphs;
 use flow_space::flow;
 use rpy_base::{NoMem, Text};
+use rpy_kinds::{Kind, kind_at, word_of};
 use rpy_resolved::{Labels, labels_of};
 use rpy_tree::{NodeId, Program};
 use rtyper_core::{TypeFault, typing};
@@ -30,20 +33,53 @@ pub struct Checked {
 // ---- places
 
 // The place of the file of a node.
-fn file_of(program: &Program, node: NodeId) -> u32 {
-    let mut node = node;
-    let mut file: u32 = 0;
-    for module in program.modules.as_slice() {
-        if node < module.nodes {
-            return file;
-        }
-        node -= module.nodes;
-        file = file.saturating_add(1);
+fn file_of(program: &Program, node: NodeId) -> u32
+    ensures { spec.IsFile program.now node result }
+{
+    if program.modules.len() <= 4294967295 {
+        program.node_file(node)
+    } else {
+        0
     }
-    file
 }
 
 // ---- conflicts
+
+// The word for the place of a conflict: that of what stands at its node, or of its part.
+fn spot_word(kind: &SpotKind, found: Option<Kind>) -> &'static [u8]
+    ensures { result.now ≡ words.spot_word kind.now found }
+{
+    match kind {
+        SpotKind::Param => b"param".as_slice(),
+        SpotKind::Result => b"result".as_slice(),
+        SpotKind::Attr(_) => b"attr".as_slice(),
+        SpotKind::Keys => b"keys".as_slice(),
+        SpotKind::Items => b"items".as_slice(),
+        SpotKind::Node => node_word(found),
+    }
+}
+
+fn node_word(found: Option<Kind>) -> &'static [u8]
+    ensures { result.now ≡ words.node_word found }
+{
+    match found {
+        None => b"expr".as_slice(),
+        Some(kind) => word_of(kind),
+    }
+}
+
+fn put_operand(
+    alloc: Global,
+    labels: &Labels,
+    same: &Sites,
+    operand: &Element,
+    text: &mut Text,
+) -> Result<(), NoMem>
+    ensures { OnOk result (text.new ≡ text.old ++ words.operand_text labels.now same.now operand.now) }
+{
+    text.append(b" ")?;
+    put_element(alloc, labels, same, operand, text)
+}
 
 fn put_operands(
     alloc: Global,
@@ -51,49 +87,45 @@ fn put_operands(
     same: &Sites,
     operands: &[Element],
     text: &mut Text,
-) -> Result<(), NoMem> {
+) -> Result<(), NoMem>
+    ensures { OnOk result (text.new ≡ text.old ++ flat_map (words.operand_text labels.now same.now) operands.now) }
+{
     for operand in operands {
-        text.append(b" ")?;
-        put_element(alloc, labels, same, operand, text)?;
+        put_operand(alloc, labels, same, operand, text)?;
     }
     Ok(())
 }
 
-// The word for a conflict, and the elements of its operands.
-fn conflict_words(
-    alloc: Global,
-    program: &Program,
-    spot: &Spot,
-    operands: &[Element],
-) -> Result<Text, NoMem> {
+// The names of a program's functions and classes.
+fn names_of(alloc: Global, program: &Program) -> Result<Labels, NoMem>
+    ensures { IfOk result (λ labels. labels ≡ words.labels program.now) }
+{
     let labels = labels_of(alloc, program)?;
+    Ok(labels)
+}
+
+// The word for a conflict, and the elements of its operands.
+fn conflict_words(alloc: Global, program: &Program, told: &Told) -> Result<Text, NoMem>
+    ensures { IfOk result (λ text. text ≡ words.conflict_words program.now told.now) }
+{
+    let found = kind_at(program, told.spot.node)?;
+    let labels = names_of(alloc, program)?;
     let same = Sites::new(alloc, program)?;
-    let mut text = Text::from_bytes(alloc, spot_word(program, spot))?;
-    put_operands(alloc, &labels, &same, operands, &mut text)?;
+    let mut text = Text::from_bytes(alloc, spot_word(&told.spot.kind, found))?;
+    put_operands(alloc, &labels, &same, told.operands.as_slice(), &mut text)?;
     Ok(text)
 }
 
-fn conflicting(alloc: Global, program: &Program, spot: &Spot, operands: &[Element]) -> CheckFault
-    ensures { spec.IsUnsettled result }
+fn conflicting(alloc: Global, program: &Program, told: &Told) -> CheckFault
+    ensures { spec.IsShown program.now told.now result }
 {
-    match conflict_words(alloc, program, spot, operands) {
+    match conflict_words(alloc, program, told) {
         Err(NoMem) => CheckFault::NoMem,
         Ok(words) => CheckFault::Conflict(
-            file_of(program, spot.node),
-            program.node_line(spot.node),
+            file_of(program, told.spot.node),
+            program.node_line(told.spot.node),
             words,
         ),
-    }
-}
-
-fn unannotated(alloc: Global, program: &Program, fault: AnnFault) -> CheckFault
-    ensures { spec.IsUnsettled result }
-{
-    match fault {
-        AnnFault::NoMem => CheckFault::NoMem,
-        AnnFault::Conflict(spot, operands) => {
-            conflicting(alloc, program, &spot, operands.as_slice())
-        }
     }
 }
 
@@ -119,29 +151,13 @@ fn untyped(program: &Program, fault: TypeFault) -> CheckFault
 
 // ---- the whole
 
-// The conflict that is shown where there is no annotation, by growing once more in an order of its own.
-fn shown(alloc: Global, program: &Program, plan: &Plan, node: NodeId) -> CheckFault
-    ensures { spec.IsUnsettled result }
-{
-    match annotate(alloc, program, &plan.graphs, &plan.classes) {
-        Ok(_) => {
-            let spot = Spot {
-                node,
-                kind: SpotKind::Node,
-            };
-            conflicting(alloc, program, &spot, &[])
-        }
-        Err(fault) => unannotated(alloc, program, fault),
-    }
-}
-
 fn annotated(alloc: Global, program: &Program, planned: &Planned) -> Result<Annotation, CheckFault>
     ensures { spec.Annotates program.now planned.now result }
 {
     match close(alloc, program, planned) {
         Ok(annotation) => Ok(annotation),
         Err(Unsettled::NoMem) => Err(CheckFault::NoMem),
-        Err(Unsettled::Conflict(node)) => Err(shown(alloc, program, &planned.plan, node)),
+        Err(Unsettled::Conflict(told)) => Err(conflicting(alloc, program, &told)),
     }
 }
 

@@ -8,7 +8,7 @@ use ll_file::file_of;
 use ll_joined::join_blocks;
 use rpy_base::NoMem;
 use rpy_checked::Checked;
-use rpy_resolved::resolved;
+use rpy_resolver::resolved;
 use rpy_tree::Program;
 use rtyper_program::rtype;
 use std::alloc::Global;

@@ -1,4 +1,3 @@
-pub mod Bases
 pub mod Dispatch
 pub mod Heap
 pub mod Items
@@ -9,7 +8,6 @@ pub mod Others
 pub mod Placed
 pub mod Repeats
 pub mod Says
-pub mod Sites
 pub mod Splits
 pub mod Tuples
 pub mod Unnamed

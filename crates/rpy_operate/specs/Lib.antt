@@ -2,5 +2,4 @@ pub mod Answers
 pub mod Groups
 pub mod Objects
 pub mod Places
-pub mod Programs
 pub mod Texts

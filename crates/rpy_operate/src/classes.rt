@@ -5,7 +5,7 @@ ghost use Rattle.std.specs.Option.{option_copied};
 ghost use Rattle.rpy_meaning.specs.Classes as spec;
 ghost use Rattle.rpy_meaning.specs.Operations as operations;
 ghost use Rattle.rpy_operate.specs.Places as own;
-ghost use Rattle.rpy_operate.specs.Programs as programs;
+ghost use Rattle.resolved_meaning.specs.Programs as programs;
 
 use crate::places::taken;
 use rpy_base::{NoMem, Seq, Text};
@@ -83,7 +83,7 @@ pub fn put_name(entries: &mut Seq<(Text, Val)>, name: Text, value: Val) -> Resul
 // ---- constants
 
 /// The number of the object of a site.
-#[tactic(auto, using(crate::proofs::Sites::made_before))]
+#[tactic(auto, using(resolved_meaning::proofs::Sites::made_before))]
 pub fn object_of(sites: &[Site], site: SiteId) -> Result<usize, NoMem>
     ensures { IfOk result (λ number. number ≡ operations.object_of (map programs.empty_at sites.now) site) }
 {
@@ -127,7 +127,7 @@ pub fn constant_values(alloc: Global, sites: &[Site], values: &[Const]) -> Resul
 
 // ---- bases
 
-#[tactic(auto, using(crate::proofs::Bases::class_there, crate::proofs::Bases::class_missing))]
+#[tactic(auto, using(resolved_meaning::proofs::Bases::class_there, resolved_meaning::proofs::Bases::class_missing))]
 fn base_of(program: &Resolved, class: ClassId) -> Option<ClassId>
     ensures { result ≡ spec.base_of (spec.class_at (programs.classes_in program.now) class) }
 {
@@ -138,7 +138,7 @@ fn base_of(program: &Resolved, class: ClassId) -> Option<ClassId>
 }
 
 // Whether a class is among so many of a line of bases.
-#[tactic(auto, using(crate::proofs::Bases::line_step))]
+#[tactic(auto, using(resolved_meaning::proofs::Bases::line_step))]
 fn is_in_line(program: &Resolved, levels: usize, class: Option<ClassId>, base: ClassId) -> bool
     ensures { result ≡ list_any (λ e. e == base) (spec.line_of (programs.classes_in program.now) levels class) }
 {
@@ -154,14 +154,14 @@ fn is_in_line(program: &Resolved, levels: usize, class: Option<ClassId>, base: C
 }
 
 /// Whether the first class is the second one or below it.
-#[tactic(auto, using(crate::proofs::Bases::class_count))]
+#[tactic(auto, using(resolved_meaning::proofs::Bases::class_count))]
 pub fn is_below(program: &Resolved, class: ClassId, base: ClassId) -> bool
     ensures { result ≡ spec.is_below (programs.classes_in program.now) class base }
 {
     is_in_line(program, program.classes.len(), Some(class), base)
 }
 
-#[tactic(auto, using(crate::proofs::Bases::class_there, crate::proofs::Bases::class_missing))]
+#[tactic(auto, using(resolved_meaning::proofs::Bases::class_there, resolved_meaning::proofs::Bases::class_missing))]
 fn own_method(program: &Resolved, class: ClassId, name: &[u8]) -> Option<FunId>
     ensures { result ≡ spec.named name.now (spec.methods_of (spec.class_at (programs.classes_in program.now) class)) }
 {
@@ -171,7 +171,7 @@ fn own_method(program: &Resolved, class: ClassId, name: &[u8]) -> Option<FunId>
     }
 }
 
-#[tactic(auto, using(crate::proofs::Bases::line_step, crate::proofs::Bases::named_first, crate::proofs::Bases::named_later))]
+#[tactic(auto, using(resolved_meaning::proofs::Bases::line_step, resolved_meaning::proofs::Bases::named_first, resolved_meaning::proofs::Bases::named_later))]
 fn method_in_line(
     program: &Resolved,
     levels: usize,
@@ -193,7 +193,7 @@ fn method_in_line(
 }
 
 /// The method of a class by its name.
-#[tactic(auto, using(crate::proofs::Bases::class_count))]
+#[tactic(auto, using(resolved_meaning::proofs::Bases::class_count))]
 pub fn method_of(program: &Resolved, class: ClassId, name: &[u8]) -> Option<FunId>
     ensures { result ≡ spec.method_of (programs.classes_in program.now) class name.now }
 {
@@ -215,7 +215,7 @@ fn add_constants(
     Ok(())
 }
 
-#[tactic(auto, using(crate::proofs::Bases::class_there, crate::proofs::Bases::no_constants))]
+#[tactic(auto, using(resolved_meaning::proofs::Bases::class_there, resolved_meaning::proofs::Bases::no_constants))]
 fn add_own_constants(
     alloc: Global,
     program: &Resolved,
@@ -234,7 +234,7 @@ fn add_own_constants(
 }
 
 // The constants of a line of bases, the nearest first.
-#[tactic(auto, using(crate::proofs::Bases::line_step))]
+#[tactic(auto, using(resolved_meaning::proofs::Bases::line_step))]
 fn add_line(
     alloc: Global,
     program: &Resolved,
@@ -272,7 +272,7 @@ fn nearest(alloc: Global, entries: &[(Text, Val)]) -> Result<Seq<(Text, Val)>, N
 }
 
 /// What the attributes of a new instance are.
-#[tactic(auto, using(crate::proofs::Bases::class_count))]
+#[tactic(auto, using(resolved_meaning::proofs::Bases::class_count))]
 pub fn first_attributes(
     alloc: Global,
     program: &Resolved,

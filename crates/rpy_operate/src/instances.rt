@@ -6,7 +6,7 @@ ghost use Rattle.rpy_meaning.specs.Operations as operations;
 ghost use Rattle.rpy_meaning.specs.World as meaning;
 ghost use Rattle.rpy_operate.specs.Answers.{Answers, Always};
 ghost use Rattle.rpy_operate.specs.Objects as own;
-ghost use Rattle.rpy_operate.specs.Programs as programs;
+ghost use Rattle.resolved_meaning.specs.Programs as programs;
 
 use crate::answer::{Answer, attribute_error, flag};
 use crate::classes::{

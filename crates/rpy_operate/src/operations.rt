@@ -7,7 +7,7 @@ ghost use Rattle.rpy_meaning.specs.Operations as operations;
 ghost use Rattle.rpy_meaning.specs.World as meaning;
 ghost use Rattle.rpy_operate.specs.Answers.{Answers, Always};
 ghost use Rattle.rpy_operate.specs.Groups.{takes_any};
-ghost use Rattle.rpy_operate.specs.Programs as programs;
+ghost use Rattle.resolved_meaning.specs.Programs as programs;
 
 use crate::answer::{Answer, flag, new_list, new_object};
 use crate::arithmetic::{checked, checked_neg, greatest, least, unary, word};

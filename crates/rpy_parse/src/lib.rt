@@ -2,11 +2,15 @@
 #![tactic(auto)]
 
 pub mod ahead;
+pub mod arithmetic;
+pub mod atom;
 pub mod cursor;
+pub mod display;
 pub mod expression;
 pub mod fault;
 pub mod found;
 pub mod function;
+pub mod goal;
 pub mod grown;
 pub mod import;
 pub mod made;

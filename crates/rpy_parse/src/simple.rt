@@ -6,10 +6,9 @@ ghost use Rattle.rpy_parse.specs.Rows.{reading};
 ghost use Rattle.rpy_parse.specs.Shapes as part;
 
 use crate::ahead::{assign_op, begins_expression};
+use crate::atom::{arguments, atom, attribute_of, slice_end, strings};
 use crate::cursor::Cursor;
-use crate::expression::{
-    arguments, atom, attribute_of, expression, expressions, item, slice_end, strings,
-};
+use crate::expression::{expression, expressions, item};
 use crate::fault::Stop;
 use crate::found::{Assigned, Body, Got, Indexed, Listed, Made, Place};
 use crate::target::target_of;

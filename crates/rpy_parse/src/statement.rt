@@ -10,9 +10,10 @@ ghost use Rattle.rpy_parse.specs.Shapes as part;
 
 use crate::ahead::begins_compound;
 use crate::cursor::Cursor;
-use crate::expression::{expression, goal};
+use crate::expression::expression;
 use crate::fault::Stop;
 use crate::found::{Aimed, Arm, Arms, Body, Got, Handled, Head, Headed, Made, Place, Tried};
+use crate::goal::goal;
 use crate::made;
 use crate::names::clause_head;
 use crate::node::numbered;

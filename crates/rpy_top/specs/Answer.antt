@@ -13,7 +13,7 @@ use Rattle.csub_tree.specs.declared.tree.CFile.{CFile}
 use Rattle.ll_code.specs.declared.program.LlProgram.{LlProgram}
 use Rattle.rpy_first.specs.declared.fault.TranslateFault.{TranslateFault as FrontFault}
 use Rattle.rpy_first.specs.declared.fault.TranslateFault.TheVariants as front
-use Rattle.rpy_checked.specs.Settles.{HasTypes, HasNoAnnotation, HasFault}
+use Rattle.rpy_checked.specs.Settles.{HasTypes, HasConflict, HasFault}
 use Rattle.rpy_checked.specs.declared.fault.CheckFault.{CheckFault}
 use Rattle.rpy_checked.specs.declared.fault.CheckFault.TheVariants as check
 use Rattle.rpy_checked.specs.declared.fault.TypeKind.{TypeKind}
@@ -236,7 +236,7 @@ IsChecked task ms = Unit {0}
 
 -- the program is refused by its checks, or there was no memory
 abbrev pub IsCheck : Program → TranslateFault → Type 0
-IsCheck program (InConflict file line words) = HasNoAnnotation program
+IsCheck program (InConflict file line words) = HasConflict program (check.Conflict file line words)
 IsCheck program (NoTypes file line kind) = HasFault program (check.Typing file line kind)
 IsCheck program NoMemory = Unit {0}
 IsCheck program fault = ⊥

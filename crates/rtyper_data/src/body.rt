@@ -1,4 +1,8 @@
 // What is written, and what is known around it.
+ghost use Rattle.std.specs.Prelude.{◌≡◌, IfOk, OnOk};
+ghost use Rattle.rtyper_data.specs.Seen as seen;
+ghost use Rattle.rtyper_data.specs.Seen.{Writes};
+
 use ann_element::{Element, Sites};
 use class_desc::Classes;
 use csub_tree::COperand;
@@ -53,19 +57,25 @@ pub struct Around<'a> {
 
 impl<'a> Around<'a> {
     /// The type of the values of an operand.
-    pub fn type_of(self, operand: Operand<'_>) -> LlType {
+    pub fn type_of(self, operand: Operand<'_>) -> LlType
+        ensures { result ≡ seen.type_of (seen.the_around self.entry) (seen.the_operand operand.entry) }
+    {
         repr_seen(self.layout, operand.element)
     }
 
     /// The type of the values of a place.
-    pub fn type_at(self, place: Place<'_>) -> LlType {
+    pub fn type_at(self, place: Place<'_>) -> LlType
+        ensures { result ≡ seen.type_at (seen.the_around self.entry) (seen.the_place place.entry) }
+    {
         repr_seen(self.layout, place.element)
     }
 }
 
 impl Body {
     /// No variables and no operations.
-    pub fn new(alloc: Global) -> Body {
+    pub fn new(alloc: Global) -> Body
+        ensures { result ≡ seen.empty }
+    {
         Body {
             types: Seq::new(alloc),
             ops: Seq::new(alloc),
@@ -73,7 +83,9 @@ impl Body {
     }
 
     /// One more variable of this type.
-    pub fn fresh(&mut self, kind: LlType) -> Result<VarId, NoMem> {
+    pub fn fresh(&mut self, kind: LlType) -> Result<VarId, NoMem>
+        ensures { IfOk result (λ v. Writes (seen.fresh kind self.old) v self.new) }
+    {
         let variable = self.types.len() as u64;
         self.types.push(kind)?;
         Ok(variable)
@@ -81,7 +93,10 @@ impl Body {
 }
 
 /// An operand of a list; where there is none, a word that is never read.
-pub fn operand_at<'a>(args: &[Operand<'a>], i: usize) -> Operand<'a> {
+#[tactic(auto, using(crate::proofs::Views::at_place))]
+pub fn operand_at<'a>(args: &[Operand<'a>], i: usize) -> Operand<'a>
+    ensures { seen.the_operand result ≡ seen.operand_at (seen.the_operands args.now) i }
+{
     match args.get(i) {
         None => Operand {
             x: COperand::Const(csub_tree::CConst::Word(0)),

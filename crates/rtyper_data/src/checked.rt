@@ -1,4 +1,9 @@
 // Operations on words whose results have to fit: one that does not raises `OverflowError`.
+ghost use Rattle.std.specs.Prelude.{◌≡◌, ◌∷◌, [], IfOk};
+ghost use Rattle.rtyper_data.specs.CheckedGraphs as spec;
+ghost use Rattle.rtyper_data.specs.Numbers as numbers;
+ghost use Rattle.rtyper_data.specs.Seen.{Asks};
+
 use crate::found::{Found, small_number};
 use crate::small::{Small, block, failing, link, variables};
 use csub_tree::{CBinary, CConst, COperand, CUnary};
@@ -17,18 +22,24 @@ const X: COperand = COperand::Var(0);
 
 const Y: COperand = COperand::Var(1);
 
-fn word(n: i64) -> COperand {
+fn word(n: i64) -> COperand
+    ensures { result ≡ numbers.word n }
+{
     COperand::Const(CConst::Word(n))
 }
 
-fn one(alloc: Global, op: LlOp) -> Result<Seq<LlOp>, NoMem> {
+fn one(alloc: Global, op: LlOp) -> Result<Seq<LlOp>, NoMem>
+    ensures { IfOk result (λ ops. ops ≡ op ∷ []) }
+{
     let mut ops = Seq::new(alloc);
     ops.push(op)?;
     Ok(ops)
 }
 
 // A block that raises `OverflowError`. Nothing comes behind the call.
-fn overflowing(alloc: Global, found: &mut Found) -> Result<LlBlock, NoMem> {
+fn overflowing(alloc: Global, found: &mut Found) -> Result<LlBlock, NoMem>
+    ensures { IfOk result (λ block. Asks (spec.overflowing found.old) block found.new) }
+{
     let graph = small_number(Small::Raise(OVERFLOW_ERROR), found)?;
     let ops = one(alloc, LlOp::Call(None, graph, Seq::new(alloc)))?;
     block(alloc, [], ops, LlExit::Fail(3))
@@ -42,7 +53,9 @@ fn test(
     y: COperand,
     there: u64,
     elsewhere: u64,
-) -> Result<LlBlock, NoMem> {
+) -> Result<LlBlock, NoMem>
+    ensures { IfOk result (λ block. block ≡ spec.test op x y there elsewhere) }
+{
     let ops = one(alloc, LlOp::Binary(2, op, x, y))?;
     let yes = link(alloc, there, [X, Y])?;
     let no = link(alloc, elsewhere, [X, Y])?;
@@ -50,12 +63,16 @@ fn test(
 }
 
 // The words are given to a block that takes none of them.
-fn dropped(alloc: Global, to: u64) -> Result<LlBlock, NoMem> {
+fn dropped(alloc: Global, to: u64) -> Result<LlBlock, NoMem>
+    ensures { IfOk result (λ block. block ≡ spec.dropped to) }
+{
     let exit = LlExit::Goto(link(alloc, to, [])?);
     block(alloc, [0, 1], Seq::new(alloc), exit)
 }
 
-fn result(alloc: Global, op: CBinary) -> Result<LlBlock, NoMem> {
+fn result(alloc: Global, op: CBinary) -> Result<LlBlock, NoMem>
+    ensures { IfOk result (λ block. block ≡ spec.result op) }
+{
     let ops = one(alloc, LlOp::Binary(3, op, X, Y))?;
     block(alloc, [0, 1], ops, LlExit::Return(Some(COperand::Var(3))))
 }
@@ -67,7 +84,9 @@ fn of_sum(
     op: CBinary,
     overflows: CBinary,
     found: &mut Found,
-) -> Result<Seq<LlBlock>, NoMem> {
+) -> Result<Seq<LlBlock>, NoMem>
+    ensures { IfOk result (λ blocks. Asks (spec.of_sum op overflows found.old) blocks found.new) }
+{
     let mut blocks = Seq::new(alloc);
     blocks.push(test(alloc, overflows, X, Y, 2, 1)?)?;
     blocks.push(result(alloc, op)?)?;
@@ -78,7 +97,9 @@ fn of_sum(
 
 // ---- shifts: the count is 0 to 63
 
-fn of_shift(alloc: Global, raises: bool, found: &mut Found) -> Result<Seq<LlBlock>, NoMem> {
+fn of_shift(alloc: Global, raises: bool, found: &mut Found) -> Result<Seq<LlBlock>, NoMem>
+    ensures { IfOk result (λ blocks. Asks (spec.of_shift raises found.old) blocks found.new) }
+{
     let mut blocks = Seq::new(alloc);
     blocks.push(test(alloc, CBinary::Lt, Y, word(0), 5, 1)?)?;
     blocks.push(test(alloc, CBinary::Lt, Y, word(64), 2, 5)?)?;
@@ -93,7 +114,9 @@ fn of_shift(alloc: Global, raises: bool, found: &mut Found) -> Result<Seq<LlBloc
 
 // ---- quotients: the divisor is not zero, and the smallest word has no opposite
 
-fn of_quotient(alloc: Global, raises: bool, found: &mut Found) -> Result<Seq<LlBlock>, NoMem> {
+fn of_quotient(alloc: Global, raises: bool, found: &mut Found) -> Result<Seq<LlBlock>, NoMem>
+    ensures { IfOk result (λ blocks. Asks (spec.of_quotient raises found.old) blocks found.new) }
+{
     let mut blocks = Seq::new(alloc);
     blocks.push(test(alloc, CBinary::Eq, Y, word(0), 5, 1)?)?;
     blocks.push(test(alloc, CBinary::Eq, Y, word(-1), 2, 3)?)?;
@@ -106,7 +129,9 @@ fn of_quotient(alloc: Global, raises: bool, found: &mut Found) -> Result<Seq<LlB
     Ok(blocks)
 }
 
-fn of_rest(alloc: Global, raises: bool, found: &mut Found) -> Result<Seq<LlBlock>, NoMem> {
+fn of_rest(alloc: Global, raises: bool, found: &mut Found) -> Result<Seq<LlBlock>, NoMem>
+    ensures { IfOk result (λ blocks. Asks (spec.of_rest raises found.old) blocks found.new) }
+{
     let mut blocks = Seq::new(alloc);
     blocks.push(test(alloc, CBinary::Eq, Y, word(0), 2, 1)?)?;
     blocks.push(result(alloc, CBinary::Mod)?)?;
@@ -120,7 +145,9 @@ fn blocks_of(
     op: CBinary,
     raises: bool,
     found: &mut Found,
-) -> Result<Seq<LlBlock>, NoMem> {
+) -> Result<Seq<LlBlock>, NoMem>
+    ensures { IfOk result (λ blocks. Asks (spec.blocks_of op raises found.old) blocks found.new) }
+{
     match op {
         CBinary::Add => of_sum(alloc, op, CBinary::AddOvf, found),
         CBinary::Sub => of_sum(alloc, op, CBinary::SubOvf, found),
@@ -131,7 +158,9 @@ fn blocks_of(
     }
 }
 
-fn types(alloc: Global) -> Result<Seq<LlType>, NoMem> {
+fn types(alloc: Global) -> Result<Seq<LlType>, NoMem>
+    ensures { IfOk result (λ list. list ≡ spec.types) }
+{
     let mut types = Seq::new(alloc);
     types.push(LlType::Signed)?;
     types.push(LlType::Signed)?;
@@ -146,7 +175,9 @@ pub fn checked_graph(
     op: CBinary,
     raises: bool,
     found: &mut Found,
-) -> Result<LlGraph, NoMem> {
+) -> Result<LlGraph, NoMem>
+    ensures { IfOk result (λ graph. Asks (spec.checked_graph op raises found.old) graph found.new) }
+{
     Ok(LlGraph {
         name: Text::from_bytes(alloc, b"checked")?,
         params: variables(alloc, [0, 1])?,
@@ -157,7 +188,9 @@ pub fn checked_graph(
 }
 
 /// The graph of the opposite of a word. The second variable is a word that nothing reads.
-pub fn checked_neg_graph(alloc: Global, found: &mut Found) -> Result<LlGraph, NoMem> {
+pub fn checked_neg_graph(alloc: Global, found: &mut Found) -> Result<LlGraph, NoMem>
+    ensures { IfOk result (λ graph. Asks (spec.checked_neg_graph found.old) graph found.new) }
+{
     let asked = one(alloc, LlOp::Binary(2, CBinary::Eq, X, word(i64::MIN)))?;
     let yes = link(alloc, 2, [])?;
     let no = link(alloc, 1, [X])?;

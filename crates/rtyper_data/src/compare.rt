@@ -1,17 +1,23 @@
 // Comparisons.
+ghost use Rattle.std.specs.Prelude.{◌≡◌, IfOk, OnOk};
+ghost use Rattle.rtyper_data.specs.Comparing as spec;
+ghost use Rattle.rtyper_data.specs.Seen.{the_around, the_operand, the_operands, the_place, writing, Leaves, Gives, Writes, Asks};
+
 use crate::body::{Around, Body, Operand};
 use crate::convert::{by_small, given, helped, value_as};
 use crate::found::Found;
 use crate::small::Small;
 use csub_tree::{CBinary, CConst, COperand, CUnary};
-use ll_code::{LlOp, LlType};
+use ll_code::{LlOp, LlType, VarId};
 use ll_helpers::Helper;
 use rpy_base::NoMem;
 use rpy_tree::CmpOp;
 use rtyper_layout::{Kind, Layout, is_text, is_text_or_none, kind_seen};
 use std::alloc::Global;
 
-pub fn flag(b: bool) -> COperand {
+pub fn flag(b: bool) -> COperand
+    ensures { result ≡ spec.flag b }
+{
     COperand::Const(CConst::Bool(b))
 }
 
@@ -22,21 +28,28 @@ pub fn binary(
     x: COperand,
     y: COperand,
     body: &mut Body,
-) -> Result<COperand, NoMem> {
+) -> Result<COperand, NoMem>
+    ensures { IfOk result (λ z. Writes (spec.binary_in op gives x y body.old) z body.new) }
+{
     let into = body.fresh(gives)?;
     body.ops.push(LlOp::Binary(into, op, x, y))?;
     Ok(COperand::Var(into))
 }
 
 /// The result of an operation on one operand.
-pub fn unary(op: CUnary, gives: LlType, x: COperand, body: &mut Body) -> Result<COperand, NoMem> {
+pub fn unary(op: CUnary, gives: LlType, x: COperand, body: &mut Body) -> Result<COperand, NoMem>
+    ensures { IfOk result (λ z. Writes (spec.unary_in op gives x body.old) z body.new) }
+{
     let into = body.fresh(gives)?;
     body.ops.push(LlOp::Unary(into, op, x))?;
     Ok(COperand::Var(into))
 }
 
 /// The opposite of a truth value, where that is asked.
-pub fn opposite_if(reversed: bool, x: COperand, body: &mut Body) -> Result<COperand, NoMem> {
+#[tactic(auto, unfolding(crate::specs::Comparing::opposite_if))]
+pub fn opposite_if(reversed: bool, x: COperand, body: &mut Body) -> Result<COperand, NoMem>
+    ensures { IfOk result (λ z. Writes (spec.opposite_if reversed x body.old) z body.new) }
+{
     if reversed {
         unary(CUnary::Not, LlType::Bool, x, body)
     } else {
@@ -45,7 +58,9 @@ pub fn opposite_if(reversed: bool, x: COperand, body: &mut Body) -> Result<COper
 }
 
 /// Of the numbers of two bytes.
-pub fn of_bytes(op: CBinary, x: COperand, y: COperand, body: &mut Body) -> Result<COperand, NoMem> {
+pub fn of_bytes(op: CBinary, x: COperand, y: COperand, body: &mut Body) -> Result<COperand, NoMem>
+    ensures { IfOk result (λ z. Writes (spec.of_bytes op x y body.old) z body.new) }
+{
     let a = unary(CUnary::C2S, LlType::Signed, x, body)?;
     let b = unary(CUnary::C2S, LlType::Signed, y, body)?;
     binary(op, LlType::Bool, a, b, body)
@@ -53,6 +68,7 @@ pub fn of_bytes(op: CBinary, x: COperand, y: COperand, body: &mut Body) -> Resul
 
 // ---- equality
 
+#[tactic(auto, unfolding(crate::specs::Comparing::texts_equal))]
 fn texts_equal(
     alloc: Global,
     layout: &Layout,
@@ -62,14 +78,18 @@ fn texts_equal(
     t: LlType,
     found: &mut Found,
     body: &mut Body,
-) -> Result<COperand, NoMem> {
+) -> Result<COperand, NoMem>
+    ensures { IfOk result (λ z. Gives (spec.texts_equal layout.now x s y t (writing found.old body.old)) z found.new body.new) }
+{
     let a = value_as(alloc, layout, x, s, LlType::Ptr(0), found, body)?;
     let b = value_as(alloc, layout, y, t, LlType::Ptr(0), found, body)?;
     helped(alloc, Helper::StrEqual, LlType::Bool, [a, b], found, body)
 }
 
 // Whether a pointer is NULL.
-pub fn is_null(x: COperand, body: &mut Body) -> Result<COperand, NoMem> {
+pub fn is_null(x: COperand, body: &mut Body) -> Result<COperand, NoMem>
+    ensures { IfOk result (λ z. Writes (spec.is_null x body.old) z body.new) }
+{
     binary(
         CBinary::Peq,
         LlType::Bool,
@@ -80,7 +100,9 @@ pub fn is_null(x: COperand, body: &mut Body) -> Result<COperand, NoMem> {
 }
 
 // Whether a function value is NULL.
-pub fn is_no_function(x: COperand, body: &mut Body) -> Result<COperand, NoMem> {
+pub fn is_no_function(x: COperand, body: &mut Body) -> Result<COperand, NoMem>
+    ensures { IfOk result (λ z. Writes (spec.is_no_function x body.old) z body.new) }
+{
     let null = COperand::Const(CConst::Null);
     binary(CBinary::Feq, LlType::Bool, x, null, body)
 }
@@ -94,7 +116,9 @@ fn pointers_equal(
     n: u64,
     found: &mut Found,
     body: &mut Body,
-) -> Result<COperand, NoMem> {
+) -> Result<COperand, NoMem>
+    ensures { IfOk result (λ z. Gives (spec.pointers_equal layout.now x m y n (writing found.old body.old)) z found.new body.new) }
+{
     if m == 0 && n == 0 {
         return helped(alloc, Helper::StrEqual, LlType::Bool, [x, y], found, body);
     }
@@ -105,6 +129,7 @@ fn pointers_equal(
 }
 
 /// Whether two values of these types are equal. `None` alone is a truth value.
+#[tactic(auto, unfolding(crate::specs::Comparing::equal))]
 pub fn equal(
     alloc: Global,
     layout: &Layout,
@@ -114,7 +139,9 @@ pub fn equal(
     t: LlType,
     found: &mut Found,
     body: &mut Body,
-) -> Result<COperand, NoMem> {
+) -> Result<COperand, NoMem>
+    ensures { IfOk result (λ z. Gives (spec.equal layout.now x s y t (writing found.old body.old)) z found.new body.new) }
+{
     match (s, t) {
         (LlType::Signed, LlType::Signed) => binary(CBinary::Eq, LlType::Bool, x, y, body),
         (LlType::Bool, LlType::Bool) => binary(CBinary::Beq, LlType::Bool, x, y, body),
@@ -135,7 +162,9 @@ pub fn equal(
 // ---- identity
 
 // A value beside `None`.
-fn beside_none(around: Around<'_>, a: Operand<'_>, body: &mut Body) -> Result<COperand, NoMem> {
+fn beside_none(around: Around<'_>, a: Operand<'_>, body: &mut Body) -> Result<COperand, NoMem>
+    ensures { IfOk result (λ z. Writes (spec.beside_none (the_around around.entry) (the_operand a.entry) body.old) z body.new) }
+{
     match around.type_of(a) {
         LlType::Ptr(_) => is_null(a.x, body),
         LlType::Fn => is_no_function(a.x, body),
@@ -144,7 +173,9 @@ fn beside_none(around: Around<'_>, a: Operand<'_>, body: &mut Body) -> Result<CO
 }
 
 // Two lists, or two dicts, of different types are the same where both are `None`.
-fn both_null(x: COperand, y: COperand, body: &mut Body) -> Result<COperand, NoMem> {
+fn both_null(x: COperand, y: COperand, body: &mut Body) -> Result<COperand, NoMem>
+    ensures { IfOk result (λ z. Writes (spec.both_null x y body.old) z body.new) }
+{
     let a = is_null(x, body)?;
     let b = is_null(y, body)?;
     let a = unary(CUnary::B2S, LlType::Signed, a, body)?;
@@ -159,9 +190,10 @@ fn same_pointer(
     around: Around<'_>,
     a: Operand<'_>,
     b: Operand<'_>,
-    found: &mut Found,
     body: &mut Body,
-) -> Result<COperand, NoMem> {
+) -> Result<COperand, NoMem>
+    ensures { IfOk result (λ z. Writes (spec.same_pointer (the_around around.entry) (the_operand a.entry) (the_operand b.entry) body.old) z body.new) }
+{
     match (around.type_of(a), around.type_of(b)) {
         (LlType::Ptr(m), LlType::Ptr(n)) => {
             if m == n {
@@ -173,24 +205,28 @@ fn same_pointer(
     }
 }
 
+#[tactic(auto, unfolding(crate::specs::Comparing::identical))]
 fn identical(
     around: Around<'_>,
     a: Operand<'_>,
     b: Operand<'_>,
-    found: &mut Found,
     body: &mut Body,
-) -> Result<COperand, NoMem> {
+) -> Result<COperand, NoMem>
+    ensures { IfOk result (λ z. Writes (spec.identical (the_around around.entry) (the_operand a.entry) (the_operand b.entry) body.old) z body.new) }
+{
     match (kind_seen(a.element), kind_seen(b.element)) {
         (Kind::Nothing, Kind::Nothing) => Ok(flag(true)),
         (Kind::Nothing, _) => beside_none(around, b, body),
         (_, Kind::Nothing) => beside_none(around, a, body),
-        _ => same_pointer(around, a, b, found, body),
+        _ => same_pointer(around, a, b, body),
     }
 }
 
 // ---- order
 
-fn of_words(op: CmpOp) -> CBinary {
+fn of_words(op: CmpOp) -> CBinary
+    ensures { result ≡ spec.of_words op }
+{
     match op {
         CmpOp::Lt => CBinary::Lt,
         CmpOp::Le => CBinary::Le,
@@ -210,7 +246,9 @@ fn texts_less(
     b: Operand<'_>,
     found: &mut Found,
     body: &mut Body,
-) -> Result<COperand, NoMem> {
+) -> Result<COperand, NoMem>
+    ensures { IfOk result (λ z. Gives (spec.texts_less (the_around around.entry) op (the_operand a.entry) (the_operand b.entry) (writing found.old body.old)) z found.new body.new) }
+{
     let x = given(alloc, around, a, LlType::Ptr(0), found, body)?;
     let y = given(alloc, around, b, LlType::Ptr(0), found, body)?;
     let (x, y, reversed) = match op {
@@ -223,6 +261,7 @@ fn texts_less(
     opposite_if(reversed, less, body)
 }
 
+#[tactic(auto, unfolding(crate::specs::Comparing::ordered))]
 fn ordered(
     alloc: Global,
     around: Around<'_>,
@@ -231,7 +270,9 @@ fn ordered(
     b: Operand<'_>,
     found: &mut Found,
     body: &mut Body,
-) -> Result<COperand, NoMem> {
+) -> Result<COperand, NoMem>
+    ensures { IfOk result (λ z. Gives (spec.ordered (the_around around.entry) op (the_operand a.entry) (the_operand b.entry) (writing found.old body.old)) z found.new body.new) }
+{
     let kinds = (kind_seen(a.element), kind_seen(b.element));
     match kinds {
         (Kind::Word, Kind::Word) => binary(of_words(op), LlType::Bool, a.x, b.x, body),
@@ -254,7 +295,9 @@ fn within_text(
     b: Operand<'_>,
     found: &mut Found,
     body: &mut Body,
-) -> Result<COperand, NoMem> {
+) -> Result<COperand, NoMem>
+    ensures { IfOk result (λ z. Gives (spec.within_text (the_around around.entry) (the_operand a.entry) (the_operand b.entry) (writing found.old body.old)) z found.new body.new) }
+{
     let part = given(alloc, around, a, LlType::Ptr(0), found, body)?;
     let text = given(alloc, around, b, LlType::Ptr(0), found, body)?;
     helped(
@@ -267,6 +310,29 @@ fn within_text(
     )
 }
 
+/// The field of a tuple at a place.
+pub fn field_of(
+    n: u64,
+    tuple: VarId,
+    i: u64,
+    field: LlType,
+    body: &mut Body,
+) -> Result<COperand, NoMem>
+    ensures { IfOk result (λ x. Writes (spec.field_of n tuple i field body.old) x body.new) }
+{
+    let item = body.fresh(field)?;
+    body.ops.push(LlOp::GetField(item, n, tuple, i))?;
+    Ok(COperand::Var(item))
+}
+
+// A word that is not zero where the word is not, or the truth value holds.
+fn or_word(any: COperand, same: COperand, body: &mut Body) -> Result<COperand, NoMem>
+    ensures { IfOk result (λ x. Writes (spec.or_word any same body.old) x body.new) }
+{
+    let word = unary(CUnary::B2S, LlType::Signed, same, body)?;
+    binary(CBinary::Or, LlType::Signed, any, word, body)
+}
+
 // Whether one of the items of a tuple is equal to the value.
 fn within_tuple(
     alloc: Global,
@@ -276,36 +342,25 @@ fn within_tuple(
     n: u64,
     found: &mut Found,
     body: &mut Body,
-) -> Result<COperand, NoMem> {
+) -> Result<COperand, NoMem>
+    ensures { IfOk result (λ z. Gives (spec.within_tuple (the_around around.entry) (the_operand a.entry) b n (writing found.old body.old)) z found.new body.new) }
+{
     let s = around.type_of(a);
     let tuple = crate::tuple::variable_of(b, LlType::Ptr(n), body)?;
-    let fields = around.layout.fields(n);
     let mut any = COperand::Const(CConst::Word(0));
-    for i in 0..fields.len() {
-        let item = body.fresh(fields[i])?;
-        body.ops.push(LlOp::GetField(item, n, tuple, i as u64))?;
-        let same = equal(
-            alloc,
-            around.layout,
-            COperand::Var(item),
-            fields[i],
-            a.x,
-            s,
-            found,
-            body,
-        )?;
-        let word = unary(CUnary::B2S, LlType::Signed, same, body)?;
-        any = binary(CBinary::Or, LlType::Signed, any, word, body)?;
+    let fields = around.layout.fields(n);
+    let mut i: usize = 0;
+    for field in fields {
+        let item = field_of(n, tuple, i as u64, *field, body)?;
+        let same = equal(alloc, around.layout, item, *field, a.x, s, found, body)?;
+        any = or_word(any, same, body)?;
+        i += 1;
     }
-    binary(
-        CBinary::Ne,
-        LlType::Bool,
-        any,
-        COperand::Const(CConst::Word(0)),
-        body,
-    )
+    let zero = COperand::Const(CConst::Word(0));
+    binary(CBinary::Ne, LlType::Bool, any, zero, body)
 }
 
+#[tactic(auto, unfolding(crate::specs::Comparing::within))]
 fn within(
     alloc: Global,
     around: Around<'_>,
@@ -313,7 +368,9 @@ fn within(
     b: Operand<'_>,
     found: &mut Found,
     body: &mut Body,
-) -> Result<COperand, NoMem> {
+) -> Result<COperand, NoMem>
+    ensures { IfOk result (λ z. Gives (spec.within (the_around around.entry) (the_operand a.entry) (the_operand b.entry) (writing found.old body.old)) z found.new body.new) }
+{
     match (kind_seen(a.element), kind_seen(b.element)) {
         (Kind::Byte, Kind::Byte) => of_bytes(CBinary::Eq, a.x, b.x, body),
         (_, Kind::Tuple) => match around.type_of(b) {
@@ -330,6 +387,7 @@ fn within(
 }
 
 /// The truth value that a comparison gives.
+#[tactic(auto, unfolding(crate::specs::Comparing::compare))]
 pub fn compare(
     alloc: Global,
     around: Around<'_>,
@@ -338,7 +396,9 @@ pub fn compare(
     b: Operand<'_>,
     found: &mut Found,
     body: &mut Body,
-) -> Result<COperand, NoMem> {
+) -> Result<COperand, NoMem>
+    ensures { IfOk result (λ z. Gives (spec.compare (the_around around.entry) op (the_operand a.entry) (the_operand b.entry) (writing found.old body.old)) z found.new body.new) }
+{
     match op {
         CmpOp::Eq | CmpOp::Ne => {
             let s = around.type_of(a);
@@ -347,7 +407,7 @@ pub fn compare(
             opposite_if(op == CmpOp::Ne, same, body)
         }
         CmpOp::Is | CmpOp::IsNot => {
-            let same = identical(around, a, b, found, body)?;
+            let same = identical(around, a, b, body)?;
             opposite_if(op == CmpOp::IsNot, same, body)
         }
         CmpOp::Within | CmpOp::NotWithin => {

@@ -1,4 +1,10 @@
 // Constants as operands. Strings and tuples are statics.
+ghost use Rattle.std.specs.Prelude.{◌≡◌, IfOk, OnOk};
+ghost use Rattle.std.specs.Prelude.{map};
+ghost use Rattle.rtyper_data.specs.Constants as spec;
+ghost use Rattle.rtyper_data.specs.Converting as converting;
+ghost use Rattle.rtyper_data.specs.Seen.{the_around, the_operand, the_operands, the_place, writing, Leaves, Gives, Writes, Asks};
+
 use crate::body::Around;
 use crate::convert::default_operand;
 use crate::found::{Found, static_of, static_of_site};
@@ -8,7 +14,9 @@ use rpy_base::{NoMem, Seq};
 use rpy_tree::{Const, FunId, SiteId};
 use std::alloc::Global;
 
-fn default_constant(kind: LlType) -> CConst {
+fn default_constant(kind: LlType) -> CConst
+    ensures { result ≡ converting.default_constant kind }
+{
     match default_operand(kind) {
         COperand::Const(constant) => constant,
         COperand::Var(_) => CConst::Word(0),
@@ -16,7 +24,9 @@ fn default_constant(kind: LlType) -> CConst {
 }
 
 // The length, and the bytes.
-fn text_cells(alloc: Global, bytes: &[u8]) -> Result<Seq<CCell>, NoMem> {
+fn text_cells(alloc: Global, bytes: &[u8]) -> Result<Seq<CCell>, NoMem>
+    ensures { IfOk result (λ cells. cells ≡ spec.text_cells bytes.now) }
+{
     let mut items = Seq::new(alloc);
     for byte in bytes {
         items.push(CCell::Const(CConst::Char(*byte)))?;
@@ -31,7 +41,9 @@ fn text_cells(alloc: Global, bytes: &[u8]) -> Result<Seq<CCell>, NoMem> {
     Ok(cells)
 }
 
-fn text(alloc: Global, bytes: &[u8], to: LlType, found: &mut Found) -> Result<CConst, NoMem> {
+fn text(alloc: Global, bytes: &[u8], to: LlType, found: &mut Found) -> Result<CConst, NoMem>
+    ensures { IfOk result (λ made. Asks (spec.text bytes.now to found.old) made found.new) }
+{
     match (to, bytes) {
         (LlType::Char, [byte]) => Ok(CConst::Char(*byte)),
         (LlType::Ptr(0), _) => {
@@ -43,7 +55,9 @@ fn text(alloc: Global, bytes: &[u8], to: LlType, found: &mut Found) -> Result<CC
 }
 
 // A function that is never called has no graph, and any stands in for it.
-fn function_of(around: Around<'_>, function: FunId, to: LlType) -> CConst {
+fn function_of(around: Around<'_>, function: FunId, to: LlType) -> CConst
+    ensures { result ≡ spec.function_of (the_around around.entry) function to }
+{
     match (to, around.numbers.get(function as usize)) {
         (LlType::Fn, Some(number)) => CConst::Fun(*number),
         (LlType::Fn, None) => CConst::Fun(0),
@@ -58,7 +72,9 @@ fn tuple_cells(
     parts: &[Const],
     fields: &[LlType],
     found: &mut Found,
-) -> Result<Seq<CCell>, NoMem> {
+) -> Result<Seq<CCell>, NoMem>
+    ensures { IfOk result (λ cells. Asks (spec.parts_of (map (spec.constant_of (the_around around.entry)) parts.now) fields.now found.old) cells found.new) }
+{
     let mut cells = Seq::new(alloc);
     let mut rest = fields;
     for part in parts {
@@ -75,7 +91,9 @@ fn tuple_cells(
 }
 
 // The static of a list or dict, which was made before.
-fn prebuilt(site: SiteId, to: LlType, found: &Found) -> CConst {
+fn prebuilt(site: SiteId, to: LlType, found: &Found) -> CConst
+    ensures { result ≡ spec.prebuilt site to found.now }
+{
     match (to, static_of_site(found, site)) {
         (LlType::Ptr(kind), Some(number)) => CConst::Static(kind, number),
         _ => default_constant(to),
@@ -84,13 +102,16 @@ fn prebuilt(site: SiteId, to: LlType, found: &Found) -> CConst {
 
 /// The constant as a value of this type.
 #[cycle(constant)]
+#[tactic(auto, using(crate::proofs::Parts::tuple_is))]
 pub fn constant_of(
     alloc: Global,
     around: Around<'_>,
     constant: &Const,
     to: LlType,
     found: &mut Found,
-) -> Result<CConst, NoMem> {
+) -> Result<CConst, NoMem>
+    ensures { IfOk result (λ made. Asks (spec.constant_of (the_around around.entry) constant.now to found.old) made found.new) }
+{
     match constant {
         Const::Word(n) => Ok(CConst::Word(*n)),
         Const::Bool(b) => Ok(CConst::Bool(*b)),
@@ -118,6 +139,8 @@ pub fn text_of(
     bytes: &[u8],
     to: LlType,
     found: &mut Found,
-) -> Result<COperand, NoMem> {
+) -> Result<COperand, NoMem>
+    ensures { IfOk result (λ made. Asks (spec.operand_of (spec.text bytes.now to found.old)) made found.new) }
+{
     Ok(COperand::Const(text(alloc, bytes, to, found)?))
 }

@@ -1,5 +1,9 @@
 // Values of one type as values of another. A string of length one has a type of its own, `None` is a
 // truth value where nothing else stands, and tuples have a struct for each shape.
+ghost use Rattle.std.specs.Prelude.{◌≡◌, IfOk, OnOk};
+ghost use Rattle.rtyper_data.specs.Converting as spec;
+ghost use Rattle.rtyper_data.specs.Seen.{the_around, the_operand, the_operands, the_place, writing, Leaves, Gives, Writes, Asks};
+
 use crate::body::{Around, Body, Operand, Place};
 use crate::found::{Found, helper_number, small_number};
 use crate::small::Small;
@@ -11,7 +15,9 @@ use rtyper_layout::Layout;
 use std::alloc::Global;
 
 /// A value of a type, where none is asked.
-pub fn default_operand(kind: LlType) -> COperand {
+pub fn default_operand(kind: LlType) -> COperand
+    ensures { result ≡ spec.default_operand kind }
+{
     COperand::Const(match kind {
         LlType::Signed | LlType::Void => CConst::Word(0),
         LlType::Char => CConst::Char(0),
@@ -21,10 +27,9 @@ pub fn default_operand(kind: LlType) -> COperand {
 }
 
 /// A list of operands.
-pub fn operands<const N: usize>(
-    alloc: Global,
-    items: [COperand; N],
-) -> Result<Seq<COperand>, NoMem> {
+pub fn operands<const N: usize>(alloc: Global, items: [COperand; N]) -> Result<Seq<COperand>, NoMem>
+    ensures { IfOk result (λ list. list ≡ items.entry) }
+{
     let items = Vec::from_array(alloc, items)?;
     Ok(Seq::from_vec(items))
 }
@@ -32,6 +37,7 @@ pub fn operands<const N: usize>(
 // ---- calls
 
 /// What a helper gives for these operands.
+#[tactic(auto, unfolding(crate::specs::Converting::helped))]
 pub fn helped<const N: usize>(
     alloc: Global,
     helper: Helper,
@@ -39,7 +45,9 @@ pub fn helped<const N: usize>(
     xs: [COperand; N],
     found: &mut Found,
     body: &mut Body,
-) -> Result<COperand, NoMem> {
+) -> Result<COperand, NoMem>
+    ensures { IfOk result (λ x. Gives (spec.helped helper gives xs.entry (writing found.old body.old)) x found.new body.new) }
+{
     let number = helper_number(helper, found)?;
     let into = body.fresh(gives)?;
     let xs = operands(alloc, xs)?;
@@ -48,6 +56,7 @@ pub fn helped<const N: usize>(
 }
 
 /// What a small graph gives for these operands.
+#[tactic(auto, unfolding(crate::specs::Converting::by_small))]
 pub fn by_small<const N: usize>(
     alloc: Global,
     small: Small,
@@ -55,7 +64,9 @@ pub fn by_small<const N: usize>(
     xs: [COperand; N],
     found: &mut Found,
     body: &mut Body,
-) -> Result<COperand, NoMem> {
+) -> Result<COperand, NoMem>
+    ensures { IfOk result (λ x. Gives (spec.by_small small gives xs.entry (writing found.old body.old)) x found.new body.new) }
+{
     let number = small_number(small, found)?;
     let into = body.fresh(gives)?;
     let xs = operands(alloc, xs)?;
@@ -66,6 +77,7 @@ pub fn by_small<const N: usize>(
 // ---- conversions
 
 /// The value as one of another type. A value of a type that is not for it never comes there.
+#[tactic(auto, unfolding(crate::specs::Converting::value_as))]
 pub fn value_as(
     alloc: Global,
     layout: &Layout,
@@ -74,7 +86,9 @@ pub fn value_as(
     to: LlType,
     found: &mut Found,
     body: &mut Body,
-) -> Result<COperand, NoMem> {
+) -> Result<COperand, NoMem>
+    ensures { IfOk result (λ y. Gives (spec.value_as layout.now x from to (writing found.old body.old)) y found.new body.new) }
+{
     if from == to {
         return Ok(x);
     }
@@ -99,7 +113,9 @@ pub fn given(
     to: LlType,
     found: &mut Found,
     body: &mut Body,
-) -> Result<COperand, NoMem> {
+) -> Result<COperand, NoMem>
+    ensures { IfOk result (λ y. Gives (spec.given (the_around around.entry) (the_operand operand.entry) to (writing found.old body.old)) y found.new body.new) }
+{
     let from = around.type_of(operand);
     value_as(alloc, around.layout, operand.x, from, to, found, body)
 }
@@ -112,7 +128,9 @@ pub fn present(
     or_none: bool,
     found: &mut Found,
     body: &mut Body,
-) -> Result<COperand, NoMem> {
+) -> Result<COperand, NoMem>
+    ensures { IfOk result (λ y. Gives (spec.present (the_around around.entry) (the_operand a.entry) or_none (writing found.old body.old)) y found.new body.new) }
+{
     let kind = around.type_of(a);
     if or_none {
         let small = Small::Present(kind, found.covered.attribute);
@@ -125,6 +143,7 @@ pub fn present(
 // ---- results
 
 /// The place takes a value of this type.
+#[tactic(auto, unfolding(crate::specs::Converting::give))]
 pub fn give(
     alloc: Global,
     around: Around<'_>,
@@ -133,7 +152,9 @@ pub fn give(
     from: LlType,
     found: &mut Found,
     body: &mut Body,
-) -> Result<(), NoMem> {
+) -> Result<(), NoMem>
+    ensures { OnOk result (Leaves (spec.give (the_around around.entry) (the_place place.entry) x from (writing found.old body.old)) found.new body.new) }
+{
     match around.type_at(place) {
         LlType::Void => Ok(()),
         to => {
@@ -144,7 +165,9 @@ pub fn give(
 }
 
 /// The place takes a value that says nothing.
-pub fn give_nothing(around: Around<'_>, place: Place<'_>, body: &mut Body) -> Result<(), NoMem> {
+pub fn give_nothing(around: Around<'_>, place: Place<'_>, body: &mut Body) -> Result<(), NoMem>
+    ensures { OnOk result (body.new ≡ spec.give_nothing (the_around around.entry) (the_place place.entry) body.old) }
+{
     match around.type_at(place) {
         LlType::Void => Ok(()),
         kind => body
@@ -160,7 +183,9 @@ pub fn landing(
     place: Place<'_>,
     gives: LlType,
     body: &mut Body,
-) -> Result<VarId, NoMem> {
+) -> Result<VarId, NoMem>
+    ensures { IfOk result (λ v. Writes (spec.landing (the_around around.entry) (the_place place.entry) gives body.old) v body.new) }
+{
     if around.type_at(place) == gives {
         Ok(place.variable)
     } else {
@@ -177,7 +202,9 @@ pub fn land(
     gives: LlType,
     found: &mut Found,
     body: &mut Body,
-) -> Result<(), NoMem> {
+) -> Result<(), NoMem>
+    ensures { OnOk result (Leaves (spec.land (the_around around.entry) (the_place place.entry) v gives (writing found.old body.old)) found.new body.new) }
+{
     if v == place.variable {
         return Ok(());
     }
@@ -185,6 +212,7 @@ pub fn land(
 }
 
 /// The place takes what a helper gives.
+#[tactic(auto, unfolding(crate::specs::Converting::give_helped))]
 pub fn give_helped<const N: usize>(
     alloc: Global,
     around: Around<'_>,
@@ -194,7 +222,9 @@ pub fn give_helped<const N: usize>(
     xs: [COperand; N],
     found: &mut Found,
     body: &mut Body,
-) -> Result<(), NoMem> {
+) -> Result<(), NoMem>
+    ensures { OnOk result (Leaves (spec.give_helped (the_around around.entry) (the_place place.entry) helper gives xs.entry (writing found.old body.old)) found.new body.new) }
+{
     let number = helper_number(helper, found)?;
     let v = landing(around, place, gives, body)?;
     let xs = operands(alloc, xs)?;

@@ -1,4 +1,8 @@
 // What the lowering of a program asks for: helpers, statics and small graphs.
+ghost use Rattle.std.specs.Prelude.{◌≡◌, slice_get, IfOk};
+ghost use Rattle.rtyper_data.specs.Finding as spec;
+ghost use Rattle.rtyper_data.specs.Seen.{Asks};
+
 use crate::small::{Small, is_same_small};
 use csub_tree::{CCell, CConst, CStatic};
 use ll_code::{LlStatic, LlType};
@@ -66,22 +70,34 @@ pub const NOTHING: Covers = Covers {
     attribute: false,
 };
 
-fn place_of_need(
-    needs: &[Need],
-    caught: &[Covers],
-    helper: Helper,
-    covered: Covers,
-) -> Option<usize> {
-    for i in 0..needs.len() {
-        if needs[i].helper == helper && caught.get(i) == Some(&covered) {
-            return Some(i);
+// Whether the need at a place is of the helper, and these are the failures that it is asked for to raise.
+#[tactic(auto, unfolding(crate::specs::Finding::is_need))]
+fn is_need(need: Need, caught: &[Covers], place: usize, helper: Helper, covered: Covers) -> bool
+    ensures { result ≡ spec.is_need need (slice_get caught.now place) helper covered }
+{
+    match caught.get(place) {
+        None => false,
+        Some(caught) => need.helper == helper && *caught == covered,
+    }
+}
+
+fn place_of_need(needs: &[Need], caught: &[Covers], helper: Helper, covered: Covers) -> Option<u64>
+    ensures { result ≡ spec.need_from 0 needs.now caught.now helper covered }
+{
+    let mut place: usize = 0;
+    for need in needs {
+        if is_need(*need, caught, place, helper, covered) {
+            return Some(place as u64);
         }
+        place += 1;
     }
     None
 }
 
 // Which failures a helper has, of those that an operation may have.
-fn failures_of(helper: Helper, covered: Covers) -> Covers {
+fn failures_of(helper: Helper, covered: Covers) -> Covers
+    ensures { result ≡ spec.failures_of helper covered }
+{
     match helper {
         Helper::WordDiv | Helper::WordMod => Covers {
             zero: covered.zero,
@@ -115,11 +131,15 @@ fn failures_of(helper: Helper, covered: Covers) -> Covers {
 }
 
 /// The number of the graph of a helper.
-pub fn helper_number(helper: Helper, found: &mut Found) -> Result<u64, NoMem> {
+#[tactic(auto, unfolding(crate::specs::Finding::helper_number))]
+pub fn helper_number(helper: Helper, found: &mut Found) -> Result<u64, NoMem>
+    ensures { IfOk result (λ number. Asks (spec.helper_number helper found.old) number found.new) }
+{
     let covered = failures_of(helper, found.covered);
     let needs = found.needs.as_slice();
-    if let Some(place) = place_of_need(needs, found.caught.as_slice(), helper, covered) {
-        return Ok(place as u64);
+    match place_of_need(needs, found.caught.as_slice(), helper, covered) {
+        Some(place) => return Ok(place),
+        None => {}
     }
     found.caught.push(covered)?;
     let number = found.needs.len() as u64;
@@ -133,19 +153,27 @@ pub fn helper_number(helper: Helper, found: &mut Found) -> Result<u64, NoMem> {
 
 // ---- small graphs
 
-fn place_of_small(smalls: &[Small], small: Small) -> Option<usize> {
-    for i in 0..smalls.len() {
-        if is_same_small(smalls[i], small) {
-            return Some(i);
+fn place_of_small(smalls: &[Small], small: Small) -> Option<u64>
+    ensures { result ≡ spec.small_from 0 smalls.now small }
+{
+    let mut place: usize = 0;
+    for each in smalls {
+        if is_same_small(*each, small) {
+            return Some(place as u64);
         }
+        place += 1;
     }
     None
 }
 
 /// The number of a small graph.
-pub fn small_number(small: Small, found: &mut Found) -> Result<u64, NoMem> {
-    if let Some(place) = place_of_small(found.smalls.as_slice(), small) {
-        return Ok(found.first_small.saturating_add(place as u64));
+#[tactic(auto, unfolding(crate::specs::Finding::small_number))]
+pub fn small_number(small: Small, found: &mut Found) -> Result<u64, NoMem>
+    ensures { IfOk result (λ number. Asks (spec.small_number small found.old) number found.new) }
+{
+    match place_of_small(found.smalls.as_slice(), small) {
+        Some(place) => return Ok(found.first_small.saturating_add(place)),
+        None => {}
     }
     let number = found.first_small.saturating_add(found.smalls.len() as u64);
     found.smalls.push(small)?;
@@ -155,7 +183,10 @@ pub fn small_number(small: Small, found: &mut Found) -> Result<u64, NoMem> {
 // ---- statics
 
 #[cycle(same)]
-fn is_same_cell(a: &CCell, b: &CCell) -> bool {
+#[tactic(auto, using(crate::proofs::Cells::constants_are, crate::proofs::Cells::braces_are, crate::proofs::Cells::constant_is_no_brace, crate::proofs::Cells::brace_is_no_constant))]
+fn is_same_cell(a: &CCell, b: &CCell) -> bool
+    ensures { result ≡ spec.same_cell a.now b.now }
+{
     match (a, b) {
         (CCell::Const(x), CCell::Const(y)) => *x == *y,
         (CCell::Braces(xs), CCell::Braces(ys)) => are_same_cells(xs.as_slice(), ys.as_slice()),
@@ -164,10 +195,9 @@ fn is_same_cell(a: &CCell, b: &CCell) -> bool {
 }
 
 #[cycle(same)]
-fn are_same_cells(xs: &[CCell], ys: &[CCell]) -> bool {
-    if xs.len() != ys.len() {
-        return false;
-    }
+fn are_same_cells(xs: &[CCell], ys: &[CCell]) -> bool
+    ensures { result ≡ spec.same_cells xs.now ys.now }
+{
     let mut rest = ys;
     for x in xs {
         match rest {
@@ -180,20 +210,26 @@ fn are_same_cells(xs: &[CCell], ys: &[CCell]) -> bool {
             }
         }
     }
-    true
+    rest.is_empty()
 }
 
-fn place_of_static(statics: &[LlStatic], kind: u64, cells: &[CCell]) -> Option<usize> {
-    for i in 0..statics.len() {
-        if statics[i].kind == kind && are_same_cells(statics[i].cells.as_slice(), cells) {
-            return Some(i);
+fn place_of_static(statics: &[LlStatic], kind: u64, cells: &[CCell]) -> Option<u64>
+    ensures { result ≡ spec.static_from 0 statics.now kind cells.now }
+{
+    let mut place: usize = 0;
+    for each in statics {
+        if each.kind == kind && are_same_cells(each.cells.as_slice(), cells) {
+            return Some(place as u64);
         }
+        place += 1;
     }
     None
 }
 
 /// The static of the list or dict of a site, where that is a constant that was made.
-pub fn static_of_site(found: &Found, site: SiteId) -> Option<u64> {
+pub fn static_of_site(found: &Found, site: SiteId) -> Option<u64>
+    ensures { result ≡ spec.prebuilt_at found.now.prebuilt site }
+{
     for each in found.prebuilt.as_slice() {
         if each.0 == site {
             return Some(each.1);
@@ -203,14 +239,16 @@ pub fn static_of_site(found: &Found, site: SiteId) -> Option<u64> {
 }
 
 /// The constant that is a static of this struct with these cells.
-pub fn static_of(kind: u64, cells: Seq<CCell>, found: &mut Found) -> Result<CConst, NoMem> {
-    let place = match place_of_static(found.statics.as_slice(), kind, cells.as_slice()) {
-        Some(place) => place,
+#[tactic(auto, unfolding(crate::specs::Finding::static_of))]
+pub fn static_of(kind: u64, cells: Seq<CCell>, found: &mut Found) -> Result<CConst, NoMem>
+    ensures { IfOk result (λ made. Asks (spec.static_of kind cells found.old) made found.new) }
+{
+    match place_of_static(found.statics.as_slice(), kind, cells.as_slice()) {
+        Some(place) => Ok(CConst::Static(kind, place)),
         None => {
-            let place = found.statics.len();
+            let place = found.statics.len() as u64;
             found.statics.push(CStatic { kind, cells })?;
-            place
+            Ok(CConst::Static(kind, place))
         }
-    };
-    Ok(CConst::Static(kind, place as u64))
+    }
 }

@@ -1,5 +1,9 @@
 // Dicts that are constants of modules. Each is three statics: its two arrays, with the index as the graphs of dicts
 // make it, and the dict.
+ghost use Rattle.std.specs.Prelude.{◌≡◌, ◌++◌, IfOk, OnOk, [], map, pos, replicate};
+ghost use Rattle.rtyper_data.specs.Mapped as spec;
+ghost use Rattle.rtyper_data.specs.Seen.{the_around, Asks};
+
 use crate::body::Around;
 use crate::constant::constant_of;
 use crate::found::{Found, static_of};
@@ -27,17 +31,26 @@ struct Entry {
 
 // ---- hashes
 
-fn mixed(x: i64) -> i64 {
+#[tactic(auto, unfolding(crate::specs::Mapped::mixed))]
+fn mixed(x: i64) -> i64
+    ensures { result ≡ spec.mixed x }
+{
     let h = wrap_mul(x, MIX_FACTOR);
     h ^ shr(h, 32)
 }
 
 // With one item more.
-fn with_item(h: i64, x: i64) -> i64 {
+#[tactic(auto, unfolding(crate::specs::Mapped::with_item))]
+fn with_item(h: i64, x: i64) -> i64
+    ensures { result ≡ spec.with_item h x }
+{
     wrap_mul(h ^ x, HASH_FACTOR)
 }
 
-fn hash_of_text(bytes: &[u8], kind: LlType) -> i64 {
+#[tactic(auto, unfolding(crate::specs::Mapped::hash_of_text))]
+fn hash_of_text(bytes: &[u8], kind: LlType) -> i64
+    ensures { result ≡ spec.hash_of_text bytes.now kind }
+{
     match (kind, bytes) {
         (LlType::Char, [byte]) => mixed(*byte as i64),
         _ => {
@@ -51,7 +64,9 @@ fn hash_of_text(bytes: &[u8], kind: LlType) -> i64 {
 }
 
 #[cycle(hash)]
-fn hash_of_parts(layout: &Layout, parts: &[Const], fields: &[LlType]) -> i64 {
+fn hash_of_parts(layout: &Layout, parts: &[Const], fields: &[LlType]) -> i64
+    ensures { result ≡ spec.with_parts (pos 0) (map (spec.hash_of layout.now) parts.now) fields.now }
+{
     let mut h: i64 = 0;
     let mut rest = fields;
     for part in parts {
@@ -68,7 +83,10 @@ fn hash_of_parts(layout: &Layout, parts: &[Const], fields: &[LlType]) -> i64 {
 
 // The hash of a constant as a key of this type. Other constants are no keys.
 #[cycle(hash)]
-fn hash_of(layout: &Layout, constant: &Const, kind: LlType) -> i64 {
+#[tactic(auto, using(crate::proofs::Keys::tuple_is))]
+fn hash_of(layout: &Layout, constant: &Const, kind: LlType) -> i64
+    ensures { result ≡ spec.hash_of layout.now constant.now kind }
+{
     match constant {
         Const::Word(n) => mixed(*n),
         Const::Bool(b) => mixed(if *b { 1 } else { 0 }),
@@ -83,7 +101,9 @@ fn hash_of(layout: &Layout, constant: &Const, kind: LlType) -> i64 {
 
 // ---- entries
 
-fn as_word(constant: CConst) -> CConst {
+fn as_word(constant: CConst) -> CConst
+    ensures { result ≡ spec.as_word constant }
+{
     match constant {
         CConst::Bool(b) => CConst::Word(if b { 1 } else { 0 }),
         CConst::Char(byte) => CConst::Word(byte as i64),
@@ -92,6 +112,7 @@ fn as_word(constant: CConst) -> CConst {
 }
 
 // The constant as it stands in an array whose items have this type.
+#[tactic(auto, unfolding(crate::specs::Mapped::stored))]
 fn stored(
     alloc: Global,
     around: Around<'_>,
@@ -99,7 +120,9 @@ fn stored(
     kind: LlType,
     item: LlType,
     found: &mut Found,
-) -> Result<CConst, NoMem> {
+) -> Result<CConst, NoMem>
+    ensures { IfOk result (λ made. Asks (spec.stored (the_around around.entry) constant.now kind item found.old) made found.new) }
+{
     let made = constant_of(alloc, around, constant, kind, found)?;
     if item == kind {
         Ok(made)
@@ -109,17 +132,24 @@ fn stored(
 }
 
 // Equal keys are one constant.
-fn place_of_key(entries: &[Entry], key: CConst) -> Option<usize> {
-    for i in 0..entries.len() {
-        if entries[i].key == key {
-            return Some(i);
+fn place_of_key(entries: &[Entry], key: CConst) -> Option<usize>
+    ensures { result ≡ spec.key_from 0 entries.now key }
+{
+    let mut place: usize = 0;
+    for entry in entries {
+        if entry.key == key {
+            return Some(place);
         }
+        place += 1;
     }
     None
 }
 
 // A key that is there keeps its place.
-fn push_entry(entry: Entry, entries: &mut Seq<Entry>) -> Result<(), NoMem> {
+#[tactic(auto, unfolding(crate::specs::Mapped::with_entry))]
+fn push_entry(entry: Entry, entries: &mut Seq<Entry>) -> Result<(), NoMem>
+    ensures { OnOk result (entries.new ≡ spec.with_entry entry entries.old) }
+{
     match place_of_key(entries.as_slice(), entry.key) {
         None => entries.push(entry),
         Some(place) => {
@@ -131,13 +161,16 @@ fn push_entry(entry: Entry, entries: &mut Seq<Entry>) -> Result<(), NoMem> {
     }
 }
 
+#[tactic(auto, unfolding(crate::specs::Mapped::entry_of))]
 fn entry_of(
     alloc: Global,
     around: Around<'_>,
     mapping: Mapping,
     pair: &(Const, Const),
     found: &mut Found,
-) -> Result<Entry, NoMem> {
+) -> Result<Entry, NoMem>
+    ensures { IfOk result (λ entry. Asks (spec.entry_of (the_around around.entry) mapping pair.now found.old) entry found.new) }
+{
     let key = stored(
         alloc,
         around,
@@ -164,7 +197,9 @@ fn entries_of(
     mapping: Mapping,
     pairs: &[(Const, Const)],
     found: &mut Found,
-) -> Result<Seq<Entry>, NoMem> {
+) -> Result<Seq<Entry>, NoMem>
+    ensures { IfOk result (λ entries. Asks (spec.entries_from (the_around around.entry) mapping pairs.now ([], found.old)) entries found.new) }
+{
     let mut entries = Seq::new(alloc);
     for pair in pairs {
         let entry = entry_of(alloc, around, mapping, pair, found)?;
@@ -175,11 +210,13 @@ fn entries_of(
 
 // ---- the index
 
-// A power of two that is at least twice the number of entries.
-fn size_of(count: usize) -> usize {
-    let least = count.saturating_mul(2);
-    let mut size: usize = 2;
-    for _ in 0..62 {
+// Doubled so often at most, until it is enough.
+#[tactic(auto, using(crate::proofs::Keys::next_size, crate::proofs::Keys::last_size))]
+fn doubled(first: usize, least: usize, turns: usize) -> usize
+    ensures { result ≡ spec.size_from turns first least }
+{
+    let mut size = first;
+    for turn in 0..turns {
         if size >= least {
             return size;
         }
@@ -188,16 +225,29 @@ fn size_of(count: usize) -> usize {
     size
 }
 
-fn zeros(alloc: Global, count: usize) -> Result<Seq<i64>, NoMem> {
+// A power of two that is at least twice the number of entries.
+#[tactic(auto, unfolding(crate::specs::Mapped::size_of))]
+fn size_of(count: usize) -> usize
+    ensures { result ≡ spec.size_of count }
+{
+    doubled(2, count.saturating_mul(2), 62)
+}
+
+fn zeros(alloc: Global, count: usize) -> Result<Seq<i64>, NoMem>
+    ensures { IfOk result (λ words. words ≡ replicate count (pos 0)) }
+{
     let mut words = Seq::new(alloc);
-    for _ in 0..count {
+    for filled in 0..count {
         words.push(0)?;
     }
     Ok(words)
 }
 
 // Where a hash leads in an index of so many words.
-fn place_of_hash(hash: i64, size: usize) -> usize {
+#[tactic(auto, unfolding(crate::specs::Mapped::place_of_hash))]
+fn place_of_hash(hash: i64, size: usize) -> usize
+    ensures { result ≡ spec.place_of_hash hash size }
+{
     match i64::try_from(size) {
         Err(_) => 0,
         Ok(size) => match usize::try_from(hash & size.wrapping_sub(1)) {
@@ -208,13 +258,16 @@ fn place_of_hash(hash: i64, size: usize) -> usize {
 }
 
 // A word goes to the first empty place from that of its hash on.
-fn enter(hash: i64, word: i64, words: &mut Seq<i64>) {
+#[tactic(auto, using(crate::proofs::Keys::next_place), unfolding(crate::specs::Mapped::enter))]
+fn enter(hash: i64, word: i64, words: &mut Seq<i64>)
+    ensures { words.new ≡ spec.enter hash word words.old }
+{
     let size = words.len();
     if size == 0 {
         return;
     }
     let mut at = place_of_hash(hash, size);
-    for _ in 0..size {
+    for turn in 0..size {
         if at >= size {
             at = 0;
         }
@@ -226,7 +279,10 @@ fn enter(hash: i64, word: i64, words: &mut Seq<i64>) {
     }
 }
 
-fn index_of(alloc: Global, entries: &[Entry]) -> Result<Seq<i64>, NoMem> {
+#[tactic(auto, unfolding(crate::specs::Mapped::index_of))]
+fn index_of(alloc: Global, entries: &[Entry]) -> Result<Seq<i64>, NoMem>
+    ensures { IfOk result (λ words. words ≡ spec.index_of entries.now) }
+{
     let mut words = zeros(alloc, size_of(entries.len()))?;
     let mut next: i64 = 1;
     for entry in entries {
@@ -238,21 +294,27 @@ fn index_of(alloc: Global, entries: &[Entry]) -> Result<Seq<i64>, NoMem> {
 
 // ---- statics
 
-fn push_keys(entries: &[Entry], cells: &mut Seq<CCell>) -> Result<(), NoMem> {
+fn push_keys(entries: &[Entry], cells: &mut Seq<CCell>) -> Result<(), NoMem>
+    ensures { OnOk result (cells.new ≡ cells.old ++ spec.key_cells entries.now) }
+{
     for entry in entries {
         cells.push(CCell::Const(entry.key))?;
     }
     Ok(())
 }
 
-fn push_values(entries: &[Entry], cells: &mut Seq<CCell>) -> Result<(), NoMem> {
+fn push_values(entries: &[Entry], cells: &mut Seq<CCell>) -> Result<(), NoMem>
+    ensures { OnOk result (cells.new ≡ cells.old ++ spec.value_cells entries.now) }
+{
     for entry in entries {
         cells.push(CCell::Const(entry.value))?;
     }
     Ok(())
 }
 
-fn push_index(alloc: Global, entries: &[Entry], cells: &mut Seq<CCell>) -> Result<(), NoMem> {
+fn push_index(alloc: Global, entries: &[Entry], cells: &mut Seq<CCell>) -> Result<(), NoMem>
+    ensures { OnOk result (cells.new ≡ cells.old ++ spec.index_cells entries.now) }
+{
     let words = index_of(alloc, entries)?;
     for word in words.as_slice() {
         cells.push(CCell::Const(CConst::Word(*word)))?;
@@ -260,7 +322,9 @@ fn push_index(alloc: Global, entries: &[Entry], cells: &mut Seq<CCell>) -> Resul
     Ok(())
 }
 
-fn length_of(count: usize) -> Result<CCell, NoMem> {
+fn length_of(count: usize) -> Result<CCell, NoMem>
+    ensures { IfOk result (λ cell. cell ≡ spec.count_cell count) }
+{
     match i64::try_from(count) {
         Ok(length) => Ok(CCell::Const(CConst::Word(length))),
         Err(_) => Err(NoMem),
@@ -268,24 +332,25 @@ fn length_of(count: usize) -> Result<CCell, NoMem> {
 }
 
 // An array with its length.
-fn array_of(
-    alloc: Global,
-    kind: u64,
-    items: Seq<CCell>,
-    found: &mut Found,
-) -> Result<CConst, NoMem> {
+#[tactic(auto, unfolding(crate::specs::Mapped::array_of))]
+fn array_of(alloc: Global, kind: u64, items: Seq<CCell>, found: &mut Found) -> Result<CConst, NoMem>
+    ensures { IfOk result (λ made. Asks (spec.array_of kind items found.old) made found.new) }
+{
     let mut cells = Seq::new(alloc);
     cells.push(length_of(items.len())?)?;
     cells.push(CCell::Braces(items))?;
     static_of(kind, cells, found)
 }
 
+#[tactic(auto, unfolding(crate::specs::Mapped::first_array))]
 fn first_of(
     alloc: Global,
     mapping: Mapping,
     entries: &[Entry],
     found: &mut Found,
-) -> Result<CConst, NoMem> {
+) -> Result<CConst, NoMem>
+    ensures { IfOk result (λ made. Asks (spec.first_array mapping entries.now found.old) made found.new) }
+{
     let mut items = Seq::new(alloc);
     if mapping.keys_last() {
         push_values(entries, &mut items)?;
@@ -295,12 +360,15 @@ fn first_of(
     array_of(alloc, mapping.first(), items, found)
 }
 
+#[tactic(auto, unfolding(crate::specs::Mapped::second_array))]
 fn second_of(
     alloc: Global,
     mapping: Mapping,
     entries: &[Entry],
     found: &mut Found,
-) -> Result<CConst, NoMem> {
+) -> Result<CConst, NoMem>
+    ensures { IfOk result (λ made. Asks (spec.second_array mapping entries.now found.old) made found.new) }
+{
     let mut items = Seq::new(alloc);
     if mapping.is_indexed() {
         push_index(alloc, entries, &mut items)?;
@@ -314,12 +382,15 @@ fn second_of(
 }
 
 // The number of entries, that of places, and the arrays. An empty dict has none.
+#[tactic(auto, unfolding(crate::specs::Mapped::dict_cells))]
 fn dict_cells(
     alloc: Global,
     mapping: Mapping,
     entries: &[Entry],
     found: &mut Found,
-) -> Result<Seq<CCell>, NoMem> {
+) -> Result<Seq<CCell>, NoMem>
+    ensures { IfOk result (λ cells. Asks (spec.dict_cells mapping entries.now found.old) cells found.new) }
+{
     let (first, second) = if entries.is_empty() {
         (CConst::Null, CConst::Null)
     } else {
@@ -337,6 +408,7 @@ fn dict_cells(
 }
 
 /// The dict of a site. Two dicts with the same entries are two dicts.
+#[tactic(auto, unfolding(crate::specs::Mapped::mapped))]
 pub fn push_mapped(
     alloc: Global,
     around: Around<'_>,
@@ -344,7 +416,9 @@ pub fn push_mapped(
     kind: u64,
     pairs: &[(Const, Const)],
     found: &mut Found,
-) -> Result<(), NoMem> {
+) -> Result<(), NoMem>
+    ensures { OnOk result (found.new ≡ spec.mapped (the_around around.entry) site kind pairs.now found.old) }
+{
     let Some(mapping) = around.layout.mapping(kind) else {
         return Ok(());
     };

@@ -1,4 +1,8 @@
 // The lowering of an operation, by its operands.
+ghost use Rattle.std.specs.Prelude.{◌≡◌, IfOk, OnOk};
+ghost use Rattle.rtyper_data.specs.Lowering as spec;
+ghost use Rattle.rtyper_data.specs.Seen.{the_around, the_operand, the_operands, the_place, writing, Leaves, Gives, Writes, Asks};
+
 use crate::body::{Around, Body, Operand, Place};
 use crate::call::push_call;
 use crate::compare::{compare, flag};
@@ -24,10 +28,13 @@ use rpy_tree::{BinOp, Const};
 use rtyper_layout::{Kind, is_text_or_none, kind_seen};
 use std::alloc::Global;
 
-fn is_never(args: &[Operand<'_>]) -> bool {
+fn is_never(args: &[Operand<'_>]) -> bool
+    ensures { result ≡ spec.is_never (the_operands args.now) }
+{
     for operand in args {
-        if kind_seen(operand.element) == Kind::Never {
-            return true;
+        match kind_seen(operand.element) {
+            Kind::Never => return true,
+            _ => {}
         }
     }
     false
@@ -41,19 +48,24 @@ fn push_same(
     a: Operand<'_>,
     found: &mut Found,
     body: &mut Body,
-) -> Result<(), NoMem> {
+) -> Result<(), NoMem>
+    ensures { OnOk result (Leaves (spec.same (the_around around.entry) (the_place place.entry) (the_operand a.entry) (writing found.old body.old)) found.new body.new) }
+{
     let from = around.type_of(a);
     give(alloc, around, place, a.x, from, found, body)
 }
 
 /// An operation on `None` that needs another value.
+#[tactic(auto, unfolding(crate::specs::Lowering::failure))]
 pub fn push_failure(
     alloc: Global,
     around: Around<'_>,
     place: Place<'_>,
     found: &mut Found,
     body: &mut Body,
-) -> Result<(), NoMem> {
+) -> Result<(), NoMem>
+    ensures { OnOk result (Leaves (spec.failure (the_around around.entry) (the_place place.entry) (writing found.old body.old)) found.new body.new) }
+{
     let number = small_number(Small::Fail(found.covered.attribute), found)?;
     body.ops.push(LlOp::Call(None, number, Seq::new(alloc)))?;
     give_nothing(around, place, body)
@@ -68,7 +80,9 @@ fn push_constant(
     constant: &Const,
     found: &mut Found,
     body: &mut Body,
-) -> Result<(), NoMem> {
+) -> Result<(), NoMem>
+    ensures { OnOk result (Leaves (spec.give_constant (the_around around.entry) (the_place place.entry) constant.now (writing found.old body.old)) found.new body.new) }
+{
     match around.type_at(place) {
         LlType::Void => Ok(()),
         to => {
@@ -85,7 +99,9 @@ fn push_text(
     bytes: &[u8],
     found: &mut Found,
     body: &mut Body,
-) -> Result<(), NoMem> {
+) -> Result<(), NoMem>
+    ensures { OnOk result (Leaves (spec.give_text (the_around around.entry) (the_place place.entry) bytes.now (writing found.old body.old)) found.new body.new) }
+{
     match around.type_at(place) {
         LlType::Void => Ok(()),
         to => {
@@ -95,6 +111,7 @@ fn push_text(
     }
 }
 
+#[tactic(auto, unfolding(crate::specs::Lowering::literal))]
 fn push_literal(
     alloc: Global,
     around: Around<'_>,
@@ -102,7 +119,9 @@ fn push_literal(
     op: &RowOp,
     found: &mut Found,
     body: &mut Body,
-) -> Result<(), NoMem> {
+) -> Result<(), NoMem>
+    ensures { OnOk result (Leaves (spec.literal (the_around around.entry) (the_place place.entry) op.now (writing found.old body.old)) found.new body.new) }
+{
     let number = LlType::Signed;
     let truth = LlType::Bool;
     match op {
@@ -121,6 +140,7 @@ fn push_literal(
 
 // ---- of one operand
 
+#[tactic(auto, unfolding(crate::specs::Lowering::conversion))]
 fn push_conversion(
     alloc: Global,
     around: Around<'_>,
@@ -129,7 +149,9 @@ fn push_conversion(
     a: Operand<'_>,
     found: &mut Found,
     body: &mut Body,
-) -> Result<(), NoMem> {
+) -> Result<(), NoMem>
+    ensures { OnOk result (Leaves (spec.conversion (the_around around.entry) (the_place place.entry) op.now (the_operand a.entry) (writing found.old body.old)) found.new body.new) }
+{
     let number = LlType::Signed;
     let byte = LlType::Char;
     match (op, kind_seen(a.element)) {
@@ -170,7 +192,9 @@ fn push_all_but_last(
     a: Operand<'_>,
     found: &mut Found,
     body: &mut Body,
-) -> Result<(), NoMem> {
+) -> Result<(), NoMem>
+    ensures { OnOk result (Leaves (spec.all_but_last (the_around around.entry) (the_place place.entry) (the_operand a.entry) (writing found.old body.old)) found.new body.new) }
+{
     if !is_text_or_none(kind_seen(a.element)) {
         return Ok(());
     }
@@ -187,6 +211,7 @@ fn push_all_but_last(
     )
 }
 
+#[tactic(auto, unfolding(crate::specs::Lowering::of_one))]
 fn push_one(
     alloc: Global,
     around: Around<'_>,
@@ -195,7 +220,9 @@ fn push_one(
     a: Operand<'_>,
     found: &mut Found,
     body: &mut Body,
-) -> Result<(), NoMem> {
+) -> Result<(), NoMem>
+    ensures { OnOk result (Leaves (spec.of_one (the_around around.entry) (the_place place.entry) op.now (the_operand a.entry) (writing found.old body.old)) found.new body.new) }
+{
     match op {
         RowOp::Copy | RowOp::DropNone | RowOp::OnlyNone | RowOp::FalseNone | RowOp::Lower(_) =>
             push_same(alloc, around, place, a, found, body),
@@ -214,6 +241,7 @@ fn push_one(
 
 // ---- of two operands
 
+#[tactic(auto, unfolding(crate::specs::Lowering::binary_to))]
 fn push_binary_of(
     alloc: Global,
     around: Around<'_>,
@@ -223,7 +251,9 @@ fn push_binary_of(
     b: Operand<'_>,
     found: &mut Found,
     body: &mut Body,
-) -> Result<(), NoMem> {
+) -> Result<(), NoMem>
+    ensures { OnOk result (Leaves (spec.binary_to (the_around around.entry) (the_place place.entry) op (the_operand a.entry) (the_operand b.entry) (writing found.old body.old)) found.new body.new) }
+{
     match op {
         BinOp::Add => push_sum(alloc, around, place, a, b, found, body),
         BinOp::Mul => push_product(alloc, around, place, a, b, found, body),
@@ -236,6 +266,7 @@ fn push_binary_of(
     }
 }
 
+#[tactic(auto, unfolding(crate::specs::Lowering::least))]
 fn push_least(
     alloc: Global,
     around: Around<'_>,
@@ -245,7 +276,9 @@ fn push_least(
     b: Operand<'_>,
     found: &mut Found,
     body: &mut Body,
-) -> Result<(), NoMem> {
+) -> Result<(), NoMem>
+    ensures { OnOk result (Leaves (spec.least (the_around around.entry) (the_place place.entry) helper (the_operand a.entry) (the_operand b.entry) (writing found.old body.old)) found.new body.new) }
+{
     let number = LlType::Signed;
     match (kind_seen(a.element), kind_seen(b.element)) {
         (Kind::Word, Kind::Word) => {
@@ -257,6 +290,7 @@ fn push_least(
 }
 
 // An operation on two words whose result has to fit.
+#[tactic(auto, unfolding(crate::specs::Lowering::checked))]
 fn push_checked(
     alloc: Global,
     around: Around<'_>,
@@ -266,7 +300,9 @@ fn push_checked(
     b: Operand<'_>,
     found: &mut Found,
     body: &mut Body,
-) -> Result<(), NoMem> {
+) -> Result<(), NoMem>
+    ensures { OnOk result (Leaves (spec.checked (the_around around.entry) (the_place place.entry) op (the_operand a.entry) (the_operand b.entry) (writing found.old body.old)) found.new body.new) }
+{
     let number = LlType::Signed;
     let raises = match op {
         BinOp::Shl => found.covered.number,
@@ -284,6 +320,7 @@ fn push_checked(
     give(alloc, around, place, x, number, found, body)
 }
 
+#[tactic(auto, unfolding(crate::specs::Lowering::of_two))]
 fn push_two(
     alloc: Global,
     around: Around<'_>,
@@ -293,7 +330,9 @@ fn push_two(
     b: Operand<'_>,
     found: &mut Found,
     body: &mut Body,
-) -> Result<(), NoMem> {
+) -> Result<(), NoMem>
+    ensures { OnOk result (Leaves (spec.of_two (the_around around.entry) (the_place place.entry) op.now (the_operand a.entry) (the_operand b.entry) (writing found.old body.old)) found.new body.new) }
+{
     match op {
         RowOp::Binary(of, _) => push_binary_of(alloc, around, place, *of, a, b, found, body),
         RowOp::AddTo => push_sum(alloc, around, place, a, b, found, body),
@@ -325,15 +364,19 @@ fn push_method_of(
     args: &[Operand<'_>],
     found: &mut Found,
     body: &mut Body,
-) -> Result<(), NoMem> {
-    if let [a, ..] = args {
-        if kind_seen(a.element) == Kind::Nothing {
-            return push_failure(alloc, around, place, found, body);
-        }
+) -> Result<(), NoMem>
+    ensures { OnOk result (Leaves (spec.method_to (the_around around.entry) (the_place place.entry) name.now (the_operands args.now) (writing found.old body.old)) found.new body.new) }
+{
+    match args {
+        [] => push_method(alloc, around, place, name, args, found, body),
+        [a, ..] => match kind_seen(a.element) {
+            Kind::Nothing => push_failure(alloc, around, place, found, body),
+            _ => push_method(alloc, around, place, name, args, found, body),
+        },
     }
-    push_method(alloc, around, place, name, args, found, body)
 }
 
+#[tactic(auto, unfolding(crate::specs::Lowering::of_some))]
 fn push_some(
     alloc: Global,
     around: Around<'_>,
@@ -342,7 +385,9 @@ fn push_some(
     args: &[Operand<'_>],
     found: &mut Found,
     body: &mut Body,
-) -> Result<(), NoMem> {
+) -> Result<(), NoMem>
+    ensures { OnOk result (Leaves (spec.of_some (the_around around.entry) (the_place place.entry) op.now (the_operands args.now) (writing found.old body.old)) found.new body.new) }
+{
     match args {
         [] => push_literal(alloc, around, place, op, found, body),
         [a] => push_one(alloc, around, place, op, *a, found, body),
@@ -360,7 +405,9 @@ pub fn lower_op(
     args: &[Operand<'_>],
     found: &mut Found,
     body: &mut Body,
-) -> Result<(), NoMem> {
+) -> Result<(), NoMem>
+    ensures { OnOk result (Leaves (spec.lower_op (the_around around.entry) op.now (the_place place.entry) (the_operands args.now) (writing found.old body.old)) found.new body.new) }
+{
     if is_never(args) {
         return give_nothing(around, place, body);
     }

@@ -1,9 +1,13 @@
 // Indices, lengths and walks.
+ghost use Rattle.std.specs.Prelude.{◌≡◌, IfOk, OnOk};
+ghost use Rattle.rtyper_data.specs.Placing as spec;
+ghost use Rattle.rtyper_data.specs.Seen.{the_around, the_operand, the_operands, the_place, writing, Leaves, Gives, Writes, Asks};
+
 use crate::body::{Around, Body, Operand, Place};
 use crate::convert::{give, give_helped, give_nothing};
 use crate::found::Found;
 use crate::number::{give_binary, push_range_advance, push_range_has, word};
-use crate::text::{push_of_text, push_of_text_and_word};
+use crate::text::{push_of_text, push_of_text_and_word, push_of_texts};
 use crate::tuple::{length_of, place_of, push_item};
 use csub_tree::CBinary;
 use ll_code::LlType;
@@ -15,6 +19,7 @@ use std::alloc::Global;
 const TEXT: LlType = LlType::Ptr(0);
 
 /// The item at an index, with the literal that the index is.
+#[tactic(auto, unfolding(crate::specs::Placing::index))]
 pub fn push_index(
     alloc: Global,
     around: Around<'_>,
@@ -24,7 +29,9 @@ pub fn push_index(
     b: Operand<'_>,
     found: &mut Found,
     body: &mut Body,
-) -> Result<(), NoMem> {
+) -> Result<(), NoMem>
+    ensures { OnOk result (Leaves (spec.index (the_around around.entry) (the_place place.entry) literal (the_operand a.entry) (the_operand b.entry) (writing found.old body.old)) found.new body.new) }
+{
     let kind = kind_seen(a.element);
     match (kind, literal) {
         (Kind::Tuple, Some(index)) => {
@@ -43,6 +50,7 @@ pub fn push_index(
 }
 
 /// `len` of a value.
+#[tactic(auto, unfolding(crate::specs::Placing::len))]
 pub fn push_len(
     alloc: Global,
     around: Around<'_>,
@@ -50,7 +58,9 @@ pub fn push_len(
     a: Operand<'_>,
     found: &mut Found,
     body: &mut Body,
-) -> Result<(), NoMem> {
+) -> Result<(), NoMem>
+    ensures { OnOk result (Leaves (spec.len (the_around around.entry) (the_place place.entry) (the_operand a.entry) (writing found.old body.old)) found.new body.new) }
+{
     let gives = LlType::Signed;
     match kind_seen(a.element) {
         Kind::Tuple => match i64::try_from(length_of(around, a)) {
@@ -67,6 +77,7 @@ pub fn push_len(
 }
 
 /// What a `for` walks. A string of length one is there, and stays what it is.
+#[tactic(auto, unfolding(crate::specs::Placing::walk))]
 pub fn push_walk(
     alloc: Global,
     around: Around<'_>,
@@ -74,18 +85,22 @@ pub fn push_walk(
     a: Operand<'_>,
     found: &mut Found,
     body: &mut Body,
-) -> Result<(), NoMem> {
-    let kind = kind_seen(a.element);
-    if kind == Kind::Byte {
-        return give(alloc, around, place, a.x, LlType::Char, found, body);
+) -> Result<(), NoMem>
+    ensures { OnOk result (Leaves (spec.walk (the_around around.entry) (the_place place.entry) (the_operand a.entry) (writing found.old body.old)) found.new body.new) }
+{
+    match kind_seen(a.element) {
+        Kind::Byte => give(alloc, around, place, a.x, LlType::Char, found, body),
+        kind => {
+            if !is_text_or_none(kind) {
+                return give_nothing(around, place, body);
+            }
+            push_of_text(alloc, around, place, Helper::StrWalk, TEXT, a, found, body)
+        }
     }
-    if !is_text_or_none(kind) {
-        return give_nothing(around, place, body);
-    }
-    push_of_text(alloc, around, place, Helper::StrWalk, TEXT, a, found, body)
 }
 
 /// Whether an item is there.
+#[tactic(auto, unfolding(crate::specs::Placing::has_item))]
 pub fn push_has_item(
     alloc: Global,
     around: Around<'_>,
@@ -95,7 +110,9 @@ pub fn push_has_item(
     b: Operand<'_>,
     found: &mut Found,
     body: &mut Body,
-) -> Result<(), NoMem> {
+) -> Result<(), NoMem>
+    ensures { OnOk result (Leaves (spec.has_item (the_around around.entry) (the_place place.entry) step (the_operand a.entry) (the_operand b.entry) (writing found.old body.old)) found.new body.new) }
+{
     match step {
         Some(step) => push_range_has(alloc, around, place, step, a.x, b.x, found, body),
         None => {
@@ -110,6 +127,7 @@ pub fn push_has_item(
 }
 
 /// The item that is there.
+#[tactic(auto, unfolding(crate::specs::Placing::walk_item))]
 pub fn push_walk_item(
     alloc: Global,
     around: Around<'_>,
@@ -119,7 +137,9 @@ pub fn push_walk_item(
     b: Operand<'_>,
     found: &mut Found,
     body: &mut Body,
-) -> Result<(), NoMem> {
+) -> Result<(), NoMem>
+    ensures { OnOk result (Leaves (spec.walk_item (the_around around.entry) (the_place place.entry) step (the_operand a.entry) (the_operand b.entry) (writing found.old body.old)) found.new body.new) }
+{
     match step {
         Some(_) => give(alloc, around, place, b.x, LlType::Signed, found, body),
         None => {
@@ -134,6 +154,7 @@ pub fn push_walk_item(
 }
 
 /// The next place of a walk.
+#[tactic(auto, unfolding(crate::specs::Placing::advance))]
 pub fn push_advance(
     alloc: Global,
     around: Around<'_>,
@@ -143,7 +164,9 @@ pub fn push_advance(
     b: Operand<'_>,
     found: &mut Found,
     body: &mut Body,
-) -> Result<(), NoMem> {
+) -> Result<(), NoMem>
+    ensures { OnOk result (Leaves (spec.advance (the_around around.entry) (the_place place.entry) step (the_operand a.entry) (the_operand b.entry) (writing found.old body.old)) found.new body.new) }
+{
     match step {
         Some(step) => push_range_advance(alloc, around, place, step, a.x, b.x, found, body),
         None => {
@@ -155,6 +178,7 @@ pub fn push_advance(
 }
 
 /// The sum or product of strings, and the operations on words.
+#[tactic(auto, unfolding(crate::specs::Placing::sum))]
 pub fn push_sum(
     alloc: Global,
     around: Around<'_>,
@@ -163,21 +187,26 @@ pub fn push_sum(
     b: Operand<'_>,
     found: &mut Found,
     body: &mut Body,
-) -> Result<(), NoMem> {
-    let s = kind_seen(a.element);
-    let t = kind_seen(b.element);
-    if s == Kind::Word && t == Kind::Word {
-        let add = CBinary::Add;
-        let gives = LlType::Signed;
-        return give_binary(alloc, around, place, add, gives, a.x, b.x, found, body);
+) -> Result<(), NoMem>
+    ensures { OnOk result (Leaves (spec.sum (the_around around.entry) (the_place place.entry) (the_operand a.entry) (the_operand b.entry) (writing found.old body.old)) found.new body.new) }
+{
+    match (kind_seen(a.element), kind_seen(b.element)) {
+        (Kind::Word, Kind::Word) => {
+            let add = CBinary::Add;
+            let gives = LlType::Signed;
+            give_binary(alloc, around, place, add, gives, a.x, b.x, found, body)
+        }
+        (s, t) => {
+            if !is_text_or_none(s) || !is_text_or_none(t) {
+                return Ok(());
+            }
+            let helper = Helper::StrAdd;
+            push_of_texts(alloc, around, place, helper, TEXT, a, b, found, body)
+        }
     }
-    if !is_text_or_none(s) || !is_text_or_none(t) {
-        return Ok(());
-    }
-    let helper = Helper::StrAdd;
-    crate::text::push_of_texts(alloc, around, place, helper, TEXT, a, b, found, body)
 }
 
+#[tactic(auto, unfolding(crate::specs::Placing::product))]
 pub fn push_product(
     alloc: Global,
     around: Around<'_>,
@@ -186,25 +215,21 @@ pub fn push_product(
     b: Operand<'_>,
     found: &mut Found,
     body: &mut Body,
-) -> Result<(), NoMem> {
-    let s = kind_seen(a.element);
-    if s == Kind::Word {
-        let mul = CBinary::Mul;
-        let gives = LlType::Signed;
-        return give_binary(alloc, around, place, mul, gives, a.x, b.x, found, body);
+) -> Result<(), NoMem>
+    ensures { OnOk result (Leaves (spec.product (the_around around.entry) (the_place place.entry) (the_operand a.entry) (the_operand b.entry) (writing found.old body.old)) found.new body.new) }
+{
+    match kind_seen(a.element) {
+        Kind::Word => {
+            let mul = CBinary::Mul;
+            let gives = LlType::Signed;
+            give_binary(alloc, around, place, mul, gives, a.x, b.x, found, body)
+        }
+        s => {
+            if !is_text_or_none(s) {
+                return Ok(());
+            }
+            let helper = Helper::StrMul;
+            push_of_text_and_word(alloc, around, place, helper, TEXT, a, b, found, body)
+        }
     }
-    if !is_text_or_none(s) {
-        return Ok(());
-    }
-    push_of_text_and_word(
-        alloc,
-        around,
-        place,
-        Helper::StrMul,
-        TEXT,
-        a,
-        b,
-        found,
-        body,
-    )
 }

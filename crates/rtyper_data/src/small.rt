@@ -1,7 +1,14 @@
 // Small graphs that a program asks for by the shapes of its tuples.
+ghost use Rattle.std.specs.Prelude.{◌≡◌, IfOk};
+ghost use Rattle.rtyper_data.specs.Building as building;
+ghost use Rattle.rtyper_data.specs.Finding as finding;
+ghost use Rattle.rtyper_data.specs.Graphs as spec;
+ghost use Rattle.rtyper_data.specs.Seen.{writing, Gives, Writes, Asks};
+ghost use Rattle.rtyper_data.specs.Smalls as smalls;
+
 use crate::body::Body;
 use crate::checked::{checked_graph, checked_neg_graph};
-use crate::compare::{binary, equal, unary};
+use crate::compare::{binary, equal, field_of, unary};
 use crate::convert::value_as;
 use crate::found::{Found, small_number};
 use crate::parse::int_graph;
@@ -138,16 +145,23 @@ pub fn small_raises(small: Small) -> bool {
     }
 }
 
-pub fn is_same_small(a: Small, b: Small) -> bool {
+/// Whether they are the same.
+pub fn is_same_small(a: Small, b: Small) -> bool
+    ensures { result ≡ finding.same_small a b }
+{
     a == b
 }
 
-pub fn variables<const N: usize>(alloc: Global, items: [VarId; N]) -> Result<Seq<VarId>, NoMem> {
+pub fn variables<const N: usize>(alloc: Global, items: [VarId; N]) -> Result<Seq<VarId>, NoMem>
+    ensures { IfOk result (λ list. list ≡ items.entry) }
+{
     let items = Vec::from_array(alloc, items)?;
     Ok(Seq::from_vec(items))
 }
 
-pub fn link<const N: usize>(alloc: Global, to: u64, args: [COperand; N]) -> Result<LlLink, NoMem> {
+pub fn link<const N: usize>(alloc: Global, to: u64, args: [COperand; N]) -> Result<LlLink, NoMem>
+    ensures { IfOk result (λ made. made ≡ building.link_to to args.entry) }
+{
     let args = Vec::from_array(alloc, args)?;
     Ok(LlLink {
         to,
@@ -160,7 +174,9 @@ pub fn block<const N: usize>(
     inputs: [VarId; N],
     ops: Seq<LlOp>,
     exit: LlExit,
-) -> Result<LlBlock, NoMem> {
+) -> Result<LlBlock, NoMem>
+    ensures { IfOk result (λ made. made ≡ building.block_with inputs.entry ops exit) }
+{
     Ok(LlBlock {
         inputs: variables(alloc, inputs)?,
         ops,
@@ -170,7 +186,17 @@ pub fn block<const N: usize>(
 
 // ---- casts
 
+fn field_at(fields: &[LlType], i: usize) -> LlType
+    ensures { result ≡ spec.field_at fields.now i }
+{
+    match fields.get(i) {
+        None => LlType::Void,
+        Some(field) => *field,
+    }
+}
+
 // The items of the tuple that is variable 0, as those of the other shape.
+#[tactic(auto, unfolding(crate::specs::Graphs::cast_items))]
 fn cast_items(
     alloc: Global,
     layout: &Layout,
@@ -178,32 +204,26 @@ fn cast_items(
     n: u64,
     found: &mut Found,
     body: &mut Body,
-) -> Result<Seq<COperand>, NoMem> {
+) -> Result<Seq<COperand>, NoMem>
+    ensures { IfOk result (λ items. Gives (spec.cast_items layout.now m n (writing found.old body.old)) items found.new body.new) }
+{
     let from = layout.fields(m);
     let to = layout.fields(n);
     let mut items = Seq::new(alloc);
-    for i in 0..from.len() {
-        let item = body.fresh(from[i])?;
-        body.ops.push(LlOp::GetField(item, m, 0, i as u64))?;
-        let kind = match to.get(i) {
-            None => LlType::Void,
-            Some(kind) => *kind,
-        };
-        items.push(value_as(
-            alloc,
-            layout,
-            COperand::Var(item),
-            from[i],
-            kind,
-            found,
-            body,
-        )?)?;
+    let mut i: usize = 0;
+    for field in from {
+        let item = field_of(m, 0, i as u64, *field, body)?;
+        let kind = field_at(to, i);
+        items.push(value_as(alloc, layout, item, *field, kind, found, body)?)?;
+        i += 1;
     }
     Ok(items)
 }
 
 // The first block asks whether there is a tuple: a local that is not bound yet has none.
-fn cast_blocks(alloc: Global, made: VarId, ops: Seq<LlOp>) -> Result<Seq<LlBlock>, NoMem> {
+fn cast_blocks(alloc: Global, made: VarId, ops: Seq<LlOp>) -> Result<Seq<LlBlock>, NoMem>
+    ensures { IfOk result (λ blocks. blocks ≡ spec.cast_blocks made ops) }
+{
     let there = link(alloc, 1, [])?;
     let elsewhere = link(alloc, 2, [COperand::Var(0)])?;
     let null = Some(COperand::Const(CConst::Null));
@@ -220,20 +240,10 @@ fn cast_blocks(alloc: Global, made: VarId, ops: Seq<LlOp>) -> Result<Seq<LlBlock
     Ok(blocks)
 }
 
-fn cast(
-    alloc: Global,
-    layout: &Layout,
-    m: u64,
-    n: u64,
-    found: &mut Found,
-) -> Result<LlGraph, NoMem> {
-    let mut body = Body::new(alloc);
-    body.types.push(LlType::Ptr(m))?;
-    body.types.push(LlType::Bool)?;
-    let items = cast_items(alloc, layout, m, n, found, &mut body)?;
-    let made = body.fresh(LlType::Ptr(n))?;
-    body.ops.push(LlOp::New(made, n, n))?;
-    push_fields(n, made, items.as_slice(), &mut body)?;
+#[tactic(auto, unfolding(crate::specs::Graphs::cast_graph))]
+fn cast_graph(alloc: Global, n: u64, made: VarId, body: Body) -> Result<LlGraph, NoMem>
+    ensures { IfOk result (λ graph. graph ≡ spec.cast_graph n made body) }
+{
     let Body { types, ops } = body;
     Ok(LlGraph {
         name: Text::from_bytes(alloc, b"tuple_as")?,
@@ -244,9 +254,31 @@ fn cast(
     })
 }
 
+fn cast(alloc: Global, layout: &Layout, m: u64, n: u64, found: &mut Found) -> Result<LlGraph, NoMem>
+    ensures { IfOk result (λ graph. Asks (spec.cast layout.now m n found.old) graph found.new) }
+{
+    let mut body = Body::new(alloc);
+    body.types.push(LlType::Ptr(m))?;
+    body.types.push(LlType::Bool)?;
+    let items = cast_items(alloc, layout, m, n, found, &mut body)?;
+    let made = body.fresh(LlType::Ptr(n))?;
+    body.ops.push(LlOp::New(made, n, n))?;
+    push_fields(n, made, items.as_slice(), &mut body)?;
+    cast_graph(alloc, n, made, body)
+}
+
 // ---- equality
 
+// A word that is not zero where the word is not, and the truth value holds.
+fn and_word(all: COperand, same: COperand, body: &mut Body) -> Result<COperand, NoMem>
+    ensures { IfOk result (λ x. Writes (spec.and_word all same body.old) x body.new) }
+{
+    let word = unary(CUnary::B2S, LlType::Signed, same, body)?;
+    binary(CBinary::And, LlType::Signed, all, word, body)
+}
+
 // Whether the tuples that are variables 0 and 1 have equal items, as a word.
+#[tactic(auto, unfolding(crate::specs::Graphs::equal_items))]
 fn equal_items(
     alloc: Global,
     layout: &Layout,
@@ -254,49 +286,28 @@ fn equal_items(
     n: u64,
     found: &mut Found,
     body: &mut Body,
-) -> Result<COperand, NoMem> {
+) -> Result<COperand, NoMem>
+    ensures { IfOk result (λ all. Gives (spec.equal_items layout.now m n (writing found.old body.old)) all found.new body.new) }
+{
     let these = layout.fields(m);
     let those = layout.fields(n);
     let mut all = COperand::Const(CConst::Word(1));
-    for i in 0..these.len() {
-        let kind = match those.get(i) {
-            None => LlType::Void,
-            Some(kind) => *kind,
-        };
-        let a = body.fresh(these[i])?;
-        body.ops.push(LlOp::GetField(a, m, 0, i as u64))?;
-        let b = body.fresh(kind)?;
-        body.ops.push(LlOp::GetField(b, n, 1, i as u64))?;
-        let x = COperand::Var(a);
-        let same = equal(
-            alloc,
-            layout,
-            x,
-            these[i],
-            COperand::Var(b),
-            kind,
-            found,
-            body,
-        )?;
-        let word = unary(CUnary::B2S, LlType::Signed, same, body)?;
-        all = binary(CBinary::And, LlType::Signed, all, word, body)?;
+    let mut i: usize = 0;
+    for field in these {
+        let kind = field_at(those, i);
+        let a = field_of(m, 0, i as u64, *field, body)?;
+        let b = field_of(n, 1, i as u64, kind, body)?;
+        let same = equal(alloc, layout, a, *field, b, kind, found, body)?;
+        all = and_word(all, same, body)?;
+        i += 1;
     }
     Ok(all)
 }
 
-fn equality(
-    alloc: Global,
-    layout: &Layout,
-    m: u64,
-    n: u64,
-    found: &mut Found,
-) -> Result<LlGraph, NoMem> {
-    let mut body = Body::new(alloc);
-    body.types.push(LlType::Ptr(m))?;
-    body.types.push(LlType::Ptr(n))?;
-    let all = equal_items(alloc, layout, m, n, found, &mut body)?;
-    let zero = COperand::Const(CConst::Word(0));
-    let answer = binary(CBinary::Ne, LlType::Bool, all, zero, &mut body)?;
+#[tactic(auto, unfolding(crate::specs::Graphs::equality_graph))]
+fn equality_graph(alloc: Global, answer: COperand, body: Body) -> Result<LlGraph, NoMem>
+    ensures { IfOk result (λ graph. graph ≡ spec.equality_graph (answer, body)) }
+{
     let Body { types, ops } = body;
     let mut blocks = Seq::new(alloc);
     blocks.push(block(alloc, [0, 1], ops, LlExit::Return(Some(answer)))?)?;
@@ -309,19 +320,40 @@ fn equality(
     })
 }
 
+fn equality(
+    alloc: Global,
+    layout: &Layout,
+    m: u64,
+    n: u64,
+    found: &mut Found,
+) -> Result<LlGraph, NoMem>
+    ensures { IfOk result (λ graph. Asks (spec.equality layout.now m n found.old) graph found.new) }
+{
+    let mut body = Body::new(alloc);
+    body.types.push(LlType::Ptr(m))?;
+    body.types.push(LlType::Ptr(n))?;
+    let all = equal_items(alloc, layout, m, n, found, &mut body)?;
+    let zero = COperand::Const(CConst::Word(0));
+    let answer = binary(CBinary::Ne, LlType::Bool, all, zero, &mut body)?;
+    equality_graph(alloc, answer, body)
+}
+
 // ---- failures
 
 /// The class of the failure of what meets `None`.
 pub const ATTRIBUTE_ERROR: ClassId = 9;
 
 /// A block that fails, or raises the exception of the failure.
+#[tactic(auto, unfolding(crate::specs::Graphs::failing))]
 pub fn failing(
     alloc: Global,
     number: u32,
     class: ClassId,
     raises: bool,
     found: &mut Found,
-) -> Result<LlBlock, NoMem> {
+) -> Result<LlBlock, NoMem>
+    ensures { IfOk result (λ block. Asks (spec.failing number class raises found.old) block found.new) }
+{
     let mut ops = Seq::new(alloc);
     if raises {
         let graph = small_number(Small::Raise(class), found)?;
@@ -330,7 +362,9 @@ pub fn failing(
     block(alloc, [], ops, LlExit::Fail(number))
 }
 
-fn failure(alloc: Global, raises: bool, found: &mut Found) -> Result<LlGraph, NoMem> {
+fn failure(alloc: Global, raises: bool, found: &mut Found) -> Result<LlGraph, NoMem>
+    ensures { IfOk result (λ graph. Asks (spec.failure raises found.old) graph found.new) }
+{
     let mut blocks = Seq::new(alloc);
     blocks.push(failing(alloc, ATTRIBUTE, ATTRIBUTE_ERROR, raises, found)?)?;
     Ok(LlGraph {
@@ -345,7 +379,9 @@ fn failure(alloc: Global, raises: bool, found: &mut Found) -> Result<LlGraph, No
 // ---- what is not `None`
 
 // Whether variable 0 is NULL, as variable 1.
-pub fn asks_null(alloc: Global, kind: LlType) -> Result<Seq<LlOp>, NoMem> {
+pub fn asks_null(alloc: Global, kind: LlType) -> Result<Seq<LlOp>, NoMem>
+    ensures { IfOk result (λ ops. ops ≡ spec.asks_null kind) }
+{
     let op = if kind == LlType::Fn {
         CBinary::Feq
     } else {
@@ -357,7 +393,9 @@ pub fn asks_null(alloc: Global, kind: LlType) -> Result<Seq<LlOp>, NoMem> {
     Ok(ops)
 }
 
-fn present(alloc: Global, kind: LlType, raises: bool, found: &mut Found) -> Result<LlGraph, NoMem> {
+fn present(alloc: Global, kind: LlType, raises: bool, found: &mut Found) -> Result<LlGraph, NoMem>
+    ensures { IfOk result (λ graph. Asks (spec.present kind raises found.old) graph found.new) }
+{
     let there = link(alloc, 1, [])?;
     let elsewhere = link(alloc, 2, [COperand::Var(0)])?;
     let mut blocks = Seq::new(alloc);
@@ -384,7 +422,9 @@ pub fn small_graph(
     layout: &Layout,
     small: Small,
     found: &mut Found,
-) -> Result<LlGraph, NoMem> {
+) -> Result<LlGraph, NoMem>
+    ensures { IfOk result (λ graph. Asks (smalls.small_graph layout.now small found.old) graph found.new) }
+{
     match small {
         Small::Cast(m, n) => cast(alloc, layout, m, n, found),
         Small::Equal(m, n) => equality(alloc, layout, m, n, found),

@@ -1,4 +1,8 @@
 // Operations on strings, and the truth and the text of values.
+ghost use Rattle.std.specs.Prelude.{◌≡◌, IfOk, OnOk};
+ghost use Rattle.rtyper_data.specs.Texts as spec;
+ghost use Rattle.rtyper_data.specs.Seen.{the_around, the_operand, the_operands, the_place, writing, Leaves, Gives, Writes, Asks};
+
 use crate::body::{Around, Body, Operand, Place, operand_at};
 use crate::compare::{is_no_function, is_null, opposite_if};
 use crate::convert::{by_small, give, give_helped, give_nothing, given, helped, operands};
@@ -24,13 +28,16 @@ pub enum Test {
 }
 
 /// Whether a value counts as true.
+#[tactic(auto, unfolding(crate::specs::Texts::truth_of))]
 pub fn truth_of(
     alloc: Global,
     around: Around<'_>,
     a: Operand<'_>,
     found: &mut Found,
     body: &mut Body,
-) -> Result<Test, NoMem> {
+) -> Result<Test, NoMem>
+    ensures { IfOk result (λ t. Gives (spec.truth_of (the_around around.entry) (the_operand a.entry) (writing found.old body.old)) t found.new body.new) }
+{
     match kind_seen(a.element) {
         Kind::Word => {
             let v = body.fresh(LlType::Bool)?;
@@ -84,7 +91,9 @@ pub fn push_truth(
     reversed: bool,
     found: &mut Found,
     body: &mut Body,
-) -> Result<(), NoMem> {
+) -> Result<(), NoMem>
+    ensures { OnOk result (Leaves (spec.truth_to (the_around around.entry) (the_place place.entry) (the_operand a.entry) reversed (writing found.old body.old)) found.new body.new) }
+{
     let flag = LlType::Bool;
     match truth_of(alloc, around, a, found, body)? {
         Test::Known(b) => {
@@ -109,18 +118,18 @@ fn push_call(
     x: COperand,
     found: &mut Found,
     body: &mut Body,
-) -> Result<(), NoMem> {
+) -> Result<(), NoMem>
+    ensures { OnOk result (Leaves (spec.printed_by helper x (writing found.old body.old)) found.new body.new) }
+{
     let number = helper_number(helper, found)?;
     let xs = operands(alloc, [x])?;
     body.ops.push(LlOp::Call(None, number, xs))
 }
 
-fn push_put(
-    alloc: Global,
-    a: Operand<'_>,
-    found: &mut Found,
-    body: &mut Body,
-) -> Result<(), NoMem> {
+#[tactic(auto, unfolding(crate::specs::Texts::put))]
+fn push_put(alloc: Global, a: Operand<'_>, found: &mut Found, body: &mut Body) -> Result<(), NoMem>
+    ensures { OnOk result (Leaves (spec.put (the_operand a.entry) (writing found.old body.old)) found.new body.new) }
+{
     match kind_seen(a.element) {
         Kind::Word => push_call(alloc, Helper::PrintWord, a.x, found, body),
         Kind::Flag => push_call(alloc, Helper::PrintBool, a.x, found, body),
@@ -134,18 +143,37 @@ fn push_put(
     }
 }
 
+// Each behind a space.
+fn push_more(
+    alloc: Global,
+    args: &[Operand<'_>],
+    found: &mut Found,
+    body: &mut Body,
+) -> Result<(), NoMem>
+    ensures { OnOk result (Leaves (spec.put_more (the_operands args.now) (writing found.old body.old)) found.new body.new) }
+{
+    for operand in args {
+        body.ops.push(LlOp::Put(word(32)))?;
+        push_put(alloc, *operand, found, body)?;
+    }
+    Ok(())
+}
+
 /// The texts of the operands, with spaces between and a newline.
 pub fn push_print(
     alloc: Global,
     args: &[Operand<'_>],
     found: &mut Found,
     body: &mut Body,
-) -> Result<(), NoMem> {
-    for i in 0..args.len() {
-        if i > 0 {
-            body.ops.push(LlOp::Put(word(32)))?;
+) -> Result<(), NoMem>
+    ensures { OnOk result (Leaves (spec.print (the_operands args.now) (writing found.old body.old)) found.new body.new) }
+{
+    match args {
+        [] => {}
+        [first, more @ ..] => {
+            push_put(alloc, *first, found, body)?;
+            push_more(alloc, more, found, body)?;
         }
-        push_put(alloc, args[i], found, body)?;
     }
     body.ops.push(LlOp::Put(word(10)))
 }
@@ -153,6 +181,7 @@ pub fn push_print(
 // ---- strings
 
 /// `str` of a value.
+#[tactic(auto, unfolding(crate::specs::Texts::to_str))]
 pub fn push_to_str(
     alloc: Global,
     around: Around<'_>,
@@ -160,7 +189,9 @@ pub fn push_to_str(
     a: Operand<'_>,
     found: &mut Found,
     body: &mut Body,
-) -> Result<(), NoMem> {
+) -> Result<(), NoMem>
+    ensures { OnOk result (Leaves (spec.to_str (the_around around.entry) (the_place place.entry) (the_operand a.entry) (writing found.old body.old)) found.new body.new) }
+{
     match kind_seen(a.element) {
         Kind::Word => {
             give_helped(
@@ -193,6 +224,7 @@ pub fn push_to_str(
 }
 
 /// A helper of a string, or `None`.
+#[tactic(auto, unfolding(crate::specs::Texts::of_text))]
 pub fn push_of_text(
     alloc: Global,
     around: Around<'_>,
@@ -202,12 +234,15 @@ pub fn push_of_text(
     a: Operand<'_>,
     found: &mut Found,
     body: &mut Body,
-) -> Result<(), NoMem> {
+) -> Result<(), NoMem>
+    ensures { OnOk result (Leaves (spec.of_text (the_around around.entry) (the_place place.entry) helper gives (the_operand a.entry) (writing found.old body.old)) found.new body.new) }
+{
     let x = given(alloc, around, a, TEXT, found, body)?;
     give_helped(alloc, around, place, helper, gives, [x], found, body)
 }
 
 /// A helper of two strings, the first of which may be `None`, or both.
+#[tactic(auto, unfolding(crate::specs::Texts::of_texts))]
 pub fn push_of_texts(
     alloc: Global,
     around: Around<'_>,
@@ -218,13 +253,16 @@ pub fn push_of_texts(
     b: Operand<'_>,
     found: &mut Found,
     body: &mut Body,
-) -> Result<(), NoMem> {
+) -> Result<(), NoMem>
+    ensures { OnOk result (Leaves (spec.of_texts (the_around around.entry) (the_place place.entry) helper gives (the_operand a.entry) (the_operand b.entry) (writing found.old body.old)) found.new body.new) }
+{
     let x = given(alloc, around, a, TEXT, found, body)?;
     let y = given(alloc, around, b, TEXT, found, body)?;
     give_helped(alloc, around, place, helper, gives, [x, y], found, body)
 }
 
 /// A helper of a string, or `None`, and a word.
+#[tactic(auto, unfolding(crate::specs::Texts::of_text_and_word))]
 pub fn push_of_text_and_word(
     alloc: Global,
     around: Around<'_>,
@@ -235,7 +273,9 @@ pub fn push_of_text_and_word(
     b: Operand<'_>,
     found: &mut Found,
     body: &mut Body,
-) -> Result<(), NoMem> {
+) -> Result<(), NoMem>
+    ensures { OnOk result (Leaves (spec.of_text_and_word (the_around around.entry) (the_place place.entry) helper gives (the_operand a.entry) (the_operand b.entry) (writing found.old body.old)) found.new body.new) }
+{
     let x = given(alloc, around, a, TEXT, found, body)?;
     give_helped(alloc, around, place, helper, gives, [x, b.x], found, body)
 }
@@ -243,7 +283,9 @@ pub fn push_of_text_and_word(
 // ---- slices
 
 // An absent lower bound is the start, an absent upper one the end of any string.
-fn bounds(low: bool, high: bool, args: &[Operand<'_>]) -> (COperand, COperand) {
+fn bounds(low: bool, high: bool, args: &[Operand<'_>]) -> (COperand, COperand)
+    ensures { result ≡ (spec.lower low (the_operands args.now), spec.upper low high (the_operands args.now)) }
+{
     let first = operand_at(args, 1).x;
     match (low, high) {
         (false, false) => (word(0), word(i64::MAX)),
@@ -263,7 +305,9 @@ pub fn push_slice(
     args: &[Operand<'_>],
     found: &mut Found,
     body: &mut Body,
-) -> Result<(), NoMem> {
+) -> Result<(), NoMem>
+    ensures { OnOk result (Leaves (spec.slice (the_around around.entry) (the_place place.entry) low high (the_operands args.now) (writing found.old body.old)) found.new body.new) }
+{
     let a = operand_at(args, 0);
     if !is_text_or_none(kind_seen(a.element)) {
         return Ok(());
@@ -286,24 +330,37 @@ pub fn push_slice(
 // ---- methods
 
 // What a method of one byte asks.
-fn of_byte(name: &[u8]) -> Option<Helper> {
-    match name {
-        b"isdigit" => Some(Helper::IsDigit),
-        b"isalpha" => Some(Helper::IsAlpha),
-        b"isspace" => Some(Helper::IsSpace),
-        _ => None,
+#[tactic(auto, unfolding(crate::specs::Texts::of_byte))]
+fn of_byte(name: &[u8]) -> Option<Helper>
+    ensures { result ≡ spec.of_byte name.now }
+{
+    if name == b"isdigit".as_slice() {
+        Some(Helper::IsDigit)
+    } else if name == b"isalpha".as_slice() {
+        Some(Helper::IsAlpha)
+    } else if name == b"isspace".as_slice() {
+        Some(Helper::IsSpace)
+    } else {
+        None
     }
 }
 
-fn of_texts(name: &[u8]) -> Option<(Helper, LlType)> {
-    match name {
-        b"find" => Some((Helper::StrFind, LlType::Signed)),
-        b"startswith" => Some((Helper::StrStartsWith, LlType::Bool)),
-        b"endswith" => Some((Helper::StrEndsWith, LlType::Bool)),
-        _ => None,
+#[tactic(auto, unfolding(crate::specs::Texts::of_two))]
+fn of_texts(name: &[u8]) -> Option<(Helper, LlType)>
+    ensures { result ≡ spec.of_two name.now }
+{
+    if name == b"find".as_slice() {
+        Some((Helper::StrFind, LlType::Signed))
+    } else if name == b"startswith".as_slice() {
+        Some((Helper::StrStartsWith, LlType::Bool))
+    } else if name == b"endswith".as_slice() {
+        Some((Helper::StrEndsWith, LlType::Bool))
+    } else {
+        None
     }
 }
 
+#[tactic(auto, unfolding(crate::specs::Texts::byte_method))]
 fn push_byte_method(
     alloc: Global,
     around: Around<'_>,
@@ -312,7 +369,9 @@ fn push_byte_method(
     a: Operand<'_>,
     found: &mut Found,
     body: &mut Body,
-) -> Result<bool, NoMem> {
+) -> Result<bool, NoMem>
+    ensures { IfOk result (λ done. Gives (spec.byte_method (the_around around.entry) (the_place place.entry) name.now (the_operand a.entry) (writing found.old body.old)) done found.new body.new) }
+{
     match (of_byte(name), kind_seen(a.element)) {
         (Some(helper), Kind::Byte) => {
             give_helped(
@@ -341,7 +400,9 @@ fn push_text_method(
     b: Operand<'_>,
     found: &mut Found,
     body: &mut Body,
-) -> Result<(), NoMem> {
+) -> Result<(), NoMem>
+    ensures { OnOk result (Leaves (spec.text_method (the_around around.entry) (the_place place.entry) name.now (the_operand a.entry) (the_operand b.entry) (writing found.old body.old)) found.new body.new) }
+{
     let are_texts = is_text_or_none(kind_seen(a.element)) && is_text(kind_seen(b.element));
     match (of_texts(name), are_texts) {
         (Some((helper, gives)), true) => {
@@ -359,13 +420,13 @@ fn push_strip(
     a: Operand<'_>,
     found: &mut Found,
     body: &mut Body,
-) -> Result<(), NoMem> {
-    match (name, is_text_or_none(kind_seen(a.element))) {
-        (b"strip", true) => {
-            push_of_text(alloc, around, place, Helper::StrStrip, TEXT, a, found, body)
-        }
-        _ => Ok(()),
+) -> Result<(), NoMem>
+    ensures { OnOk result (Leaves (spec.strip (the_around around.entry) (the_place place.entry) name.now (the_operand a.entry) (writing found.old body.old)) found.new body.new) }
+{
+    if name == b"strip".as_slice() && is_text_or_none(kind_seen(a.element)) {
+        return push_of_text(alloc, around, place, Helper::StrStrip, TEXT, a, found, body);
     }
+    Ok(())
 }
 
 /// A method of a string.
@@ -377,7 +438,9 @@ pub fn push_method(
     args: &[Operand<'_>],
     found: &mut Found,
     body: &mut Body,
-) -> Result<(), NoMem> {
+) -> Result<(), NoMem>
+    ensures { OnOk result (Leaves (spec.method (the_around around.entry) (the_place place.entry) name.now (the_operands args.now) (writing found.old body.old)) found.new body.new) }
+{
     match args {
         [a] => {
             if push_byte_method(alloc, around, place, name, *a, found, body)? {
@@ -398,7 +461,9 @@ pub fn push_write(
     a: Operand<'_>,
     found: &mut Found,
     body: &mut Body,
-) -> Result<(), NoMem> {
+) -> Result<(), NoMem>
+    ensures { OnOk result (Leaves (spec.write (the_around around.entry) (the_place place.entry) (the_operand a.entry) (writing found.old body.old)) found.new body.new) }
+{
     if !is_text(kind_seen(a.element)) {
         return give_nothing(around, place, body);
     }

@@ -1,5 +1,5 @@
 -- What a value is, as far as its lowering asks.
-use Rattle.std.specs.Prelude.{Bool, cond}
+use Rattle.std.specs.Prelude.{Bool, true, false, cond, Option, Some, None}
 use Rattle.ann_element.specs.declared.element.Element.{Element}
 use Rattle.ann_element.specs.declared.element.Element.TheVariants as e
 use Rattle.rtyper_layout.specs.declared.kind.Kind.{Kind}
@@ -34,3 +34,19 @@ kind_of (e.Func functions or_none) = of_function or_none
 kind_of (e.Dict site or_none) = of_dict or_none
 kind_of (e.Conflict lists dicts) = Other
 kind_of other = Tuple
+
+abbrev pub kind_seen : Option Element → Kind
+kind_seen None = Never
+kind_seen (Some e) = kind_of e
+
+abbrev pub is_text : Kind → Bool
+is_text Byte = true
+is_text Text = true
+is_text kind = false
+
+abbrev pub is_text_or_none : Kind → Bool
+is_text_or_none Byte = true
+is_text_or_none Text = true
+is_text_or_none MaybeText = true
+is_text_or_none Nothing = true
+is_text_or_none kind = false

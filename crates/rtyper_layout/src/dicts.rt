@@ -1,5 +1,9 @@
 // The structs of dicts. A dict is three blocks: the number of its entries, the number of places for them and two
 // pointers; and the two arrays. The entries stand in order of insertion.
+ghost use Rattle.std.specs.Prelude.{◌≡◌, ◌∷◌, ◌++◌, [], IfOk, OnOk, slice_get};
+ghost use Rattle.std.specs.Option.{option_copied};
+ghost use Rattle.rtyper_layout.specs.Dicts as spec;
+
 use crate::layout::Layout;
 use crate::shapes::{field_type, repr};
 use ann_element::{Annotation, Element};
@@ -21,7 +25,9 @@ pub struct Mapping {
 }
 
 // Whether such values may stand as words.
-fn is_plain(kind: LlType) -> bool {
+fn is_plain(kind: LlType) -> bool
+    ensures { result ≡ spec.is_plain kind }
+{
     match kind {
         LlType::Signed | LlType::Char | LlType::Bool => true,
         LlType::Void | LlType::Fn | LlType::Ptr(_) => false,
@@ -30,27 +36,37 @@ fn is_plain(kind: LlType) -> bool {
 
 impl Mapping {
     /// The struct of the first array.
-    pub fn first(self) -> u64 {
+    pub fn first(self) -> u64
+        ensures { result ≡ spec.first self }
+    {
         self.dict.saturating_add(1)
     }
 
     /// The struct of the second array.
-    pub fn second(self) -> u64 {
+    pub fn second(self) -> u64
+        ensures { result ≡ spec.second self }
+    {
         self.dict.saturating_add(2)
     }
 
     /// Whether the second array holds the keys.
-    pub fn keys_last(self) -> bool {
+    pub fn keys_last(self) -> bool
+        ensures { result ≡ spec.keys_last self }
+    {
         is_plain(self.key)
     }
 
     /// Whether there is an index.
-    pub fn is_indexed(self) -> bool {
+    pub fn is_indexed(self) -> bool
+        ensures { result ≡ spec.is_indexed self }
+    {
         is_plain(self.key) || is_plain(self.value)
     }
 
     /// The type of the keys in their array.
-    pub fn stored_key(self) -> LlType {
+    pub fn stored_key(self) -> LlType
+        ensures { result ≡ spec.stored_key self }
+    {
         if is_plain(self.key) {
             LlType::Signed
         } else {
@@ -59,7 +75,9 @@ impl Mapping {
     }
 
     /// The type of the values in their array.
-    pub fn stored_value(self) -> LlType {
+    pub fn stored_value(self) -> LlType
+        ensures { result ≡ spec.stored_value self }
+    {
         if !is_plain(self.key) && is_plain(self.value) {
             LlType::Signed
         } else {
@@ -68,7 +86,9 @@ impl Mapping {
     }
 
     /// The type of the items of the first array.
-    pub fn first_item(self) -> LlType {
+    pub fn first_item(self) -> LlType
+        ensures { result ≡ spec.first_item self }
+    {
         if self.keys_last() {
             self.stored_value()
         } else {
@@ -77,7 +97,9 @@ impl Mapping {
     }
 
     /// The type of the items of the second array.
-    pub fn second_item(self) -> LlType {
+    pub fn second_item(self) -> LlType
+        ensures { result ≡ spec.second_item self }
+    {
         if self.keys_last() {
             self.stored_key()
         } else {
@@ -86,8 +108,10 @@ impl Mapping {
     }
 }
 
-// What is never there may have any type.
-fn type_of(layout: &Layout, element: Option<&Element>) -> LlType {
+/// The type of a field of what was seen: what is never there may have any.
+pub fn type_of(layout: &Layout, element: Option<&Element>) -> LlType
+    ensures { result ≡ spec.type_in layout.now (option_copied element.entry) }
+{
     match element {
         None => LlType::Bool,
         Some(element) => field_type(repr(layout, element)),
@@ -101,7 +125,9 @@ pub fn push_mapping(
     site: SiteId,
     dict: u64,
     mappings: &mut Seq<Mapping>,
-) -> Result<(), NoMem> {
+) -> Result<(), NoMem>
+    ensures { OnOk result (mappings.new ≡ mappings.old ++ spec.mapping layout.now annotation.now site dict ∷ []) }
+{
     mappings.push(Mapping {
         dict,
         key: type_of(layout, annotation.keys.get(site as usize)),
@@ -109,18 +135,21 @@ pub fn push_mapping(
     })
 }
 
-fn dict_fields(alloc: Global, mapping: Mapping) -> Result<Seq<LlType>, NoMem> {
-    let fields = [
-        LlType::Signed,
-        LlType::Signed,
-        LlType::Ptr(mapping.first()),
-        LlType::Ptr(mapping.second()),
-    ];
-    Ok(Seq::from_vec(Vec::from_array(alloc, fields)?))
+fn dict_fields(alloc: Global, mapping: Mapping) -> Result<Seq<LlType>, NoMem>
+    ensures { IfOk result (λ fields. fields ≡ spec.dict_fields mapping) }
+{
+    let mut fields = Seq::new(alloc);
+    fields.push(LlType::Signed)?;
+    fields.push(LlType::Signed)?;
+    fields.push(LlType::Ptr(mapping.first()))?;
+    fields.push(LlType::Ptr(mapping.second()))?;
+    Ok(fields)
 }
 
-// An array with its length.
-fn array(alloc: Global, item: LlType) -> Result<LlStruct, NoMem> {
+/// An array with its length.
+pub fn array(alloc: Global, item: LlType) -> Result<LlStruct, NoMem>
+    ensures { IfOk result (λ s. s ≡ spec.array item) }
+{
     let mut fields = Seq::new(alloc);
     fields.push(LlType::Signed)?;
     Ok(LlStruct {
@@ -131,11 +160,9 @@ fn array(alloc: Global, item: LlType) -> Result<LlStruct, NoMem> {
 }
 
 /// The three structs of a dict.
-pub fn push_dict(
-    alloc: Global,
-    mapping: Mapping,
-    structs: &mut Seq<LlStruct>,
-) -> Result<(), NoMem> {
+pub fn push_dict(alloc: Global, mapping: Mapping, structs: &mut Seq<LlStruct>) -> Result<(), NoMem>
+    ensures { OnOk result (structs.new ≡ structs.old ++ spec.dict_structs mapping) }
+{
     let fields = dict_fields(alloc, mapping)?;
     structs.push(LlStruct {
         base: None,

@@ -1,5 +1,6 @@
 // What a value is, as far as its lowering asks.
 ghost use Rattle.std.specs.Prelude.{◌≡◌};
+ghost use Rattle.std.specs.Option.{option_copied};
 ghost use Rattle.rtyper_layout.specs.Kinds as spec;
 
 use ann_element::Element;
@@ -82,7 +83,9 @@ pub fn kind_of(element: &Element) -> Kind
 }
 
 /// The kind of what was seen; where nothing was, no value comes.
-pub fn kind_seen(element: Option<&Element>) -> Kind {
+pub fn kind_seen(element: Option<&Element>) -> Kind
+    ensures { result ≡ spec.kind_seen (option_copied element.entry) }
+{
     match element {
         None => Kind::Never,
         Some(element) => kind_of(element),
@@ -90,7 +93,9 @@ pub fn kind_seen(element: Option<&Element>) -> Kind {
 }
 
 /// Whether it is a string that is there.
-pub fn is_text(kind: Kind) -> bool {
+pub fn is_text(kind: Kind) -> bool
+    ensures { result ≡ spec.is_text kind }
+{
     match kind {
         Kind::Byte | Kind::Text => true,
         _ => false,
@@ -98,7 +103,9 @@ pub fn is_text(kind: Kind) -> bool {
 }
 
 /// Whether it is a string or `None`.
-pub fn is_text_or_none(kind: Kind) -> bool {
+pub fn is_text_or_none(kind: Kind) -> bool
+    ensures { result ≡ spec.is_text_or_none kind }
+{
     match kind {
         Kind::Byte | Kind::Text | Kind::MaybeText | Kind::Nothing => true,
         _ => false,

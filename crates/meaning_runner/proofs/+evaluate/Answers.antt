@@ -5,7 +5,7 @@ use Rattle.meaning_runner.specs.Evaluates.{called}
 use Rattle.meaning_runner.proofs.Levels.{body_below}
 use Rattle.meaning_runner.proofs.Operate as operate
 use Rattle.meaning_runner.proofs.Targets.{parts_count}
-use Rattle.meaning_runner.proofs.Trees.{display_is, for_is}
+use Rattle.resolved_meaning.proofs.Layers.{display_is, for_is}
 use Rattle.meaning_runner.proofs.Walks.{while_none, for_none, gathered_none}
 use Rattle.meaning_runner.proofs.+evaluate.Goals as goal
 

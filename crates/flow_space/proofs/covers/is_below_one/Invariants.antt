@@ -1,7 +1,7 @@
 use Rattle.std.proofs.Common.{◌≡◌, length}
 use Rattle.std.specs.List.{list_any}
 use Rattle.rpy_meaning.specs.Classes.{is_below}
-use Rattle.flow_space.specs.Programs.{classes_in}
+use Rattle.resolved_meaning.specs.Programs.{classes_in}
 use Rattle.flow_space.proofs.covers.is_below_one.Given as goal
 
 abbrev pub invariant-loop-rest : goal.invariant-loop-rest

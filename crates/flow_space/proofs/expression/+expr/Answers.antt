@@ -1,6 +1,7 @@
 use Rattle.std.proofs.Common.{◌≡◌, ◌+◌, length, refl, sym, ◌∙◌, inl, inr, arith, add-one}
 use Rattle.flow_space.proofs.Items.{one_item, first_rest}
-use Rattle.flow_space.proofs.Layers.{constant_in, count_is, parts_count, local_is, constant_is, apply_is, and_is, or_is, display_is, comprehension_is, over_is, up_is, from_is, name_is, attr_is, item_is, parts_is}
+use Rattle.resolved_meaning.proofs.Layers.{constant_in, parts_count, local_is, constant_is, apply_is, and_is, or_is, display_is, comprehension_is, over_is, up_is, from_is, name_is, attr_is, item_is, parts_is}
+use Rattle.flow_space.proofs.Layers.{count_is}
 use Rattle.flow_space.proofs.Parts.{ok_map, part_map, part_then, part_patch}
 use Rattle.flow_space.proofs.expression.+expr.Goals as goal
 

@@ -1,4 +1,4 @@
-use Rattle.flow_space.proofs.Layers.{apply_is}
+use Rattle.resolved_meaning.proofs.Layers.{apply_is}
 use Rattle.flow_space.proofs.Items.{some_map}
 use Rattle.flow_space.proofs.narrow.narrowed.Goals as goal
 

@@ -1,7 +1,8 @@
 use Rattle.std.proofs.Common.{refl, arith}
 use Rattle.flow_space.specs.Placed.{hands_of}
 use Rattle.flow_space.proofs.Items.{first_rest, none_of}
-use Rattle.flow_space.proofs.Layers.{if_is, while_is, for_is, try_is, finally_is, clause_is, tried_covers}
+use Rattle.resolved_meaning.proofs.Layers.{if_is, while_is, for_is, try_is, finally_is, clause_is}
+use Rattle.flow_space.proofs.Layers.{tried_covers}
 use Rattle.flow_space.proofs.Parts.{ok_map, part_map, part_then, part_none, part_patch}
 use Rattle.flow_space.proofs.statement.+stmt.Goals as goal
 

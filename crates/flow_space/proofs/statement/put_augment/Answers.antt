@@ -1,4 +1,4 @@
-use Rattle.flow_space.proofs.Layers.{name_is, attr_is, item_is, parts_is}
+use Rattle.resolved_meaning.proofs.Layers.{name_is, attr_is, item_is, parts_is}
 use Rattle.flow_space.proofs.Parts.{ok_map, part_map}
 use Rattle.flow_space.proofs.statement.put_augment.Goals as goal
 

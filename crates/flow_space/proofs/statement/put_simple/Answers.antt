@@ -1,5 +1,5 @@
 use Rattle.std.proofs.Common.{refl}
-use Rattle.flow_space.proofs.Layers.{pass_is, break_is, continue_is, return_is, do_is, assign_is, augment_is}
+use Rattle.resolved_meaning.proofs.Layers.{pass_is, break_is, continue_is, return_is, do_is, assign_is, augment_is}
 use Rattle.flow_space.proofs.Parts.{ok_map, part_map, part_none}
 use Rattle.flow_space.proofs.statement.put_simple.Goals as goal
 

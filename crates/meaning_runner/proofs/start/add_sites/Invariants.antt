@@ -1,5 +1,5 @@
 use Rattle.std.proofs.Common.{◌≡◌, map, length}
-use Rattle.rpy_operate.specs.Programs.{object_at}
+use Rattle.resolved_meaning.specs.Programs.{object_at}
 use Rattle.meaning_runner.specs.Starts.{with_objects, objects_of}
 use Rattle.meaning_runner.proofs.start.add_sites.Given as goal
 

@@ -1,5 +1,5 @@
 use Rattle.std.proofs.Common.{◌≡◌, map, take}
-use Rattle.rpy_operate.specs.Programs.{value_in}
+use Rattle.resolved_meaning.specs.Programs.{value_in}
 use Rattle.meaning_runner.proofs.start.list_of.Given as goal
 
 abbrev pub invariant-loop-pair : goal.invariant-loop-pair

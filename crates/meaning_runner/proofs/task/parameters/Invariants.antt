@@ -1,7 +1,7 @@
 use Rattle.std.proofs.Common.{◌≡◌, ◌++◌, length, map}
 use Rattle.std.specs.Prelude.{option_map}
 use Rattle.rpy_meaning.specs.Evaluation.{parameters}
-use Rattle.rpy_operate.specs.Programs.{value_in}
+use Rattle.resolved_meaning.specs.Programs.{value_in}
 use Rattle.meaning_runner.proofs.task.parameters.Given as goal
 
 abbrev pub invariant-loop-others : goal.invariant-loop-others

@@ -1,6 +1,6 @@
 use Rattle.std.proofs.Common.{◌≡◌, length}
 use Rattle.rpy_meaning.specs.Classes.{some_takes}
-use Rattle.meaning_runner.specs.Trees.{program_of, clauses_of}
+use Rattle.resolved_meaning.specs.Trees.{program_of, clauses_of}
 use Rattle.meaning_runner.proofs.task.some_takes.Given as goal
 
 abbrev pub invariant-loop-rest : goal.invariant-loop-rest

@@ -1,7 +1,7 @@
 use Rattle.std.proofs.Common.{◌≡◌, ◌+◌, ◌*◌, map, take}
 use Rattle.std.specs.Prelude.{sum_by}
 use Rattle.rpy_tree.specs.Size.{const_size}
-use Rattle.rpy_operate.specs.Programs.{value_in}
+use Rattle.resolved_meaning.specs.Programs.{value_in}
 use Rattle.rpy_operate.proofs.classes.+constant.Given as goal
 
 abbrev pub invariant-constant_values-loop-value : goal.invariant-constant_values-loop-value

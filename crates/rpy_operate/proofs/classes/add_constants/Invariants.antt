@@ -1,5 +1,5 @@
 use Rattle.std.proofs.Common.{◌≡◌, ◌++◌, take}
-use Rattle.rpy_operate.specs.Programs.{constants_in}
+use Rattle.resolved_meaning.specs.Programs.{constants_in}
 use Rattle.rpy_operate.proofs.classes.add_constants.Given as goal
 
 abbrev pub invariant-loop-constant : goal.invariant-loop-constant

@@ -1,6 +1,6 @@
 -- No class has no constants.
 use Rattle.std.proofs.Common.{sym}
-use Rattle.rpy_operate.proofs.Bases.{no_constants}
+use Rattle.resolved_meaning.proofs.Bases.{no_constants}
 use Rattle.rpy_operate.proofs.classes.add_own_constants.Goals as goal
 
 pub returns-in-None : goal.returns-in-None

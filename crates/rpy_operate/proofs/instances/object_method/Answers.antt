@@ -4,7 +4,7 @@ use Rattle.std.specs.Prelude.{IfOk}
 use Rattle.rpy_meaning.specs.World.{Answer}
 use Rattle.rpy_value.specs.Objects.{object_of}
 use Rattle.rpy_operate.specs.Answers.{told}
-use Rattle.rpy_operate.specs.Programs.{program_of}
+use Rattle.resolved_meaning.specs.Programs.{program_of}
 use Rattle.rpy_operate.proofs.Dispatch.{list_dispatch, dict_dispatch}
 use Rattle.rpy_operate.proofs.instances.object_method.Goals as goal
 

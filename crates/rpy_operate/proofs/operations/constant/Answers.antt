@@ -1,9 +1,9 @@
 -- Where objects stand is the same whether they are empty or not.
 use Rattle.std.proofs.Common.{List, ap, ◌∙◌}
 use Rattle.rpy_tree.specs.declared.program.Site.{Site}
-use Rattle.rpy_operate.specs.Programs.{value_in}
+use Rattle.resolved_meaning.specs.Programs.{value_in}
 use Rattle.rpy_operate.specs.declared.answer.Answer.TheVariants as answer
-use Rattle.rpy_operate.proofs.Sites.{constant_same}
+use Rattle.resolved_meaning.proofs.Sites.{constant_same}
 use Rattle.rpy_operate.proofs.operations.constant.Goals as goal
 
 pub returns : goal.returns

@@ -1,0 +1,7 @@
+use Rattle.std.proofs.Common.{◌≡◌, drop}
+use Rattle.ann_needs.specs.View as spec
+use Rattle.ann_meets.specs.Parts as parts
+use Rattle.ann_meets.proofs.part.all_go.Given as goal
+
+abbrev pub invariant-loop-op : goal.invariant-loop-op
+invariant-loop-op l = parts.all_go (spec.whole l.p) (spec.assignment l.s) l.g (drop l.op-index l.ops) ≡ parts.all_go (spec.whole l.p) (spec.assignment l.s) l.g l.ops

@@ -1,2 +1,0 @@
--- Lemmas for the laws.
-pub mod Raising

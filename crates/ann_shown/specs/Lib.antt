@@ -1,0 +1,3 @@
+pub mod Params
+pub mod Operands
+pub mod Told

@@ -1,7 +1,0 @@
-use Rattle.std.proofs.Common.{◌≡◌, drop}
-use Rattle.ann_needs.specs.View.{assignment}
-use Rattle.ann_states.specs.Clash as spec
-use Rattle.ann_states.proofs.clashing.all_named_clash.Given as goal
-
-abbrev pub invariant-loop-row : goal.invariant-loop-row
-invariant-loop-row l = spec.all_named_clash (assignment l.s) (drop l.row-index l.rows) ≡ spec.all_named_clash (assignment l.s) l.rows

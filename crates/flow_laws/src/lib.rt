@@ -1,0 +1,6 @@
+//! The flow graphs of a program mean what the program means.
+#![tactic(auto)]
+
+mod laws;
+
+pub use laws::{flow_graphs_end_as_their_program, flow_graphs_have_an_ending};

@@ -1,0 +1,9 @@
+pub mod Along
+pub mod Bounded
+pub mod Counting
+pub mod Effects
+pub mod Joined
+pub mod Lifting
+pub mod Moves
+pub mod Weighing
+pub mod Ways

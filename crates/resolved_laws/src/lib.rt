@@ -1,0 +1,6 @@
+//! Programs whose trees differ in copies of checked operations alone mean the same.
+#![tactic(auto)]
+
+mod laws;
+
+pub use laws::copies_mean_nothing;

@@ -1,0 +1,6 @@
+pub mod Looking
+pub mod Making
+pub mod Plain
+pub mod Saying
+pub mod Telling
+pub mod Words

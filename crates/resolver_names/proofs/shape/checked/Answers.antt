@@ -1,0 +1,8 @@
+use Rattle.std.proofs.Common.{sym, ◌∙◌}
+use Rattle.resolver_names.proofs.Making.{ok_map, checked_made}
+use Rattle.resolver_names.proofs.shape.checked.Goals as goal
+
+pub returns-in-Apply : goal.returns-in-Apply
+returns-in-Apply c =
+    let k = sym c.checked_op.ensures ∙ c.in-Some.is in
+    ok_map c.one_of.result (λ new h. checked_made c.args.names.now.program.now.sites c.args.e new c.args.node c.in-Apply.inner c.in-Apply.value c.in-Apply.op c.in-Some.op c.in-Apply.parts c.in-Apply.is k h) c.one_of.ensures

@@ -1,0 +1,2 @@
+-- Lemmas for the code.
+pub mod Displays

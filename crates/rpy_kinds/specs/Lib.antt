@@ -1,0 +1,3 @@
+pub mod Words
+pub mod Search
+pub mod Places

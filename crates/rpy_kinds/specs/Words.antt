@@ -1,0 +1,37 @@
+-- The words for kinds of expressions and statements.
+use Rattle.std.specs.Prelude.{ℕ, List, codes}
+use Rattle.rpy_kinds.specs.declared.kind.Kind.{Kind}
+use Rattle.rpy_kinds.specs.declared.kind.Kind.TheVariants as kind
+
+abbrev pub word : Kind → List ℕ
+word kind.Int = codes "int"
+word kind.Str = codes "str"
+word kind.Name = codes "name"
+word kind.Unary = codes "unary"
+word kind.Binary = codes "binary"
+word kind.Compare = codes "compare"
+word (kind.Logic a b) = codes "logic"
+word kind.Not = codes "not"
+word (kind.Call named) = codes "call"
+word kind.Attr = codes "attr"
+word kind.Index = codes "index"
+word kind.Slice = codes "slice"
+word kind.Tuple = codes "tuple"
+word kind.List = codes "list"
+word kind.Dict = codes "dict"
+word kind.Comp = codes "comp"
+word kind.Pass = codes "pass"
+word kind.Break = codes "break"
+word kind.Continue = codes "continue"
+word kind.Return = codes "return"
+word kind.Raise = codes "raise"
+word kind.Assert = codes "assert"
+word kind.Del = codes "del"
+word kind.Print = codes "print"
+word kind.Assign = codes "assign"
+word kind.Aug = codes "aug"
+word kind.Expr = codes "expr"
+word kind.If = codes "if"
+word kind.While = codes "while"
+word kind.For = codes "for"
+word kind.Try = codes "try"
