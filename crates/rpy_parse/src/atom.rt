@@ -10,8 +10,8 @@ use crate::expression::{expression, expressions, items};
 use crate::fault::Stop;
 use crate::found::{Got, Sliced};
 use crate::node::{
-    attribute, bracketed, call, empty_tuple, index, indexed, int, name, no_items, slice, slice_open,
-    sliced, sliced_from, string,
+    attribute, bracketed, call, empty_tuple, index, indexed, int, name, no_items, slice,
+    slice_open, sliced, sliced_from, string,
 };
 use rpy_base::{Seq, Text};
 use rpy_token::{Sign, TokenKind};

@@ -20,7 +20,12 @@ use std::alloc::Global;
 
 #[cycle(rules)]
 #[tactic(auto, using(crate::proofs::Unroll::brackets_reads))]
-pub fn brackets(alloc: Global, tokens: &mut Cursor<'_>, lines: Seq<u32>, line: u32) -> Result<Got, Stop>
+pub fn brackets(
+    alloc: Global,
+    tokens: &mut Cursor<'_>,
+    lines: Seq<u32>,
+    line: u32,
+) -> Result<Got, Stop>
     ensures reads { Reads (reading part.Brackets (lines, line) tokens.old) result tokens.new }
     ensures shrinks { IfOk result (λ _. length tokens.new < length tokens.old) }
 {
@@ -116,7 +121,12 @@ fn comprehension_end(alloc: Global, tokens: &mut Cursor<'_>, x: Walk) -> Result<
 
 #[cycle(rules)]
 #[tactic(auto, using(crate::proofs::Unroll::braces_reads))]
-pub fn braces(alloc: Global, tokens: &mut Cursor<'_>, lines: Seq<u32>, line: u32) -> Result<Got, Stop>
+pub fn braces(
+    alloc: Global,
+    tokens: &mut Cursor<'_>,
+    lines: Seq<u32>,
+    line: u32,
+) -> Result<Got, Stop>
     ensures reads { Reads (reading part.Braces (lines, line) tokens.old) result tokens.new }
     ensures shrinks { IfOk result (λ _. length tokens.new < length tokens.old) }
 {
