@@ -6,6 +6,7 @@ ghost use Rattle.rpy_tree.specs.declared.program.Program.{Program};
 ghost use Rattle.rpy_meaning.specs.Classes.{is_below};
 ghost use Rattle.rpy_meaning.specs.Operations.{builtin_classes};
 ghost use Rattle.rpy_meaning.specs.Resolved.{Further, program_of};
+ghost use Rattle.rpy_resolved.specs.Count.{function_count};
 ghost use Rattle.names_rules.specs.Members.{modules_nodes};
 ghost use Rattle.names_whole.specs.Classes.{classes};
 ghost use Rattle.rpy_names.specs.Resolve.{prog};
@@ -33,4 +34,10 @@ pub fn programs_have_a_site()
 /// Each program that `resolve` gives has no more classes than its modules have nodes, and the builtin ones.
 pub fn programs_have_few_classes()
     ensures { (ms : List Named) (p : Program) → prog ms ≡ Some p → length p.classes ≤ 13 + modules_nodes ms }
+{}
+
+/// Each program that `resolve` gives has as many functions as its modules define, in their bodies and in
+/// those of their classes.
+pub fn programs_have_their_functions()
+    ensures { (ms : List Named) (p : Program) → prog ms ≡ Some p → length p.functions ≡ function_count p.modules }
 {}
