@@ -1,0 +1,6 @@
+//! The flow graphs of texts mean what the program means that these texts are.
+#![tactic(auto)]
+
+mod laws;
+
+pub use laws::{graphs_of_texts_end_as_their_program, graphs_of_texts_have_an_ending};
