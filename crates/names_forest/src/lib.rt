@@ -1,5 +1,5 @@
-//! That the bases of the classes of a program come to an end, the builtin ones at `Exception`, and how many of
-//! each thing it has.
+//! That the bases of the classes of a program come to an end, the builtin ones at `Exception`, and how many
+//! sites, classes and functions it has.
 #![tactic(auto)]
 
 mod laws;
