@@ -36,6 +36,7 @@ def entry_point(argv):
     for c in 'xy':
         print c
     print d['k'] and joined('q') or joined('r', 's')
+    d[joined('u')], d['w'] = 'a', joined('b')
     return 0
 """
 PIECES = re.compile(rb'[s(]|\d+,')
@@ -97,7 +98,8 @@ def read_as_we_do(meaning):
     """The other interpreter, but at the four places where its authors took the larger reading of what is held:
     a call's parameters at the cost of its entry, where the arguments are held as they are; the item of a turn at the
     turn's cost, before it is read; the left operand of `and` and `or` while the right one is evaluated; the old value
-    and the right side of an augmented assignment while the new value is stored."""
+    and the right side of an augmented assignment while the new value is stored. And at the one place where they took
+    the smaller one: where a target in a tuple stores its item, this is held besides the tuple."""
 
     whole, roots_of_all = meaning.Compiler, meaning.roots_at
 
@@ -160,6 +162,8 @@ def read_as_we_do(meaning):
             all_held = self.held
             if self.augmented is not None:
                 self.held = all_held[:self.augmented] + parts + [value]
+            elif value not in all_held:
+                self.held = all_held + [value]
             try:
                 whole.store(self, t, parts, value)
             finally:

@@ -22,9 +22,9 @@ use Rattle.flow_graph.specs.declared.graph.Op.{Op}
 use Rattle.flow_graph.specs.declared.graph.Graphs.{Graphs}
 use Rattle.flow_meaning.specs.Machine.{Bound, Frame, State, Calling, At, Returning, Throwing, Next, Goes, Ends, Stops, Strays, values_of, catching, caught_on, caught_by, caught, answered, operates, leaves, entered, step}
 use Rattle.flow_meaning.specs.Meaning.{Ran, follow, run, start, ended, gmean, GMeans}
-use Rattle.flow_stands.specs.Follows.{HasBuiltins, EndsLike}
+use Rattle.flow_stands.specs.Follows.{HasBuiltins, EndsLike, UsesNoMore}
 use Rattle.flow_stands.specs.Stands.{Stand}
-use Rattle.flow_stands.proofs.Top.{has_ending, only_ending}
+use Rattle.flow_stands.proofs.Top.{has_ending, only_ending, uses}
 use Rattle.flow_space.specs.Placed.{StandFor}
 
 module _ (p : Program) (gs : Graphs) where
@@ -95,14 +95,19 @@ module _ (p : Program) (gs : Graphs) where
   gmean_same : (args : List (List ℕ)) (n k : ℕ) → gmean (uncopied p) gs args n k ≡ gmean p gs args n k
   gmean_same args n k = ap ended (run_same k (start p args n))
 
-  ending : Stand p gs false → HasBuiltins (uncopied p) → (args : List (List ℕ)) (n : ℕ) → (q : Run) × GMeans (uncopied p) gs args n q × EndsLike q (mean (uncopied p) args n)
+  ending : Stand p gs → HasBuiltins (uncopied p) → (args : List (List ℕ)) (n : ℕ) → (q : Run) × GMeans (uncopied p) gs args n q × EndsLike q (mean (uncopied p) args n)
   ending stand builtins args n =
-      let x = has_ending p gs false builtins stand args n in
+      let x = has_ending p gs builtins stand args n in
       (x.0, (x.1.0, gmean_same args n x.1.0 ∙ x.1.1), subst (EndsLike x.0) (sym (mean_same p args n)) x.2)
 
-  only : Stand p gs false → HasBuiltins (uncopied p) → (args : List (List ℕ)) (n : ℕ) (q : Run) → GMeans (uncopied p) gs args n q → EndsLike q (mean (uncopied p) args n)
+  only : Stand p gs → HasBuiltins (uncopied p) → (args : List (List ℕ)) (n : ℕ) (q : Run) → GMeans (uncopied p) gs args n q → EndsLike q (mean (uncopied p) args n)
   only stand builtins args n q means =
-      subst (EndsLike q) (sym (mean_same p args n)) (only_ending p gs false builtins stand args n q (means.0, sym (gmean_same args n means.0) ∙ means.1))
+      subst (EndsLike q) (sym (mean_same p args n)) (only_ending p gs builtins stand args n q (means.0, sym (gmean_same args n means.0) ∙ means.1))
+
+  no_more : Stand p gs → HasBuiltins (uncopied p) → (args : List (List ℕ)) (n : ℕ) (q : Run) → GMeans (uncopied p) gs args n q → UsesNoMore (uncopied p) q (mean (uncopied p) args n)
+  no_more stand builtins args n q means =
+      let u = uses p gs builtins stand args n q (means.0, sym (gmean_same args n means.0) ∙ means.1) in
+      subst (UsesNoMore (uncopied p) q) (sym (mean_same p args n)) (record { values = u.values; held = u.held; references = u.references })
 
 module _ (p : source.Program) (gs : Graphs) where
   pub ends : StandFor p gs → HasNoInnerClasses p.modules → function_count p.modules ≤ length p.functions → HasBuiltins (meant_by p)
@@ -116,3 +121,9 @@ module _ (p : source.Program) (gs : Graphs) where
   ends_so for flat many builtins =
       let same = for.meant flat many in
       subst (λ m. HasBuiltins m → (args : List (List ℕ)) (n : ℕ) (q : Run) → GMeans m gs args n q → EndsLike q (mean m args n)) same (only (program_of for.resolved) gs for.stand) builtins
+
+  pub use_no_more : StandFor p gs → HasNoInnerClasses p.modules → function_count p.modules ≤ length p.functions → HasBuiltins (meant_by p)
+      → (args : List (List ℕ)) (n : ℕ) (q : Run) → GMeans (meant_by p) gs args n q → UsesNoMore (meant_by p) q (mean (meant_by p) args n)
+  use_no_more for flat many builtins =
+      let same = for.meant flat many in
+      subst (λ m. HasBuiltins m → (args : List (List ℕ)) (n : ℕ) (q : Run) → GMeans m gs args n q → UsesNoMore m q (mean m args n)) same (no_more (program_of for.resolved) gs for.stand) builtins

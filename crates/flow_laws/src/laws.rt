@@ -7,7 +7,7 @@ ghost use Rattle.resolved_laws.specs.Meant.{meant_by};
 ghost use Rattle.resolver_laws.specs.Listing.{HasNoInnerClasses};
 ghost use Rattle.flow_graph.specs.declared.graph.Graphs.{Graphs};
 ghost use Rattle.flow_meaning.specs.Meaning.{GMeans};
-ghost use Rattle.flow_stands.specs.Follows.{HasBuiltins, EndsLike};
+ghost use Rattle.flow_stands.specs.Follows.{HasBuiltins, EndsLike, UsesNoMore};
 ghost use Rattle.flow_space.specs.Placed.{StandFor};
 
 /// The graphs that `flow` makes of a program have an ending, for each list of arguments and each bound on
@@ -21,4 +21,9 @@ pub fn flow_graphs_have_an_ending()
 /// They have no other ending.
 pub fn flow_graphs_end_as_their_program()
     ensures { (p : Program) (gs : Graphs) → StandFor p gs → HasNoInnerClasses p.modules → function_count p.modules ≤ length p.functions → HasBuiltins (meant_by p) → (args : List (List ℕ)) (n : ℕ) (q : Run) → GMeans (meant_by p) gs args n q → EndsLike q (mean (meant_by p) args n) }
+{}
+
+/// Where steps run out, what the graphs still use holds no more than what the program holds there.
+pub fn flow_graphs_use_no_more()
+    ensures { (p : Program) (gs : Graphs) → StandFor p gs → HasNoInnerClasses p.modules → function_count p.modules ≤ length p.functions → HasBuiltins (meant_by p) → (args : List (List ℕ)) (n : ℕ) (q : Run) → GMeans (meant_by p) gs args n q → UsesNoMore (meant_by p) q (mean (meant_by p) args n) }
 {}

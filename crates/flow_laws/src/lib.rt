@@ -3,4 +3,6 @@
 
 mod laws;
 
-pub use laws::{flow_graphs_end_as_their_program, flow_graphs_have_an_ending};
+pub use laws::{
+    flow_graphs_end_as_their_program, flow_graphs_have_an_ending, flow_graphs_use_no_more,
+};

@@ -54,12 +54,12 @@ graph_stands program function number body hands covers old c1 c2 c3 c4 c5 c6 fin
     let p = program_of program in
     let few2 : length (map (option_map (value_in program.sites)) function.defaults) ≤ n = let l = length-map function.defaults (option_map (value_in program.sites)) in omega (arith, l, few) in
     let b1 = k.1.1 refl in
-    let b2 = subst (λ ss. stands.HasBlock p gs false f n (record { hands = hands_of hands; default = record { to = raising; keep = 0 }; covers = covers; tried = false }) (block_of program.sites ss) begin n (record { norm = end; brk = record { to = end; keep = n }; cont = record { to = end; keep = n }; ret = record { to = returning; keep = 0 } })) is_body b1 in
-    let b3 = subst (λ hs. stands.HasBlock p gs false f n (record { hands = hands_of hs; default = record { to = raising; keep = 0 }; covers = covers; tried = false }) (block_of program.sites function.body) begin n (record { norm = end; brk = record { to = end; keep = n }; cont = record { to = end; keep = n }; ret = record { to = returning; keep = 0 } })) no_hands b2 in
-    let b4 = subst (λ cs. stands.HasBlock p gs false f n (record { hands = []; default = record { to = raising; keep = 0 }; covers = cs; tried = false }) (block_of program.sites function.body) begin n (record { norm = end; brk = record { to = end; keep = n }; cont = record { to = end; keep = n }; ret = record { to = returning; keep = 0 } })) nothing b3 in
-    let b5 = subst (λ j. stands.HasBlock p gs false f n (record { hands = []; default = record { to = j; keep = 0 }; covers = no_covers; tried = false }) (block_of program.sites function.body) begin n (record { norm = end; brk = record { to = end; keep = n }; cont = record { to = end; keep = n }; ret = record { to = returning; keep = 0 } })) two_at b4 in
-    let b6 = subst (λ j. stands.HasBlock p gs false f n stands.no_try (block_of program.sites function.body) begin n (record { norm = j; brk = record { to = j; keep = n }; cont = record { to = j; keep = n }; ret = record { to = returning; keep = 0 } })) four_at b5 in
-    let b7 = subst (λ j. stands.HasBlock p gs false f n stands.no_try (block_of program.sites function.body) begin n (record { norm = 4; brk = record { to = 4; keep = n }; cont = record { to = 4; keep = n }; ret = record { to = j; keep = 0 } })) one_at b6 in (
+    let b2 = subst (λ ss. stands.HasBlock p gs f n (record { hands = hands_of hands; default = record { to = raising; keep = 0 }; covers = covers; tried = false }) (block_of program.sites ss) begin n (record { norm = end; brk = record { to = end; keep = n }; cont = record { to = end; keep = n }; ret = record { to = returning; keep = 0 } })) is_body b1 in
+    let b3 = subst (λ hs. stands.HasBlock p gs f n (record { hands = hands_of hs; default = record { to = raising; keep = 0 }; covers = covers; tried = false }) (block_of program.sites function.body) begin n (record { norm = end; brk = record { to = end; keep = n }; cont = record { to = end; keep = n }; ret = record { to = returning; keep = 0 } })) no_hands b2 in
+    let b4 = subst (λ cs. stands.HasBlock p gs f n (record { hands = []; default = record { to = raising; keep = 0 }; covers = cs; tried = false }) (block_of program.sites function.body) begin n (record { norm = end; brk = record { to = end; keep = n }; cont = record { to = end; keep = n }; ret = record { to = returning; keep = 0 } })) nothing b3 in
+    let b5 = subst (λ j. stands.HasBlock p gs f n (record { hands = []; default = record { to = j; keep = 0 }; covers = no_covers; tried = false }) (block_of program.sites function.body) begin n (record { norm = end; brk = record { to = end; keep = n }; cont = record { to = end; keep = n }; ret = record { to = returning; keep = 0 } })) two_at b4 in
+    let b6 = subst (λ j. stands.HasBlock p gs f n stands.no_try (block_of program.sites function.body) begin n (record { norm = j; brk = record { to = j; keep = n }; cont = record { to = j; keep = n }; ret = record { to = returning; keep = 0 } })) four_at b5 in
+    let b7 = subst (λ j. stands.HasBlock p gs f n stands.no_try (block_of program.sites function.body) begin n (record { norm = 4; brk = record { to = 4; keep = n }; cont = record { to = 4; keep = n }; ret = record { to = j; keep = 0 } })) one_at b6 in (
       begin,
       few2,
       subst (λ j. ShapeAt j n (Go (first begin n)) program gs f) zero_at k.0,
@@ -100,11 +100,11 @@ graphs_push program functions graphs new function graph index len item is e all 
 
 -- graphs of all functions stand for the program
 stand_by : (program : Resolved) (gs : Graphs) (f : ℕ) (functions : List Function) → length gs.graphs ≡ length functions → GraphsAt program functions gs.graphs
-    → (o : Option Function) → slice_get functions f ≡ o → stands.IfFunction (program_of program) gs false f (option_map (function_of program.sites) o)
+    → (o : Option Function) → slice_get functions f ≡ o → stands.IfFunction (program_of program) gs f (option_map (function_of program.sites) o)
 stand_by program gs f functions len all None e = tt
 stand_by program gs f functions len all (Some function) e = by (slice_get gs.graphs f) refl
   where
-    by : (g : Option Graph) → slice_get gs.graphs f ≡ g → stands.HasFunction (program_of program) gs false f (function_of program.sites function)
+    by : (g : Option Graph) → slice_get gs.graphs f ≡ g → stands.HasFunction (program_of program) gs f (function_of program.sites function)
     by (Some graph) z = all f function graph e z gs f z
     by None z = absurd (let lt = slice_get_within functions f function e in let y = slice_get-get_or gs.graphs f (record { function = 0; blocks = [] }) (omega (arith, lt, len)) in cc)
 
@@ -116,5 +116,5 @@ get_map {A = A} {B = B} g (x ∷ xs) (suc i) = get_map g xs i
 pub all_stand : (program : Resolved) (gs : Graphs) → length gs.graphs ≡ length program.functions → GraphsAt program program.functions gs.graphs → FlowAt program gs
 unfolding program_of
 all_stand program gs len all f =
-    subst (λ o. stands.IfFunction (program_of program) gs false f o) (sym (get_map (function_of program.sites) program.functions f))
+    subst (λ o. stands.IfFunction (program_of program) gs f o) (sym (get_map (function_of program.sites) program.functions f))
     (stand_by program gs f program.functions len all (slice_get program.functions f) refl)

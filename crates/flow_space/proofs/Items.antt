@@ -23,6 +23,10 @@ first_rest {A = A} (x ∷ xs) a le e =
     let n : length (x ∷ xs) - 1 ≡ length xs = omega arith in
     ap (λ (u : A). u ∷ xs) (sym e) ∙ ap (λ (u : List A). a ∷ u) (sym (ap (λ (k : ℕ). take k xs) n ∙ take_all xs))
 
+pub head_rest : {A : Type 0} (xs : List A) (a : A) → 1 ≤ length xs → xs ≡ get_or xs 0 a ∷ take (length xs - 1) (drop 1 xs)
+head_rest [] a le = absurd (omega arith)
+head_rest (x ∷ xs) a le = first_rest (x ∷ xs) x le refl
+
 pub rest_is : {A : Type 0} (xs : List A) → 2 ≤ length xs → (u : A) × (us : List A) × (take (length xs - 1) (drop 1 xs) ≡ u ∷ us)
 rest_is {A = A} [] le = absurd (omega arith)
 rest_is {A = A} (x ∷ []) le = absurd (omega arith)

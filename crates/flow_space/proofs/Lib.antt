@@ -6,3 +6,4 @@ pub mod Items
 pub mod Layers
 pub mod Narrows
 pub mod Parts
+pub mod Sources

@@ -8,7 +8,7 @@ use Rattle.flow_space.specs.declared.narrow.Kind.{Kind}
 use Rattle.flow_space.specs.declared.narrow.Kind.TheVariants as kind
 use Rattle.flow_space.specs.Placed.{AreArgs, narrowing_op}
 
-pub narrows : (p : Program) (gs : Graphs) (f n : ℕ) (c : Covers) (k : Kind) (i : ℕ) (args : List ℕ) (m value : ℕ) → AreArgs k args i m value → Narrows p gs false f n c (narrowing_op k) i args m value
+pub narrows : (p : Program) (gs : Graphs) (f n : ℕ) (c : Covers) (k : Kind) (i : ℕ) (args : List ℕ) (m value : ℕ) → AreArgs k args i m value → Narrows p gs f n c (narrowing_op k) i args m value
 narrows p gs f n c kind.DropNone i args m value h = inl (h, λ x w. refl)
 narrows p gs f n c kind.OnlyNone i args m value h = inl (h, λ x w. refl)
 narrows p gs f n c kind.FalseNone i args m value h = inl (h, λ x w. refl)

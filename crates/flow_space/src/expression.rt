@@ -5,13 +5,16 @@ ghost use Rattle.std.specs.Prelude.{◌≡◌, ◌+◌, ◌∷◌, ◌++◌, [],
 ghost use Rattle.rpy_meaning.specs.declared.row.RowOp.TheVariants as row;
 ghost use Rattle.flow_stands.specs.Places.{range, first_and as on_first_and, Go};
 ghost use Rattle.flow_stands.specs.Stands as stands;
-ghost use Rattle.flow_space.specs.Placed.{Part, ShapeAt, ActsAt, ExprAt, ExprsAt, ApplyAt, NotAt, LogicAt, TestAt, WayAt, TruthAt, AsksAt, SidesAt, DisplayAt, PairsAt, PairAt, SubjectAt, GatherAt, ComprehensionAt, BindAt, ItemAt, PartsAt, ItemsAt, branch_of, jump_of};
+ghost use Rattle.flow_space.specs.Placed.{Part, ShapeAt, ActsAt, ExprAt, ExprsAt, ApplyAt, NotAt, LogicAt, TestAt, WayAt, TruthAt, AsksAt, SidesAt, DisplayAt, PairsAt, PairAt, SubjectAt, GatherAt, ComprehensionAt, BindAt, TakeAt, ItemAt, PartsAt, ItemsAt, branch_of, jump_of};
 
 use crate::code::{Code, Jump, Scope, jump_and, jump_first, jump_stored, local_place, op_at};
 use crate::copy::copy_op;
 use crate::narrow::{narrowed, needs_sides, put_narrowing};
 use crate::operation::{put_copy, put_last, put_leaf, put_meeting};
 use crate::places::{narrow, one, plus, range, three, two};
+use crate::source::{
+    Source, TupleItem, item_of, place_taken, put_name, put_store, put_there, put_tuple, variable,
+};
 use crate::walk::{Walk, put_advance, put_turn, step_of};
 use rpy_base::{NoMem, Own};
 use rpy_copies::copy_const;
@@ -693,23 +696,42 @@ pub fn put_bind(
 ) -> Result<u64, NoMem>
     ensures { IfOk result (λ b. Part code.old.blocks code.new.blocks (BindAt scope.now target.now value m keep b norm)) }
 {
+    let source = variable(alloc, value);
+    put_take(alloc, code, scope, target, &source, m, keep, norm)
+}
+
+// The same for what stands in tuples, too. An item of a tuple is taken when the parts of the target are
+// evaluated, so that it is not held before.
+#[cycle(expr)]
+fn put_take(
+    alloc: Global,
+    code: &mut Code,
+    scope: &Scope,
+    target: &Target,
+    source: &Source,
+    m: usize,
+    keep: usize,
+    norm: u64,
+) -> Result<u64, NoMem>
+    ensures { IfOk result (λ b. Part code.old.blocks code.new.blocks (TakeAt scope.now target.now source.now m keep b norm)) }
+{
     match target {
         Target::Name(node, local) => {
             let _place = local_place(scope, *local)?;
-            let args = one(alloc, value)?;
-            let jump = jump_stored(alloc, norm, keep, *local, m)?;
-            code.put_op(alloc, scope, op_at(*node, true, RowOp::Copy), args, m, jump)
+            put_name(alloc, code, scope, *node, *local, source, m, keep, norm)
         }
         Target::Attr(node, e, name) => {
-            let of = op_at(*node, true, RowOp::StoreAttr(name.copy(alloc)?));
-            let args = two(alloc, m, value)?;
-            let jump = jump_first(alloc, norm, keep)?;
             let more = plus(m, 1)?;
-            let store = code.put_op(alloc, scope, of, args, more, jump)?;
-            put_expr(alloc, code, scope, e, m, store)
+            let op = RowOp::StoreAttr(name.copy(alloc)?);
+            let args = two(alloc, m, place_taken(source, more))?;
+            let store = put_store(
+                alloc, code, scope, *node, op, args, source, more, keep, norm,
+            )?;
+            let begin = put_expr(alloc, code, scope, e, m, store)?;
+            put_there(alloc, code, scope, source, m, begin)
         }
         Target::Item(node, a, i) => {
-            put_item(alloc, code, scope, *node, a, i, value, m, keep, norm)
+            put_item(alloc, code, scope, *node, a, i, source, m, keep, norm)
         }
         Target::Parts(node, parts) => {
             put_parts(
@@ -718,7 +740,7 @@ pub fn put_bind(
                 scope,
                 *node,
                 parts.as_slice(),
-                value,
+                source,
                 m,
                 keep,
                 norm,
@@ -735,21 +757,21 @@ fn put_item(
     node: NodeId,
     a: &Expr,
     i: &Expr,
-    value: usize,
+    source: &Source,
     m: usize,
     keep: usize,
     norm: u64,
 ) -> Result<u64, NoMem>
-    ensures { IfOk result (λ b. Part code.old.blocks code.new.blocks (ItemAt scope.now a.now i.now value m keep b norm)) }
+    ensures { IfOk result (λ b. Part code.old.blocks code.new.blocks (ItemAt scope.now a.now i.now source.now m keep b norm)) }
 {
     let index = plus(m, 1)?;
-    let args = three(alloc, m, index, value)?;
-    let jump = jump_first(alloc, norm, keep)?;
-    let of = op_at(node, true, RowOp::StoreIndex);
     let all = plus(m, 2)?;
-    let store = code.put_op(alloc, scope, of, args, all, jump)?;
+    let args = three(alloc, m, index, place_taken(source, all))?;
+    let op = RowOp::StoreIndex;
+    let store = put_store(alloc, code, scope, node, op, args, source, all, keep, norm)?;
     let right = put_expr(alloc, code, scope, i, index, store)?;
-    put_expr(alloc, code, scope, a, m, right)
+    let begin = put_expr(alloc, code, scope, a, m, right)?;
+    put_there(alloc, code, scope, source, m, begin)
 }
 
 // The parts of a tuple's target take its items one after the other.
@@ -760,30 +782,18 @@ fn put_parts(
     scope: &Scope,
     node: NodeId,
     parts: &[Target],
-    value: usize,
+    source: &Source,
     m: usize,
     keep: usize,
     norm: u64,
 ) -> Result<u64, NoMem>
-    ensures { IfOk result (λ b. Part code.old.blocks code.new.blocks (PartsAt scope.now parts.now value m keep b norm)) }
+    ensures { IfOk result (λ b. Part code.old.blocks code.new.blocks (PartsAt scope.now parts.now source.now m keep b norm)) }
 {
     let end = jump_first(alloc, norm, keep)?;
     let end = code.put_jump(alloc, m, end)?;
-    let begin = put_items(
-        alloc,
-        code,
-        scope,
-        node,
-        parts,
-        parts.len(),
-        0,
-        value,
-        m,
-        end,
-    )?;
-    let args = one(alloc, value)?;
-    let jump = jump_first(alloc, begin, m)?;
-    code.put_op(alloc, scope, op_at(node, true, RowOp::Copy), args, m, jump)
+    let count = parts.len();
+    let begin = put_items(alloc, code, scope, node, parts, count, 0, source, m, end)?;
+    put_tuple(alloc, code, scope, node, source, m, begin)
 }
 
 // The parts of a tuple's target from a place on, of which there are `count`.
@@ -796,23 +806,26 @@ fn put_items(
     parts: &[Target],
     count: usize,
     place: usize,
-    value: usize,
+    source: &Source,
     m: usize,
     norm: u64,
 ) -> Result<u64, NoMem>
-    ensures { IfOk result (λ b. Part code.old.blocks code.new.blocks (ItemsAt scope.now parts.now count place value m b norm)) }
+    ensures { IfOk result (λ b. Part code.old.blocks code.new.blocks (ItemsAt scope.now parts.now count place source.now m b norm)) }
 {
     match parts {
         [] => Ok(norm),
         [part, rest @ ..] => {
             let later = plus(place, 1)?;
-            let next = put_items(alloc, code, scope, node, rest, count, later, value, m, norm)?;
-            let more = plus(m, 1)?;
-            let bind = put_bind(alloc, code, scope, part, m, more, m, next)?;
-            let args = one(alloc, value)?;
-            let jump = jump_and(alloc, bind, m, m)?;
-            let of = op_at(node, false, RowOp::Unpack(narrow(count)?, narrow(place)?));
-            code.put_op(alloc, scope, of, args, m, jump)
+            let next = put_items(
+                alloc, code, scope, node, rest, count, later, source, m, norm,
+            )?;
+            let item = TupleItem {
+                node,
+                count: narrow(count)?,
+                place: narrow(place)?,
+            };
+            let inner = item_of(alloc, source, item)?;
+            put_take(alloc, code, scope, part, &inner, m, m, next)
         }
     }
 }

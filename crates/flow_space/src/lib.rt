@@ -8,6 +8,7 @@ mod expression;
 mod narrow;
 mod operation;
 mod places;
+mod source;
 mod statement;
 mod walk;
 mod whole;

@@ -54,44 +54,44 @@ parameters_length (d ∷ defaults) (v ∷ args) vs e = longer v (length defaults
 parameters_length (None ∷ defaults) [] vs e = absurd (cc e)
 parameters_length (Some v ∷ defaults) [] vs e = longer v (length defaults) (parameters defaults []) vs (λ us z. parameters_length defaults [] us z) e
 
-module _ (p : Program) (gs : Graphs) (named_if : Bool) where
+module _ (p : Program) (gs : Graphs) where
   -- where exceptions leave a function
   abbrev pub leaves_by : ℕ → State → Place
   leaves_by r t = place raise_block (take 0 (env t []) ++ Some (Ref r) ∷ [])
 
   -- what is asked of the meaning with fewer steps than `top`
   pub record Good (sem : Sem) (top : ℕ) : Type 0 where
-    pub body : (f n : ℕ) (instead : Option Value) (frs : List Frame) (b : ℕ) (body : Block) (s : State) → HasBlock p gs named_if f n no_try body b n (outside n) → Fit top n s
-        → Runs p gs named_if f instead frs (enter p gs named_if f instead frs (place b (env s [])) s.world) [] s (flow_place (outside n) []) leaves_by Any (sem (Body body) s)
+    pub body : (f n : ℕ) (instead : Option Value) (frs : List Frame) (b : ℕ) (body : Block) (s : State) → HasBlock p gs f n no_try body b n (outside n) → Fit top n s
+        → Runs p gs f instead frs (enter p gs f instead frs (place b (env s [])) s.world) [] s (flow_place (outside n) []) leaves_by Any (sem (Body body) s)
     pub loop : (f n : ℕ) (instead : Option Value) (frs : List Frame) (m : ℕ) (sc : Scope) (held : List Value) (R : ℕ → State → Place) (b : ℕ) (t : Ways) (e : Expr) (body : Block) (s : State)
-        → WhileAt p gs named_if f n sc (HasTest p gs named_if f n sc e) (HasBlock p gs named_if f n sc body) b m t → Catches p gs named_if n m sc held R → Keeps t m → Fit top n s
-        → Runs p gs named_if f instead frs (enter p gs named_if f instead frs (place b (env s held)) s.world) held s (flow_place t held) R Any (sem (Loop sc.covers e body) s)
+        → WhileAt p gs f n sc (HasTest p gs f n sc e) (HasBlock p gs f n sc body) b m t → Catches p gs n m sc held R → Keeps t m → Fit top n s
+        → Runs p gs f instead frs (enter p gs f instead frs (place b (env s held)) s.world) held s (flow_place t held) R Any (sem (Loop sc.covers e body) s)
     pub turns : (f n : ℕ) (instead : Option Value) (frs : List Frame) (m : ℕ) (sc : Scope) (held : List Value) (R : ℕ → State → Place) (b : ℕ) (t : Ways) (target : Target) (body : Block) (walking : Walking) (s : State)
-        → ForAt p gs named_if f n sc walking.step (HasBind p gs named_if f n sc target) (HasBlock p gs named_if f n sc body) b m t → Catches p gs named_if n m sc held R → Keeps t m → Fit top n s
-        → Runs p gs named_if f instead frs (enter p gs named_if f instead frs (place b (env s (held ++ walk_holds walking))) s.world) held s (flow_place t held) R Any (sem (Turns sc.covers target body walking) s)
+        → ForAt p gs f n sc walking.step (HasBind p gs f n sc target []) (HasBlock p gs f n sc body) b m t → Catches p gs n m sc held R → Keeps t m → Fit top n s
+        → Runs p gs f instead frs (enter p gs f instead frs (place b (env s (held ++ walk_holds walking))) s.world) held s (flow_place t held) R Any (sem (Turns sc.covers target body walking) s)
     pub gather : (f n : ℕ) (instead : Option Value) (frs : List Frame) (m : ℕ) (sc : Scope) (held : List Value) (R : ℕ → State → Place) (b whole : ℕ) (item : Expr) (target : Target) (condition : Condition) (list : Value) (walking : Walking) (s : State)
-        → GathersAt p gs named_if f n sc walking.step (HasExpr p gs named_if f n sc item) (HasBind p gs named_if f n sc target) (HasCondition p gs named_if f n sc condition) b m whole → Catches p gs named_if n m sc held R → Fit top n s
-        → Runs p gs named_if f instead frs (enter p gs named_if f instead frs (place b (env s ((held ++ list ∷ []) ++ walk_holds walking))) s.world) (held ++ list ∷ []) s (flow_place (gathered whole (m + 1)) (held ++ list ∷ [])) R IsOnward (sem (Gather sc.covers item target condition list walking) s)
+        → GathersAt p gs f n sc walking.step (HasExpr p gs f n sc item) (HasBind p gs f n sc target []) (HasCondition p gs f n sc condition) b m whole → Catches p gs n m sc held R → Fit top n s
+        → Runs p gs f instead frs (enter p gs f instead frs (place b (env s ((held ++ list ∷ []) ++ walk_holds walking))) s.world) (held ++ list ∷ []) s (flow_place (gathered whole (m + 1)) (held ++ list ∷ [])) R IsOnward (sem (Gather sc.covers item target condition list walking) s)
 
   -- the function g runs, and these wait
   module _ (frames : List Frame) (g : ℕ) (other : Option Value) where
     abbrev go_in : Place → World → Run → Type 0
-    go_in = enter p gs named_if g other frames
+    go_in = enter p gs g other frames
 
-    module _ (n : ℕ) (is_return : Is p gs named_if g n return_block 1 GiveBack) (is_raise : Is p gs named_if g n raise_block 1 GiveUp) (is_end : Is p gs named_if g n end_block n (Plain row.None (first_and return_block 0 n))) where
-      pub returns_value : (v : Value) (w : World) → Leads p gs named_if (go_in (place return_block (Some v ∷ [])) w) (Ends p gs named_if (Returning (unwrap_or other v) frames w))
+    module _ (n : ℕ) (is_return : Is p gs g n return_block 1 GiveBack) (is_raise : Is p gs g n raise_block 1 GiveUp) (is_end : Is p gs g n end_block n (Plain row.None (first_and return_block 0 n))) where
+      pub returns_value : (v : Value) (w : World) → Leads p gs (go_in (place return_block (Some v ∷ [])) w) (Ends p gs (Returning (unwrap_or other v) frames w))
       returns_value v w =
           let base = is_return.0 in
-          leads_on p gs named_if (enter_block p gs named_if g other frames return_block 1 base is_return.1 is_return.2 GiveBack (Some v ∷ []) w is_return.3 refl)
-          (step_go p gs named_if (At g [] (exit.Return (base + 0)) (named base (Some v ∷ [])) other frames w) (Returning (unwrap_or other v) frames w) (ap (returns other frames w) (look_named base 0 (Some v ∷ []))))
+          leads_on p gs (enter_block p gs g other frames return_block 1 base is_return.1 is_return.2 GiveBack (Some v ∷ []) w is_return.3 refl)
+          (step_go p gs (At g [] (exit.Return (base + 0)) (named base (Some v ∷ [])) other frames w) (Returning (unwrap_or other v) frames w) (ap (returns other frames w) (look_named base 0 (Some v ∷ []))))
 
-      pub raises_value : (r : ℕ) (w : World) → Leads p gs named_if (go_in (place raise_block (Some (Ref r) ∷ [])) w) (Ends p gs named_if (Throwing r frames w))
+      pub raises_value : (r : ℕ) (w : World) → Leads p gs (go_in (place raise_block (Some (Ref r) ∷ [])) w) (Ends p gs (Throwing r frames w))
       raises_value r w =
           let base = is_raise.0 in
-          leads_on p gs named_if (enter_block p gs named_if g other frames raise_block 1 base is_raise.1 is_raise.2 GiveUp (Some (Ref r) ∷ []) w is_raise.3 refl)
-          (step_go p gs named_if (At g [] (exit.Raise (base + 0)) (named base (Some (Ref r) ∷ [])) other frames w) (Throwing r frames w) (ap (raises frames w) (look_named base 0 (Some (Ref r) ∷ []))))
+          leads_on p gs (enter_block p gs g other frames raise_block 1 base is_raise.1 is_raise.2 GiveUp (Some (Ref r) ∷ []) w is_raise.3 refl)
+          (step_go p gs (At g [] (exit.Raise (base + 0)) (named base (Some (Ref r) ∷ [])) other frames w) (Throwing r frames w) (ap (raises frames w) (look_named base 0 (Some (Ref r) ∷ []))))
 
-      ends_none : (e : Env) (w : World) → length e ≡ n → Leads p gs named_if (go_in (place end_block e) w) (Ends p gs named_if (Returning (unwrap_or other Nothing) frames w))
+      ends_none : (e : Env) (w : World) → length e ≡ n → Leads p gs (go_in (place end_block e) w) (Ends p gs (Returning (unwrap_or other Nothing) frames w))
       ends_none e w len =
           let base = is_end.0 in
           let j = first_and return_block 0 n in
@@ -99,30 +99,30 @@ module _ (p : Program) (gs : Graphs) (named_if : Bool) where
           let at1 = At g (o ∷ []) (exit.Goto (link base j)) (named base e) other frames w in
           let at2 = At g [] (exit.Goto (link base j)) (named base e ++ bind (base + n) (Some Nothing) ∷ []) other frames w in
           let pushed : named base e ++ bind (base + n) (Some Nothing) ∷ [] ≡ named base (e ++ Some Nothing ∷ []) = ap (λ k. named base e ++ bind (base + k) (Some Nothing) ∷ []) (sym len) ∙ sym (named_push base e (Some Nothing)) in
-          leads_on p gs named_if (enter_block p gs named_if g other frames end_block n base is_end.1 is_end.2 (Plain row.None j) e w is_end.3 len)
-          (leads_on p gs named_if (step_go p gs named_if at1 at2 refl)
-          (leads_on p gs named_if (jump_to p gs named_if g other frames at2 base (e ++ Some Nothing ∷ []) j w (ap (λ c. jump gs g frames w other c (link base j)) pushed))
-          (leads_on p gs named_if (same_place p gs named_if g other frames _ (place return_block (Some Nothing ∷ [])) w (ap (λ v. place return_block (v ∷ [])) (get_at n e (Some Nothing) [] len)))
+          leads_on p gs (enter_block p gs g other frames end_block n base is_end.1 is_end.2 (Plain row.None j) e w is_end.3 len)
+          (leads_on p gs (step_go p gs at1 at2 refl)
+          (leads_on p gs (jump_to p gs g other frames at2 base (e ++ Some Nothing ∷ []) j w (ap (λ c. jump gs g frames w other c (link base j)) pushed))
+          (leads_on p gs (same_place p gs g other frames _ (place return_block (Some Nothing ∷ [])) w (ap (λ v. place return_block (v ∷ [])) (get_at n e (Some Nothing) [] len)))
           (returns_value Nothing w))))
 
-      pub left_at : (flow : Flow) (t : State) → length t.locals ≡ n → Leads p gs named_if (go_in (flow_place (outside n) [] flow t) t.world) (Ends p gs named_if (Returning (unwrap_or other (result_of flow)) frames t.world))
+      pub left_at : (flow : Flow) (t : State) → length t.locals ≡ n → Leads p gs (go_in (flow_place (outside n) [] flow t) t.world) (Ends p gs (Returning (unwrap_or other (result_of flow)) frames t.world))
       left_at Onward t len = ends_none (env t []) t.world (ap length (append-nil t.locals) ∙ len)
       left_at Broken t len =
-          leads_on p gs named_if (same_place p gs named_if g other frames (place end_block (take n (env t []))) (place end_block t.locals) t.world (ap (place end_block) (take_first n t.locals [] len)))
+          leads_on p gs (same_place p gs g other frames (place end_block (take n (env t []))) (place end_block t.locals) t.world (ap (place end_block) (take_first n t.locals [] len)))
           (ends_none t.locals t.world len)
       left_at Continued t len =
-          leads_on p gs named_if (same_place p gs named_if g other frames (place end_block (take n (env t []))) (place end_block t.locals) t.world (ap (place end_block) (take_first n t.locals [] len)))
+          leads_on p gs (same_place p gs g other frames (place end_block (take n (env t []))) (place end_block t.locals) t.world (ap (place end_block) (take_first n t.locals [] len)))
           (ends_none t.locals t.world len)
       left_at (Returned v) t len = returns_value v t.world
 
   -- The function g is called, is entered, runs and is left. Q says of an ending what is asked.
   module _ (frames : List Frame) (g : ℕ) (args : List Value) (other : Option Value) (s0 : State) (prev : Sem) (top : ℕ) (good : Good prev top) (Q : World → (Run → Type 0) → Ending Value → Type 0)
-      (wrong_so : (at : Spot) (w : World) → Ends p gs named_if at (wrong_run p gs named_if) → Q w (Ends p gs named_if at) Wrong)
-      (stops_so : (at : Spot) (w : World) → roots at ≡ roots (Calling g args other frames w) → Ends p gs named_if at (over (Some outcome.Running) (roots at) (record s0 { world = w })) → Q w (Ends p gs named_if at) (Running args (record s0 { world = w })))
-      (leaves_so : (at : Spot) (w : World) (s1 : State) (n : ℕ) (is_return : Is p gs named_if g n return_block 1 GiveBack) (is_raise : Is p gs named_if g n raise_block 1 GiveUp) (is_end : Is p gs named_if g n end_block n (Plain row.None (first_and return_block 0 n))) (e : Ending Flow) → Later w s1.world → length s1.locals ≡ n
-      → Sim p gs named_if g other frames (Ends p gs named_if at) [] s1 (flow_place (outside n) []) leaves_by Any e → Q w (Ends p gs named_if at) (leaving s0.locals args other e)) where
+      (wrong_so : (at : Spot) (w : World) → Ends p gs at (wrong_run p gs) → Q w (Ends p gs at) Wrong)
+      (stops_so : (at : Spot) (w : World) → roots at ≡ roots (Calling g args other frames w) → Ends p gs at (over (Some outcome.Running) (roots at) (record s0 { world = w })) → Q w (Ends p gs at) (Running args (record s0 { world = w })))
+      (leaves_so : (at : Spot) (w : World) (s1 : State) (n : ℕ) (is_return : Is p gs g n return_block 1 GiveBack) (is_raise : Is p gs g n raise_block 1 GiveUp) (is_end : Is p gs g n end_block n (Plain row.None (first_and return_block 0 n))) (e : Ending Flow) → Later w s1.world → length s1.locals ≡ n
+      → Sim p gs g other frames (Ends p gs at) [] s1 (flow_place (outside n) []) leaves_by Any e → Q w (Ends p gs at) (leaving s0.locals args other e)) where
     abbrev inside_of : Place → World → Run → Type 0
-    inside_of = enter p gs named_if g other frames
+    inside_of = enter p gs g other frames
 
     abbrev spent : World → World
     spent w = record w { left = w.left - 1 }
@@ -131,20 +131,20 @@ module _ (p : Program) (gs : Graphs) (named_if : Bool) where
     inside fn us w = record s0 { world = w; locals = locals_of p unwatched prev fn us }
 
     begins_to : (at : Spot) (fn : Function) (us : List Value) (w : World) (b : graph.Block) → step p gs at ≡ Goes (At g b.ops b.exit (taken b.inputs us) other frames w) → block_in (slice_get gs.graphs g) 0 ≡ Some b
-        → Leads p gs named_if (Ends p gs named_if at) (inside_of (place head_block (env (inside fn us w) [])) w)
+        → Leads p gs (Ends p gs at) (inside_of (place head_block (env (inside fn us w) [])) w)
     begins_to at fn us w b e is =
         let ls = map Some us ++ replicate (fn.locals - length us) None in
         let same : taken b.inputs us ≡ bound b.inputs (ls ++ []) = taken_is b.inputs us ∙ sym (bound_short b.inputs (map Some us) (fn.locals - length us)) ∙ ap (bound b.inputs) (sym (append-nil ls)) in
         record {
           by = λ q r.
-              (step_go p gs named_if at (At g b.ops b.exit (taken b.inputs us) other frames w) e).by q
-              (subst (λ c. Ends p gs named_if (At g b.ops b.exit c other frames w) q) (sym same)
-              (subst (λ ob. block_point p gs named_if g other frames ob (ls ++ []) w q) is r));
+              (step_go p gs at (At g b.ops b.exit (taken b.inputs us) other frames w) e).by q
+              (subst (λ c. Ends p gs (At g b.ops b.exit c other frames w) q) (sym same)
+              (subst (λ ob. block_point p gs g other frames ob (ls ++ []) w q) is r));
         }
 
-    runs_body : (at : Spot) (fn : Function) (us : List Value) (w : World) → HasFunction p gs named_if g fn → length us ≤ fn.locals → 1 ≤ w.left → w.left < suc top → Sound w.heap
+    runs_body : (at : Spot) (fn : Function) (us : List Value) (w : World) → HasFunction p gs g fn → length us ≤ fn.locals → 1 ≤ w.left → w.left < suc top → Sound w.heap
         → step p gs at ≡ begun g us other frames (spent w) (block_in (slice_get gs.graphs g) 0)
-        → Q w (Ends p gs named_if at) (leaving s0.locals args other (prev (Body fn.body) (inside fn us (spent w))))
+        → Q w (Ends p gs at) (leaving s0.locals args other (prev (Body fn.body) (inside fn us (spent w))))
     runs_body at fn us w has le some low sound e =
         let n = fn.locals in
         let is_head = has.2 in
@@ -153,12 +153,12 @@ module _ (p : Program) (gs : Graphs) (named_if : Bool) where
         let long : length s1.locals ≡ n = omega (arith, length-append (map Some us) (replicate (n - length us) None), length-map us Some, length-replicate {A = Option Value} (n - length us) None, le) in
         let wide : length (env s1 []) ≡ n = ap length (append-nil s1.locals) ∙ long in
         let l1 = begins_to at fn us (spent w) b (e ∙ ap (begun g us other frames (spent w)) is_head.3) is_head.3 in
-        let l2 = enter_block p gs named_if g other frames head_block n is_head.0 is_head.1 is_head.2 (Go (first has.0 n)) (env s1 []) (spent w) is_head.3 wide in
-        let l3 = jump_to p gs named_if g other frames (At g [] b.exit (named is_head.0 (env s1 [])) other frames (spent w)) is_head.0 (env s1 []) (first has.0 n) (spent w) refl in
+        let l2 = enter_block p gs g other frames head_block n is_head.0 is_head.1 is_head.2 (Go (first has.0 n)) (env s1 []) (spent w) is_head.3 wide in
+        let l3 = jump_to p gs g other frames (At g [] b.exit (named is_head.0 (env s1 [])) other frames (spent w)) is_head.0 (env s1 []) (first has.0 n) (spent w) refl in
         let pf : pick (env s1 []) (range 0 n) ≡ env s1 [] = pick_first n s1.locals [] long ∙ sym (append-nil s1.locals) in
-        let l4 = same_place p gs named_if g other frames (place has.0 (pick (env s1 []) (range 0 n))) (place has.0 (env s1 [])) (spent w) (ap (place has.0) pf) in
+        let l4 = same_place p gs g other frames (place has.0 (pick (env s1 []) (range 0 n))) (place has.0 (env s1 [])) (spent w) (ap (place has.0) pf) in
         let fit : Fit top n s1 = record { low = omega (arith, some, low); long = long; sound = sound } in
-        let r = moved p gs named_if g other frames (leads_on p gs named_if l1 (leads_on p gs named_if l2 (leads_on p gs named_if l3 l4))) (good.body g n other frames has.0 fn.body s1 has.7 fit) in
+        let r = moved p gs g other frames (leads_on p gs l1 (leads_on p gs l2 (leads_on p gs l3 l4))) (good.body g n other frames has.0 fn.body s1 has.7 fit) in
         let later : Later w (spent w) = record { left = omega arith; kinds = λ r c e. e } in
         leaves_so at w s1 n has.3 has.4 has.6 (prev (Body fn.body) s1) later long r.sim
 
@@ -167,61 +167,61 @@ module _ (p : Program) (gs : Graphs) (named_if : Bool) where
     paid_by b fn us w =
         then_go (if b then Running args (record s0 { world = w }) else Done tt (record s0 { world = spent w })) (λ (u : Unit {0}) s. leaving s.locals args other (prev (Body fn.body) (record s { locals = locals_of p unwatched prev fn us })))
 
-    pays_sim : (at : Spot) (fn : Function) (us : List Value) (w : World) (b : Bool) → HasFunction p gs named_if g fn → length us ≤ fn.locals → w.left < suc top → Sound w.heap → nat_lt w.left 1 ≡ b
+    pays_sim : (at : Spot) (fn : Function) (us : List Value) (w : World) (b : Bool) → HasFunction p gs g fn → length us ≤ fn.locals → w.left < suc top → Sound w.heap → nat_lt w.left 1 ≡ b
         → roots at ≡ roots (Calling g args other frames w)
         → step p gs at ≡ cond b (Stops w) (begun g us other frames (spent w) (block_in (slice_get gs.graphs g) 0))
-        → Q w (Ends p gs named_if at) (paid_by b fn us w)
-    pays_sim at fn us w true has le low sound z rs e = stops_so at w rs (step_stops p gs named_if at w e)
+        → Q w (Ends p gs at) (paid_by b fn us w)
+    pays_sim at fn us w true has le low sound z rs e = stops_so at w rs (step_stops p gs at w e)
     pays_sim at fn us w false has le low sound z rs e = runs_body at fn us w has le (ltb-false w.left 1 z) low sound e
 
-    given_sim : (at : Spot) (fn : Function) (w : World) (o : Option (List Value)) → parameters fn.defaults args ≡ o → HasFunction p gs named_if g fn → w.left < suc top → Sound w.heap
+    given_sim : (at : Spot) (fn : Function) (w : World) (o : Option (List Value)) → parameters fn.defaults args ≡ o → HasFunction p gs g fn → w.left < suc top → Sound w.heap
         → roots at ≡ roots (Calling g args other frames w)
         → step p gs at ≡ given gs g other frames w o
-        → Q w (Ends p gs named_if at) (entering p unwatched prev fn args other o (record s0 { world = w }))
-    given_sim at fn w None z has low sound rs e = wrong_so at w (step_strays p gs named_if at e)
+        → Q w (Ends p gs at) (entering p unwatched prev fn args other o (record s0 { world = w }))
+    given_sim at fn w None z has low sound rs e = wrong_so at w (step_strays p gs at e)
     given_sim at fn w (Some us) z has low sound rs e =
         let long = parameters_length fn.defaults args us z in
         let few = has.1 in
         let le : length us ≤ fn.locals = omega (arith, long, few) in
         pays_sim at fn us w (nat_lt w.left 1) has le low sound refl rs e
 
-    takes_sim : (at : Spot) (fn : Function) (w : World) (b : Bool) → HasFunction p gs named_if g fn → w.left < suc top → Sound w.heap
+    takes_sim : (at : Spot) (fn : Function) (w : World) (b : Bool) → HasFunction p gs g fn → w.left < suc top → Sound w.heap
         → roots at ≡ roots (Calling g args other frames w)
         → step p gs at ≡ cond b Strays (given gs g other frames w (parameters fn.defaults args))
-        → Q w (Ends p gs named_if at) ((if b then wrong else entering p unwatched prev fn args other (parameters fn.defaults args)) (record s0 { world = w }))
-    takes_sim at fn w true has low sound rs e = wrong_so at w (step_strays p gs named_if at e)
+        → Q w (Ends p gs at) ((if b then wrong else entering p unwatched prev fn args other (parameters fn.defaults args)) (record s0 { world = w }))
+    takes_sim at fn w true has low sound rs e = wrong_so at w (step_strays p gs at e)
     takes_sim at fn w false has low sound rs e = given_sim at fn w (parameters fn.defaults args) refl has low sound rs e
 
-    pub called_any : (at : Spot) (w : World) (of : Option Function) → IfFunction p gs named_if g of → w.left < suc top → Sound w.heap
+    pub called_any : (at : Spot) (w : World) (of : Option Function) → IfFunction p gs g of → w.left < suc top → Sound w.heap
         → roots at ≡ roots (Calling g args other frames w)
         → step p gs at ≡ entered gs g args other frames w of
-        → Q w (Ends p gs named_if at) (called p unwatched prev of args other (record s0 { world = w }))
-    called_any at w None has low sound rs e = wrong_so at w (step_strays p gs named_if at e)
+        → Q w (Ends p gs at) (called p unwatched prev of args other (record s0 { world = w }))
+    called_any at w None has low sound rs e = wrong_so at w (step_strays p gs at e)
     called_any at w (Some fn) has low sound rs e = takes_sim at fn w fn.takes_more has low sound rs e
 
   -- the function g was called: who waits goes on with what D and R say
   module _ (f : ℕ) (instead : Option Value) (frs : List Frame) (frame : Frame) (held vs : List Value) (s0 : State) (D : Value → State → Place) (R : ℕ → State → Place) (X : Value → State → Type 0)
-      (given_back : (v : Value) (w : World) (k : ℕ) → Leads p gs named_if (Ends p gs named_if (Returning v (frame ∷ frs) w)) (enter p gs named_if f instead frs (D v (record s0 { world = w; moments = k })) w))
-      (thrown_back : (r : ℕ) (w : World) (k : ℕ) → Leads p gs named_if (Ends p gs named_if (Throwing r (frame ∷ frs) w)) (enter p gs named_if f instead frs (R r (record s0 { world = w; moments = k })) w))
+      (given_back : (v : Value) (w : World) (k : ℕ) → Leads p gs (Ends p gs (Returning v (frame ∷ frs) w)) (enter p gs f instead frs (D v (record s0 { world = w; moments = k })) w))
+      (thrown_back : (r : ℕ) (w : World) (k : ℕ) → Leads p gs (Ends p gs (Throwing r (frame ∷ frs) w)) (enter p gs f instead frs (R r (record s0 { world = w; moments = k })) w))
       (posts : (v : Value) (w : World) (k : ℕ) → X v (record s0 { world = w; moments = k }))
       (used : (wt : Weight) → total wt.of (waiting_roots (frame ∷ frs)) ≤ total wt.of (values_of s0.locals) + total wt.of held + total wt.of vs + total wt.of (and_some instead (waiting_roots frs))) where
     module _ (g : ℕ) (args : List Value) (other : Option Value) (passes : Passes vs args other) where
       used_all : (wt : Weight) → total wt.of (and_some other (waiting_roots (frame ∷ frs))) ≤ total wt.of args + total wt.of (values_of s0.locals) + total wt.of held + total wt.of (and_some instead (waiting_roots frs))
       used_all wt = omega (arith, total_some wt.of other (waiting_roots (frame ∷ frs)), used wt, passes wt)
 
-      module _ (n : ℕ) (is_return : Is p gs named_if g n return_block 1 GiveBack) (is_raise : Is p gs named_if g n raise_block 1 GiveUp) (is_end : Is p gs named_if g n end_block n (Plain row.None (first_and return_block 0 n))) where
+      module _ (n : ℕ) (is_return : Is p gs g n return_block 1 GiveBack) (is_raise : Is p gs g n raise_block 1 GiveUp) (is_end : Is p gs g n end_block n (Plain row.None (first_and return_block 0 n))) where
         -- the body was left
-        leaves_sim : (P : Run → Type 0) (w : World) (s1 : State) (e : Ending Flow) → Later w s1.world → length s1.locals ≡ n → Sim p gs named_if g other (frame ∷ frs) P [] s1 (flow_place (outside n) []) leaves_by Any e
-            → Sim p gs named_if f instead frs P held (record s0 { world = w }) D R X (leaving s0.locals args other e)
+        leaves_sim : (P : Run → Type 0) (w : World) (s1 : State) (e : Ending Flow) → Later w s1.world → length s1.locals ≡ n → Sim p gs g other (frame ∷ frs) P [] s1 (flow_place (outside n) []) leaves_by Any e
+            → Sim p gs f instead frs P held (record s0 { world = w }) D R X (leaving s0.locals args other e)
         leaves_sim P w s1 (Done flow t) later long r =
             record {
-              leads = leads_on p gs named_if r.leads (leads_on p gs named_if (left_at (frame ∷ frs) g other n is_return is_raise is_end flow t (r.after.long ∙ long)) (given_back (unwrap_or other (result_of flow)) t.world t.moments));
+              leads = leads_on p gs r.leads (leads_on p gs (left_at (frame ∷ frs) g other n is_return is_raise is_end flow t (r.after.long ∙ long)) (given_back (unwrap_or other (result_of flow)) t.world t.moments));
               after = record { later = later_on later r.after.later; long = refl; bound = λ i b. b };
               post = posts (unwrap_or other (result_of flow)) t.world t.moments;
             }
         leaves_sim P w s1 (Raised x t) later long r =
             record {
-              leads = leads_on p gs named_if r.leads (leads_on p gs named_if (raises_value (frame ∷ frs) g other n is_return is_raise is_end x t.world) (thrown_back x t.world t.moments));
+              leads = leads_on p gs r.leads (leads_on p gs (raises_value (frame ∷ frs) g other n is_return is_raise is_end x t.world) (thrown_back x t.world t.moments));
               after = record { later = later_on later r.after.later; long = refl; bound = λ i b. b };
               post = r.post;
             }
@@ -230,17 +230,17 @@ module _ (p : Program) (gs : Graphs) (named_if : Bool) where
             record {
               used = r.used;
               ends = r.ends;
-              more = λ z wt. omega (arith, r.more z wt, used_all wt, total_append wt.of (rs ++ values_of t.locals) args, total_append wt.of rs (values_of t.locals));
+              more = λ wt. omega (arith, r.more wt, used_all wt, total_append wt.of (rs ++ values_of t.locals) args, total_append wt.of rs (values_of t.locals));
             }
         leaves_sim P w s1 Wrong later long r = r
 
-      pub called_sim : (prev : Sem) (top : ℕ) (good : Good prev top) (at : Spot) (w : World) (of : Option Function) → IfFunction p gs named_if g of → w.left < suc top → Sound w.heap
+      pub called_sim : (prev : Sem) (top : ℕ) (good : Good prev top) (at : Spot) (w : World) (of : Option Function) → IfFunction p gs g of → w.left < suc top → Sound w.heap
           → roots at ≡ and_some other (waiting_roots (frame ∷ frs))
           → step p gs at ≡ entered gs g args other (frame ∷ frs) w of
-          → Runs p gs named_if f instead frs (Ends p gs named_if at) held (record s0 { world = w }) D R X (called p unwatched prev of args other (record s0 { world = w }))
+          → Runs p gs f instead frs (Ends p gs at) held (record s0 { world = w }) D R X (called p unwatched prev of args other (record s0 { world = w }))
       called_sim prev top good at w of has low sound rs e =
-          called_any (frame ∷ frs) g args other s0 prev top good (λ w P e. Runs p gs named_if f instead frs P held (record s0 { world = w }) D R X e)
+          called_any (frame ∷ frs) g args other s0 prev top good (λ w P e. Runs p gs f instead frs P held (record s0 { world = w }) D R X e)
           (λ at w x. record { sim = x })
-          (λ at w same x. record { sim = record { used = roots at; ends = x; more = λ y wt. let z = ap (total wt.of) same in omega (arith, z, used_all wt) } })
-          (λ at w s1 n is_return is_raise is_end e later long x. record { sim = leaves_sim n is_return is_raise is_end (Ends p gs named_if at) w s1 e later long x })
+          (λ at w same x. record { sim = record { used = roots at; ends = x; more = λ wt. let z = ap (total wt.of) same in omega (arith, z, used_all wt) } })
+          (λ at w s1 n is_return is_raise is_end e later long x. record { sim = leaves_sim n is_return is_raise is_end (Ends p gs at) w s1 e later long x })
           at w of has low sound rs e

@@ -77,7 +77,7 @@ abbrev pub Below : ℕ → List Hand → Type 0
 Below m [] = Unit {0}
 Below m (hand ∷ hands) = (hand.aim.keep ≤ m) × Below m hands
 
-module _ (p : Program) (gs : Graphs) (named_if : Bool) where
+module _ (p : Program) (gs : Graphs) where
   abbrev pub hand_place : List Hand → Aim → Env → ℕ → ℕ → Place
   hand_place [] default vs r class = place default.to (take default.keep vs ++ Some (Ref r) ∷ [])
   hand_place (hand ∷ hands) default vs r class =
@@ -173,7 +173,7 @@ module _ (p : Program) (gs : Graphs) (named_if : Bool) where
     pub record Holds (P : Run → Type 0) (held rs : List Value) (t : State) : Type 0 where
       pub used : List Value
       pub ends : P (over (Some outcome.Running) used t)
-      pub more : named_if ≡ true → (wt : Weight) → total wt.of used ≤ total wt.of rs + total wt.of (values_of t.locals) + total wt.of held + total wt.of (and_some instead (waiting_roots frs))
+      pub more : (wt : Weight) → total wt.of used ≤ total wt.of rs + total wt.of (values_of t.locals) + total wt.of held + total wt.of (and_some instead (waiting_roots frs))
 
     -- From P, the machine does what the ending says. A result leads to the place D, an exception to R.
     abbrev pub Sim : {A : Type 0} → (Run → Type 0) → List Value → State → (A → State → Place) → (ℕ → State → Place) → (A → State → Type 0) → Ending A → Type 0
@@ -245,21 +245,21 @@ module _ (p : Program) (gs : Graphs) (named_if : Bool) where
     hold_sim P held vs s D R X (Raised x t) r = r
     hold_sim P held vs s D R X (Failed name t) r = r
     hold_sim P held vs s D R X (Running rs t) r =
-        record { used = r.used; ends = r.ends; more = λ n wt. omega (arith, r.more n wt, total_append wt.of held vs, total_append wt.of rs vs) }
+        record { used = r.used; ends = r.ends; more = λ wt. omega (arith, r.more wt, total_append wt.of held vs, total_append wt.of rs vs) }
     hold_sim P held vs s D R X Wrong r = r
 
     pub hold : {A : Type 0} {P : Run → Type 0} {held : List Value} {s : State} {D : A → State → Place} {R : ℕ → State → Place} {X : A → State → Type 0} {e : Ending A} (vs : List Value) → Runs P (held ++ vs) s D R X e → Runs P held s D R X (add_held vs e)
     hold {A} {P} {held} {s} {D} {R} {X} {e} vs r = record { sim = hold_sim P held vs s D R X e r.sim }
 
     -- a part that never runs on holds nothing
-    loosen_sim : {A : Type 0} (P : Run → Type 0) (held less : List Value) (s : State) (D : A → State → Place) (R : ℕ → State → Place) (X : A → State → Type 0) (e : Ending A) → (named_if ≡ true → Quiet e) → Sim P held s D R X e → Sim P less s D R X e
+    loosen_sim : {A : Type 0} (P : Run → Type 0) (held less : List Value) (s : State) (D : A → State → Place) (R : ℕ → State → Place) (X : A → State → Type 0) (e : Ending A) → Quiet e → Sim P held s D R X e → Sim P less s D R X e
     loosen_sim P held less s D R X (Done a t) q r = r
     loosen_sim P held less s D R X (Raised x t) q r = r
     loosen_sim P held less s D R X (Failed name t) q r = r
-    loosen_sim P held less s D R X (Running rs t) q r = record { used = r.used; ends = r.ends; more = λ z wt. absurd (q z) }
+    loosen_sim P held less s D R X (Running rs t) q r = record { used = r.used; ends = r.ends; more = λ wt. absurd q }
     loosen_sim P held less s D R X Wrong q r = r
 
-    pub loosen : {A : Type 0} {P : Run → Type 0} {held : List Value} {s : State} {D : A → State → Place} {R : ℕ → State → Place} {X : A → State → Type 0} {e : Ending A} (less : List Value) → (named_if ≡ true → Quiet e) → Runs P held s D R X e → Runs P less s D R X e
+    pub loosen : {A : Type 0} {P : Run → Type 0} {held : List Value} {s : State} {D : A → State → Place} {R : ℕ → State → Place} {X : A → State → Type 0} {e : Ending A} (less : List Value) → Quiet e → Runs P held s D R X e → Runs P less s D R X e
     loosen {A} {P} {held} {s} {D} {R} {X} {e} less q r = record { sim = loosen_sim P held less s D R X e q r.sim }
 
     pub reheld : {A : Type 0} {P : Run → Type 0} {held : List Value} {s : State} {D : A → State → Place} {R : ℕ → State → Place} {X : A → State → Type 0} {e : Ending A} (other : List Value) → held ≡ other → Runs P held s D R X e → Runs P other s D R X e

@@ -8,7 +8,7 @@ pub mod Parts
 pub mod Tests
 pub mod Walks
 pub mod Forms
-pub mod Binds
+pub mod Taken
 pub mod Trees
 pub mod Stmts
 pub mod Top

@@ -111,15 +111,15 @@ assoc (Failed name s) f g = refl
 assoc (Running rs s) f g = refl
 assoc Wrong f g = refl
 
-module _ (p : Program) (gs : Graphs) (named_if : Bool) where
+module _ (p : Program) (gs : Graphs) where
   pub take_less : (n : ℕ) (t : State) (held vs : List Value) (k m : ℕ) → length t.locals ≡ n → n + length held ≡ m → k ≤ m → take k (env t (held ++ vs)) ≡ take k (env t held)
   take_less n t held vs k m long at le =
       ap (take k) (env_push t held vs) ∙ take-append-le k (env t held) (map Some vs) (omega (arith, wide n t long held, at, le))
 
-  hand_less : (hands : List Hand) (d : Aim) (a b : Env) (r c m : ℕ) → ((k : ℕ) → k ≤ m → take k a ≡ take k b) → d.keep ≤ m → Below m hands → hand_place p gs named_if hands d a r c ≡ hand_place p gs named_if hands d b r c
+  hand_less : (hands : List Hand) (d : Aim) (a b : Env) (r c m : ℕ) → ((k : ℕ) → k ≤ m → take k a ≡ take k b) → d.keep ≤ m → Below m hands → hand_place p gs hands d a r c ≡ hand_place p gs hands d b r c
   hand_less [] d a b r c m same le below = ap (λ l. place d.to (l ++ Some (Ref r) ∷ [])) (same d.keep le)
   hand_less (h ∷ hands) d a b r c m same le below =
-      ap (λ l. cond (is_below p.classes c h.class) (place h.aim.to (stored_value l h.local r)) (hand_place p gs named_if hands d a r c)) (same h.aim.keep below.0)
+      ap (λ l. cond (is_below p.classes c h.class) (place h.aim.to (stored_value l h.local r)) (hand_place p gs hands d a r c)) (same h.aim.keep below.0)
       ∙ ap (cond (is_below p.classes c h.class) (place h.aim.to (stored_value (take h.aim.keep b) h.local r))) (hand_less hands d a b r c m same le below.1)
 
   pub below_more : (hands : List Hand) (m k : ℕ) → m ≤ k → Below m hands → Below k hands
@@ -127,7 +127,7 @@ module _ (p : Program) (gs : Graphs) (named_if : Bool) where
   below_more (x ∷ hands) m k le h = (omega (arith, le, h.0), below_more hands m k le h.1)
 
   -- what is held besides is dropped on the way to a handler
-  pub catches_more : {n m : ℕ} {sc : Scope} {held : List Value} {R : ℕ → State → Place} (vs : List Value) (k : ℕ) → m + length vs ≡ k → Catches p gs named_if n m sc held R → Catches p gs named_if n k sc (held ++ vs) R
+  pub catches_more : {n m : ℕ} {sc : Scope} {held : List Value} {R : ℕ → State → Place} (vs : List Value) (k : ℕ) → m + length vs ≡ k → Catches p gs n m sc held R → Catches p gs n k sc (held ++ vs) R
   catches_more {n} {m} {sc} {held} {R} vs k at c = record {
     all = omega (arith, c.all, length-append held vs, at);
     default = omega (arith, c.default, at);
@@ -156,32 +156,32 @@ Reading e a t = (i : ℕ) → Reads e i → IsBound t.locals i
 abbrev pub ReadBy : Expr → Value → State → Type 0
 ReadBy e v t = (i : ℕ) → Reads e i → IsBound t.locals i
 
-module _ (p : Program) (gs : Graphs) (named_if : Bool) (builtins : (k : ℕ) → k < builtin_classes → is_below p.classes k 0 ≡ true) (stand : Stand p gs named_if) (prev : Sem) (top : ℕ) (good : Good p gs named_if prev top) (f n : ℕ) (instead : Option Value) (frs : List Frame) where
+module _ (p : Program) (gs : Graphs) (builtins : (k : ℕ) → k < builtin_classes → is_below p.classes k 0 ≡ true) (stand : Stand p gs) (prev : Sem) (top : ℕ) (good : Good p gs prev top) (f n : ℕ) (instead : Option Value) (frs : List Frame) where
   abbrev pub Follow : {A : Type 0} → (Run → Type 0) → List Value → State → (A → State → Place) → (ℕ → State → Place) → (A → State → Type 0) → Ending A → Type 0
-  Follow P held s D R X e = Runs p gs named_if f instead frs P held s D R X e
+  Follow P held s D R X e = Runs p gs f instead frs P held s D R X e
 
   abbrev pub go_in : Place → World → Run → Type 0
-  go_in = enter p gs named_if f instead frs
+  go_in = enter p gs f instead frs
 
   abbrev pub To : (Run → Type 0) → (Run → Type 0) → Type 0
-  To P Q = Leads p gs named_if P Q
+  To P Q = Leads p gs P Q
 
   abbrev pub Holding : ℕ → Scope → List Value → (ℕ → State → Place) → Type 0
-  Holding m sc held R = Catches p gs named_if n m sc held R
+  Holding m sc held R = Catches p gs n m sc held R
 
   pub same_as : (at to : Place) (w : World) → at ≡ to → To (go_in at w) (go_in to w)
-  same_as at to w e = same_place p gs named_if f instead frs at to w e
+  same_as at to w e = same_place p gs f instead frs at to w e
 
   -- a block that goes on at once
-  pub jumps : (b m : ℕ) (j : Jump) (W : List Value) (s : State) (vs : Env) → Is p gs named_if f n b m (Go j) → length (env s W) ≡ m → pick (env s W) j.places ≡ vs → To (go_in (place b (env s W)) s.world) (go_in (place j.to vs) s.world)
+  pub jumps : (b m : ℕ) (j : Jump) (W : List Value) (s : State) (vs : Env) → Is p gs f n b m (Go j) → length (env s W) ≡ m → pick (env s W) j.places ≡ vs → To (go_in (place b (env s W)) s.world) (go_in (place j.to vs) s.world)
   jumps b m j W s vs is len e =
-      leads_on p gs named_if (enter_block p gs named_if f instead frs b m is.0 is.1 is.2 (Go j) (env s W) s.world is.3 len)
-      (leads_on p gs named_if (jump_to p gs named_if f instead frs (At f [] (exit.Goto (link is.0 j)) (named is.0 (env s W)) instead frs s.world) is.0 (env s W) j s.world refl)
+      leads_on p gs (enter_block p gs f instead frs b m is.0 is.1 is.2 (Go j) (env s W) s.world is.3 len)
+      (leads_on p gs (jump_to p gs f instead frs (At f [] (exit.Goto (link is.0 j)) (named is.0 (env s W)) instead frs s.world) is.0 (env s W) j s.world refl)
       (same_as (place j.to (pick (env s W) j.places)) (place j.to vs) s.world (ap (place j.to) e)))
 
   module _ (m : ℕ) (sc : Scope) (held : List Value) (R : ℕ → State → Place) (c : Holding m sc held R) (s : State) (fit : Fit (suc top) n s) where
     -- a block of an operation, with more variables
-    module _ (W xs : List Value) (are : W ≡ held ++ xs) (b q : ℕ) (o : RowOp) (args : List ℕ) (norm : Jump) (vs : List Value) (is : Acts p gs named_if f n sc b o args q norm) (at_q : m + length xs ≡ q) (picked : pick (env s W) args ≡ map Some vs) where
+    module _ (W xs : List Value) (are : W ≡ held ++ xs) (b q : ℕ) (o : RowOp) (args : List ℕ) (norm : Jump) (vs : List Value) (is : Acts p gs f n sc b o args q norm) (at_q : m + length xs ≡ q) (picked : pick (env s W) args ≡ map Some vs) where
       vars_is : env s W ≡ env s held ++ map Some xs
       vars_is = ap (env s) are ∙ env_push s held xs
 
@@ -191,10 +191,10 @@ module _ (p : Program) (gs : Graphs) (named_if : Bool) (builtins : (k : ℕ) →
       picked' : pick (env s held ++ map Some xs) args ≡ map Some vs
       picked' = ap (λ l. pick l args) (sym vars_is) ∙ picked
 
-      entered_block : To (go_in (place b (env s W)) s.world) (Ends p gs named_if (At f (act is.0 q is.1 is.2 o args sc.covers ∷ []) (exit.OnRaise (is.0 + q) (links is.0 (hand_jumps q sc.hands)) (Some (link is.0 (first_and sc.default.to sc.default.keep q))) (link is.0 norm)) (named is.0 (env s held ++ map Some xs)) instead frs s.world))
+      entered_block : To (go_in (place b (env s W)) s.world) (Ends p gs (At f (act is.0 q is.1 is.2 o args sc.covers ∷ []) (exit.OnRaise (is.0 + q) (links is.0 (hand_jumps q sc.hands)) (Some (link is.0 (first_and sc.default.to sc.default.keep q))) (link is.0 norm)) (named is.0 (env s held ++ map Some xs)) instead frs s.world))
       entered_block =
-          leads_on p gs named_if (same_as (place b (env s W)) (place b (env s held ++ map Some xs)) s.world (ap (place b) vars_is))
-          (enter_block p gs named_if f instead frs b q is.0 is.1 is.2 (Does o args sc.covers (hand_jumps q sc.hands) (first_and sc.default.to sc.default.keep q) norm) (env s held ++ map Some xs) s.world is.3 (sym at_len))
+          leads_on p gs (same_as (place b (env s W)) (place b (env s held ++ map Some xs)) s.world (ap (place b) vars_is))
+          (enter_block p gs f instead frs b q is.0 is.1 is.2 (Does o args sc.covers (hand_jumps q sc.hands) (first_and sc.default.to sc.default.keep q) norm) (env s held ++ map Some xs) s.world is.3 (sym at_len))
 
       does : (w : World) → step p gs (At f (act is.0 q is.1 is.2 o args sc.covers ∷ []) (exit.OnRaise (is.0 + q) (links is.0 (hand_jumps q sc.hands)) (Some (link is.0 (first_and sc.default.to sc.default.keep q))) (link is.0 norm)) (named is.0 (env s held ++ map Some xs)) instead frs w)
           ≡ answered p gs f (act is.0 q is.1 is.2 o args sc.covers) [] (exit.OnRaise (is.0 + q) (links is.0 (hand_jumps q sc.hands)) (Some (link is.0 (first_and sc.default.to sc.default.keep q))) (link is.0 norm)) (named is.0 (env s held ++ map Some xs)) instead frs w (op p sc.covers o vs w)
@@ -207,16 +207,16 @@ module _ (p : Program) (gs : Graphs) (named_if : Bool) (builtins : (k : ℕ) →
           let ex = exit.OnRaise (is.0 + q) (links is.0 (hand_jumps q sc.hands)) (Some (link is.0 (first_and sc.default.to sc.default.keep q))) (link is.0 norm) in
           let at = At f (its ∷ []) ex (named is.0 (env s held ++ map Some xs)) instead frs s.world in
           let z : step p gs at ≡ answered p gs f its [] ex (named is.0 (env s held ++ map Some xs)) instead frs s.world (Gives v s.world) = does s.world ∙ ap (answered p gs f its [] ex (named is.0 (env s held ++ map Some xs)) instead frs s.world) e in
-          leads_on p gs named_if entered_block
-          (leads_on p gs named_if (goes_on p gs named_if builtins f instead frs n m sc held R c (suc top) s fit xs q is.0 is.1 is.2 o args norm vs at_len picked' at v s.world z)
+          leads_on p gs entered_block
+          (leads_on p gs (goes_on p gs builtins f instead frs n m sc held R c (suc top) s fit xs q is.0 is.1 is.2 o args norm vs at_len picked' at v s.world z)
           (same_as (place norm.to (pick ((env s held ++ map Some xs) ++ Some v ∷ []) norm.places)) (place norm.to to) s.world (ap (place norm.to) (ap (λ l. pick (l ++ Some v ∷ []) norm.places) (sym vars_is) ∙ land))))
 
       -- one that no operands are for
-      pub strays_on : op p sc.covers o vs s.world ≡ Bad → go_in (place b (env s W)) s.world (wrong_run p gs named_if)
+      pub strays_on : op p sc.covers o vs s.world ≡ Bad → go_in (place b (env s W)) s.world (wrong_run p gs)
       strays_on e =
           let its = act is.0 q is.1 is.2 o args sc.covers in
           let ex = exit.OnRaise (is.0 + q) (links is.0 (hand_jumps q sc.hands)) (Some (link is.0 (first_and sc.default.to sc.default.keep q))) (link is.0 norm) in
-          entered_block.by _ (step_strays p gs named_if (At f (its ∷ []) ex (named is.0 (env s held ++ map Some xs)) instead frs s.world) (does s.world ∙ ap (answered p gs f its [] ex (named is.0 (env s held ++ map Some xs)) instead frs s.world) e))
+          entered_block.by _ (step_strays p gs (At f (its ∷ []) ex (named is.0 (env s held ++ map Some xs)) instead frs s.world) (does s.world ∙ ap (answered p gs f its [] ex (named is.0 (env s held ++ map Some xs)) instead frs s.world) e))
 
       -- one that throws
       pub throws_on : (r : ℕ) → op p sc.covers o vs s.world ≡ Throws r s.world → To (go_in (place b (env s W)) s.world) (go_in (R r s) s.world)
@@ -224,8 +224,8 @@ module _ (p : Program) (gs : Graphs) (named_if : Bool) (builtins : (k : ℕ) →
           let its = act is.0 q is.1 is.2 o args sc.covers in
           let ex = exit.OnRaise (is.0 + q) (links is.0 (hand_jumps q sc.hands)) (Some (link is.0 (first_and sc.default.to sc.default.keep q))) (link is.0 norm) in
           let at = At f (its ∷ []) ex (named is.0 (env s held ++ map Some xs)) instead frs s.world in
-          leads_on p gs named_if entered_block
-          (throws p gs named_if builtins f instead frs n m sc held R c (suc top) s fit xs q is.0 is.1 is.2 o args norm vs at_len picked' at r s.world s.moments (does s.world ∙ ap (answered p gs f its [] ex (named is.0 (env s held ++ map Some xs)) instead frs s.world) e))
+          leads_on p gs entered_block
+          (throws p gs builtins f instead frs n m sc held R c (suc top) s fit xs q is.0 is.1 is.2 o args norm vs at_len picked' at r s.world s.moments (does s.world ∙ ap (answered p gs f its [] ex (named is.0 (env s held ++ map Some xs)) instead frs s.world) e))
 
       -- the tree does it, too
       pub acts : (hold : List Value) (D : Value → State → Place) (X : Value → State → Type 0) → ((wt : Weight) → total wt.of xs ≤ total wt.of hold) → ((wt : Weight) → total wt.of xs ≤ total wt.of vs)
@@ -234,19 +234,19 @@ module _ (p : Program) (gs : Graphs) (named_if : Bool) (builtins : (k : ℕ) →
       acts hold D X small operands lands =
           let its = act is.0 q is.1 is.2 o args sc.covers in
           let ex = exit.OnRaise (is.0 + q) (links is.0 (hand_jumps q sc.hands)) (Some (link is.0 (first_and sc.default.to sc.default.keep q))) (link is.0 norm) in
-          let fr = frame p gs named_if builtins f instead frs n m sc held R c (suc top) s fit xs q is.0 is.1 is.2 o args norm vs at_len picked' in
+          let fr = frame p gs builtins f instead frs n m sc held R c (suc top) s fit xs q is.0 is.1 is.2 o args norm vs at_len picked' in
           let place_is = λ (v : Value). let z : place norm.to (pick ((env s held ++ map Some xs) ++ Some v ∷ []) norm.places) ≡ place norm.to (pick (env s W ++ Some v ∷ []) norm.places) = ap (λ l. place norm.to (pick (l ++ Some v ∷ []) norm.places)) (sym vars_is) in z in
-          moved p gs named_if f instead frs entered_block
-          (told_sim p gs named_if builtins f instead frs n m sc held R c (suc top) s fit xs q is.0 is.1 is.2 o args norm vs at_len picked' prev hold D X small
+          moved p gs f instead frs entered_block
+          (told_sim p gs builtins f instead frs n m sc held R c (suc top) s fit xs q is.0 is.1 is.2 o args norm vs at_len picked' prev hold D X small
           (λ v w e. let l = lands v w s.moments in (place_is v ∙ l.0, l.1))
           (λ g us other w e later passes.
-          called_sim p gs named_if f instead frs fr held vs s D R X
+          called_sim p gs f instead frs fr held vs s D R X
           (λ v w k.
-          leads_on p gs named_if (goes_on p gs named_if builtins f instead frs n m sc held R c (suc top) s fit xs q is.0 is.1 is.2 o args norm vs at_len picked' (Returning v (fr ∷ frs) w) v w refl)
+          leads_on p gs (goes_on p gs builtins f instead frs n m sc held R c (suc top) s fit xs q is.0 is.1 is.2 o args norm vs at_len picked' (Returning v (fr ∷ frs) w) v w refl)
           (same_as _ _ w (place_is v ∙ (lands v w k).0)))
-          (λ r w k. throws p gs named_if builtins f instead frs n m sc held R c (suc top) s fit xs q is.0 is.1 is.2 o args norm vs at_len picked' (Throwing r (fr ∷ frs) w) r w k refl)
+          (λ r w k. throws p gs builtins f instead frs n m sc held R c (suc top) s fit xs q is.0 is.1 is.2 o args norm vs at_len picked' (Throwing r (fr ∷ frs) w) r w k refl)
           (λ v w k. (lands v w k).1)
-          (λ wt. let z = used_here p gs named_if builtins f instead frs n m sc held R c (suc top) s fit xs q is.0 is.1 is.2 o args norm vs at_len picked' wt (waits_for fr) in omega (arith, z, operands wt))
+          (λ wt. let z = used_here p gs builtins f instead frs n m sc held R c (suc top) s fit xs q is.0 is.1 is.2 o args norm vs at_len picked' wt (waits_for fr) in omega (arith, z, operands wt))
           g us other passes prev top good (Calling g us other (fr ∷ frs) w) w (slice_get p.functions g) (stand g) (omega (arith, later.left, fit.low)) (sound_on later fit.sound) refl refl))
 
   -- ---- a raise
@@ -291,41 +291,41 @@ module _ (p : Program) (gs : Graphs) (named_if : Bool) (builtins : (k : ℕ) →
   raised_again c r w t = raised_by c r t.class (slice_get w.heap r) w t.is t.below
 
   pub raises_sim : (m : ℕ) (sc : Scope) (held : List Value) (R : ℕ → State → Place) → Holding m sc held R → (s : State) → Fit (suc top) n s
-      → (W xs : List Value) → W ≡ held ++ xs → (b q : ℕ) (args : List ℕ) (norm : Jump) (vs : List Value) → Acts p gs named_if f n sc b row.Raise args q norm → m + length xs ≡ q → pick (env s W) args ≡ map Some vs
+      → (W xs : List Value) → W ≡ held ++ xs → (b q : ℕ) (args : List ℕ) (norm : Jump) (vs : List Value) → Acts p gs f n sc b row.Raise args q norm → m + length xs ≡ q → pick (env s W) args ≡ map Some vs
       → (hold : List Value) (D : Value → State → Place) (X : Value → State → Type 0) → ((wt : Weight) → total wt.of xs ≤ total wt.of hold)
       → Follow (go_in (place b (env s W)) s.world) held s D R X (operate p unwatched prev hold sc.covers row.Raise vs s)
   raises_sim m sc held R c s fit W xs are b q args norm vs is at_q picked hold D X small =
       let len = at_len m sc held R c s fit W xs are b q row.Raise args norm vs is at_q picked in
       let pk = picked' m sc held R c s fit W xs are b q row.Raise args norm vs is at_q picked in
-      moved p gs named_if f instead frs (entered_block m sc held R c s fit W xs are b q row.Raise args norm vs is at_q picked)
-      (told_sim p gs named_if builtins f instead frs n m sc held R c (suc top) s fit xs q is.0 is.1 is.2 row.Raise args norm vs len pk prev hold D X small
+      moved p gs f instead frs (entered_block m sc held R c s fit W xs are b q row.Raise args norm vs is at_q picked)
+      (told_sim p gs builtins f instead frs n m sc held R c (suc top) s fit xs q is.0 is.1 is.2 row.Raise args norm vs len pk prev hold D X small
       (λ v w e. absurd (subst OnlyThrows e (raise_throws sc.covers vs s.world)))
       (λ g us other w e later passes. absurd (subst OnlyThrows e (raise_throws sc.covers vs s.world))))
 
   -- a block of an operation whose operand is unbound
-  pub unbound_on : (m : ℕ) (sc : Scope) (W : List Value) (s : State) (b i : ℕ) (o : RowOp) (norm : Jump) → Acts p gs named_if f n sc b o (i ∷ []) m norm → length (env s W) ≡ m → get_or (env s W) i None ≡ None → go_in (place b (env s W)) s.world (wrong_run p gs named_if)
+  pub unbound_on : (m : ℕ) (sc : Scope) (W : List Value) (s : State) (b i : ℕ) (o : RowOp) (norm : Jump) → Acts p gs f n sc b o (i ∷ []) m norm → length (env s W) ≡ m → get_or (env s W) i None ≡ None → go_in (place b (env s W)) s.world (wrong_run p gs)
   unbound_on m sc W s b i o norm is len e =
       let its = act is.0 m is.1 is.2 o (i ∷ []) sc.covers in
       let ex = exit.OnRaise (is.0 + m) (links is.0 (hand_jumps m sc.hands)) (Some (link is.0 (first_and sc.default.to sc.default.keep m))) (link is.0 norm) in
-      (enter_block p gs named_if f instead frs b m is.0 is.1 is.2 (Does o (i ∷ []) sc.covers (hand_jumps m sc.hands) (first_and sc.default.to sc.default.keep m) norm) (env s W) s.world is.3 len).by _
-      (step_strays p gs named_if (At f (its ∷ []) ex (named is.0 (env s W)) instead frs s.world) (ap (operates p gs f its [] ex (named is.0 (env s W)) instead frs s.world) (operand_none is.0 (env s W) i e)))
+      (enter_block p gs f instead frs b m is.0 is.1 is.2 (Does o (i ∷ []) sc.covers (hand_jumps m sc.hands) (first_and sc.default.to sc.default.keep m) norm) (env s W) s.world is.3 len).by _
+      (step_strays p gs (At f (its ∷ []) ex (named is.0 (env s W)) instead frs s.world) (ap (operates p gs f its [] ex (named is.0 (env s W)) instead frs s.world) (operand_none is.0 (env s W) i e)))
 
   -- ---- a fork
 
-  pub fork_on : (b q test : ℕ) (so other : Jump) (W : List Value) (t : State) (x : Value) (go : Bool) → Is p gs named_if f n b q (Fork test so other) → length (env t W) ≡ q → get_or (env t W) test None ≡ Some x → truth_in t.world x ≡ Some go
+  pub fork_on : (b q test : ℕ) (so other : Jump) (W : List Value) (t : State) (x : Value) (go : Bool) → Is p gs f n b q (Fork test so other) → length (env t W) ≡ q → get_or (env t W) test None ≡ Some x → truth_in t.world x ≡ Some go
       → To (go_in (place b (env t W)) t.world) (go_in (place (cond go so other).to (pick (env t W) (cond go so other).places)) t.world)
   fork_on b q test so other W t x go is len at z =
       let spot = At f [] (exit.If (is.0 + test) (link is.0 so) (link is.0 other)) (named is.0 (env t W)) instead frs t.world in
-      leads_on p gs named_if (enter_block p gs named_if f instead frs b q is.0 is.1 is.2 (Fork test so other) (env t W) t.world is.3 len)
+      leads_on p gs (enter_block p gs f instead frs b q is.0 is.1 is.2 (Fork test so other) (env t W) t.world is.3 len)
       (forked go spot is.0 (ap (λ v. chooses gs f frs t.world instead (named is.0 (env t W)) (link is.0 so) (link is.0 other) (truth_of t.world v)) (look_named is.0 test (env t W) ∙ at) ∙ ap (chooses gs f frs t.world instead (named is.0 (env t W)) (link is.0 so) (link is.0 other)) z))
     where
-      forked : (go : Bool) (spot : Spot) (base : ℕ) → step p gs spot ≡ chooses gs f frs t.world instead (named base (env t W)) (link base so) (link base other) (Some go) → To (Ends p gs named_if spot) (go_in (place (cond go so other).to (pick (env t W) (cond go so other).places)) t.world)
-      forked true spot base e = jump_to p gs named_if f instead frs spot base (env t W) so t.world e
-      forked false spot base e = jump_to p gs named_if f instead frs spot base (env t W) other t.world e
+      forked : (go : Bool) (spot : Spot) (base : ℕ) → step p gs spot ≡ chooses gs f frs t.world instead (named base (env t W)) (link base so) (link base other) (Some go) → To (Ends p gs spot) (go_in (place (cond go so other).to (pick (env t W) (cond go so other).places)) t.world)
+      forked true spot base e = jump_to p gs f instead frs spot base (env t W) so t.world e
+      forked false spot base e = jump_to p gs f instead frs spot base (env t W) other t.world e
 
-  pub fork_strays : (b q test : ℕ) (so other : Jump) (W : List Value) (t : State) (x : Value) → Is p gs named_if f n b q (Fork test so other) → length (env t W) ≡ q → get_or (env t W) test None ≡ Some x → truth_in t.world x ≡ None
-      → go_in (place b (env t W)) t.world (wrong_run p gs named_if)
+  pub fork_strays : (b q test : ℕ) (so other : Jump) (W : List Value) (t : State) (x : Value) → Is p gs f n b q (Fork test so other) → length (env t W) ≡ q → get_or (env t W) test None ≡ Some x → truth_in t.world x ≡ None
+      → go_in (place b (env t W)) t.world (wrong_run p gs)
   fork_strays b q test so other W t x is len at z =
       let spot = At f [] (exit.If (is.0 + test) (link is.0 so) (link is.0 other)) (named is.0 (env t W)) instead frs t.world in
-      (enter_block p gs named_if f instead frs b q is.0 is.1 is.2 (Fork test so other) (env t W) t.world is.3 len).by _
-      (step_strays p gs named_if spot (ap (λ v. chooses gs f frs t.world instead (named is.0 (env t W)) (link is.0 so) (link is.0 other) (truth_of t.world v)) (look_named is.0 test (env t W) ∙ at) ∙ ap (chooses gs f frs t.world instead (named is.0 (env t W)) (link is.0 so) (link is.0 other)) z))
+      (enter_block p gs f instead frs b q is.0 is.1 is.2 (Fork test so other) (env t W) t.world is.3 len).by _
+      (step_strays p gs spot (ap (λ v. chooses gs f frs t.world instead (named is.0 (env t W)) (link is.0 so) (link is.0 other) (truth_of t.world v)) (look_named is.0 test (env t W) ∙ at) ∙ ap (chooses gs f frs t.world instead (named is.0 (env t W)) (link is.0 so) (link is.0 other)) z))

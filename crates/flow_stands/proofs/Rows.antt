@@ -176,7 +176,7 @@ graphs = record { graphs = graph_0 ∷ graph_1 ∷ graph_2 ∷ graph_3 ∷ [] }
 
 -- ---- they stand for it
 
-seven_stands : HasFunction program graphs true 0 (function (line (Return (word 7)) done))
+seven_stands : HasFunction program graphs 0 (function (line (Return (word 7)) done))
 unfolding program graphs graph_0
 seven_stands = (
   6,
@@ -189,7 +189,7 @@ seven_stands = (
   (6, 4, 4, refl, (5, inl (6, refl, (7, 0, false, refl)), (5, 0, false, refl)), refl, refl),
 )
 
-down_stands : HasFunction program graphs true 1 (function (line (While (Local 0) (line (Augment (Name 0) (row.Binary Sub None) (word 1)) done)) (line (Return (Local 0)) done)))
+down_stands : HasFunction program graphs 1 (function (line (While (Local 0) (line (Augment (Name 0) (row.Binary Sub None) (word 1)) done)) (line (Return (Local 0)) done)))
 unfolding program graphs graph_1
 down_stands = (
   7,
@@ -230,7 +230,7 @@ down_stands = (
   ),
 )
 
-last_stands : HasFunction program graphs true 2 (function (line (Finally (line (Assign (more_targets (Name 0) no_targets) (word 1)) done) (line (Do (Apply row.Print (more (Local 0) none))) done)) done))
+last_stands : HasFunction program graphs 2 (function (line (Finally (line (Assign (more_targets (Name 0) no_targets) (word 1)) done) (line (Do (Apply row.Print (more (Local 0) none))) done)) done))
 unfolding program graphs graph_2
 last_stands = (
   27,
@@ -264,14 +264,14 @@ last_stands = (
       (28, 0, false, refl),
       (23, 20, 20, refl, (21, inl (22, (22, (omega arith, (50, 0, false, refl)), refl), (46, 0, false, refl)), (43, 0, false, refl)), refl, refl),
       (40, 0, false, refl),
-      (26, 24, 7, (60, 0, false, refl), (25, inl (26, refl, (58, 0, false, refl)), (omega arith, (55, 0, false, refl))), (53, 0, false, refl), refl),
+      (26, 24, 7, (60, 0, false, refl), (25, inl (26, refl, (58, 0, false, refl)), (25, 1, 2, omega arith, (refl, refl, refl), (55, 0, false, refl))), (53, 0, false, refl), refl),
     ),
     refl,
     refl,
   ),
 )
 
-entry_stands : HasFunction program graphs true 3 (function (line (Do (call 2 (call 1 (call 0 (word 0))))) (line (Return (word 0)) done)))
+entry_stands : HasFunction program graphs 3 (function (line (Do (call 2 (call 1 (call 0 (word 0))))) (line (Return (word 0)) done)))
 unfolding program graphs graph_3
 entry_stands = (
   11,
@@ -292,7 +292,7 @@ entry_stands = (
   ),
 )
 
-they_stand : Stand program graphs true
+they_stand : Stand program graphs
 unfolding program
 they_stand zero = seven_stands
 they_stand (suc zero) = down_stands

@@ -28,8 +28,8 @@ use Rattle.flow_stands.proofs.Stmts.{sim_block, loop_sim, for_sim}
 
 -- ---- levels
 
-module _ (p : Program) (gs : Graphs) (named_if : Bool) (builtins : HasBuiltins p) (stand : Stand p gs named_if) where
-  never : (sem : Sem) → Good p gs named_if sem 0
+module _ (p : Program) (gs : Graphs) (builtins : HasBuiltins p) (stand : Stand p gs) where
+  never : (sem : Sem) → Good p gs sem 0
   never sem = record {
     body = λ f n instead frs b body s has fit. absurd (let l = fit.low in omega (arith, l));
     loop = λ f n instead frs m sc held R b t e body s has c keeps fit. absurd (let l = fit.low in omega (arith, l));
@@ -37,22 +37,22 @@ module _ (p : Program) (gs : Graphs) (named_if : Bool) (builtins : HasBuiltins p
     gather = λ f n instead frs m sc held R b whole item target condition list walking s has c fit. absurd (let l = fit.low in omega (arith, l));
   }
 
-  level : (prev : Sem) (top : ℕ) → Good p gs named_if prev top → Good p gs named_if (task p unwatched prev) (suc top)
+  level : (prev : Sem) (top : ℕ) → Good p gs prev top → Good p gs (task p unwatched prev) (suc top)
   level prev top good = record {
     body = λ f n instead frs b body s has fit.
-        sim_block p gs named_if builtins stand prev top good f n instead frs body no_try n b [] (leaves_by p gs named_if)
+        sim_block p gs builtins stand prev top good f n instead frs body no_try n b [] (leaves_by p gs)
         (record { all = omega arith; default = omega arith; hands = tt; taken = λ r t long. refl }) (outside n) (record { brk = omega arith; cont = omega arith; ret = omega arith }) s fit has;
     loop = λ f n instead frs m sc held R b t e body s has c keeps fit.
-        loop_sim p gs named_if builtins stand prev top good f n instead frs sc e body (sim_block p gs named_if builtins stand prev top good f n instead frs body sc) m b held R c t keeps s fit has;
+        loop_sim p gs builtins stand prev top good f n instead frs sc e body (sim_block p gs builtins stand prev top good f n instead frs body sc) m b held R c t keeps s fit has;
     turns = λ f n instead frs m sc held R b t target body walking s has c keeps fit.
-        for_sim p gs named_if builtins stand prev top good f n instead frs sc target body (sim_block p gs named_if builtins stand prev top good f n instead frs body sc) m b held R c t keeps walking has s fit;
+        for_sim p gs builtins stand prev top good f n instead frs sc target body (sim_block p gs builtins stand prev top good f n instead frs body sc) m b held R c t keeps walking has s fit;
     gather = λ f n instead frs m sc held R b whole item target condition list walking s has c fit.
-        gathers_sim p gs named_if builtins stand prev top good f n instead frs sc item target condition (HasExpr p gs named_if f n sc item) (HasBind p gs named_if f n sc target) (HasCondition p gs named_if f n sc condition)
-        (sim_value p gs named_if builtins stand prev top good f n instead frs sc item) (sim_bind p gs named_if builtins stand prev top good f n instead frs sc target) (sim_condition p gs named_if builtins stand prev top good f n instead frs sc condition)
+        gathers_sim p gs builtins stand prev top good f n instead frs sc item target condition (HasExpr p gs f n sc item) (HasBind p gs f n sc target []) (HasCondition p gs f n sc condition)
+        (sim_value p gs builtins stand prev top good f n instead frs sc item) (sim_bind p gs builtins stand prev top good f n instead frs sc target) (sim_condition p gs builtins stand prev top good f n instead frs sc condition)
         m b whole held list R c walking (λ next u fit_u. good.gather f n instead frs m sc held R b whole item target condition list (record walking { at = next }) u has c fit_u) has s fit;
   }
 
-  good_within : (d : ℕ) → Good p gs named_if (within p unwatched d) (suc d)
+  good_within : (d : ℕ) → Good p gs (within p unwatched d) (suc d)
   good_within zero = level (λ asked. wrong) 0 (never _)
   good_within (suc d) = level (within p unwatched d) (suc d) (good_within d)
 
@@ -64,7 +64,7 @@ module _ (p : Program) (gs : Graphs) (named_if : Bool) (builtins : HasBuiltins p
     pub there : P run
     pub outcome : run.outcome ≡ r.outcome
     pub world : run.world ≡ r.world
-    pub more : named_if ≡ true → (wt : Weight) → total wt.of run.held ≤ total wt.of r.held
+    pub more : (wt : Weight) → total wt.of run.held ≤ total wt.of r.held
 
   exception_class : (c k i : ℕ) (rest : Heap) → i < k → class_at (exceptions_from c k ++ rest) i ≡ Some (c + i)
   exception_class c zero i rest lt = absurd (omega arith)
@@ -79,41 +79,41 @@ module _ (p : Program) (gs : Graphs) (named_if : Bool) (builtins : HasBuiltins p
   }
 
   module _ (g : ℕ) (args : List Value) (s0 : State) where
-    leaves : (at : Spot) (n : ℕ) → Is p gs named_if g n return_block 1 GiveBack → Is p gs named_if g n raise_block 1 GiveUp → Is p gs named_if g n end_block n (Plain row.None (first_and return_block 0 n)) → (e : Ending Flow) (s1 : State) → length s1.locals ≡ n → Sim p gs named_if g None [] (Ends p gs named_if at) [] s1 (flow_place (outside n) []) (leaves_by p gs named_if) Any e → Comes (Ends p gs named_if at) (ending_of p (leaving s0.locals args None e))
+    leaves : (at : Spot) (n : ℕ) → Is p gs g n return_block 1 GiveBack → Is p gs g n raise_block 1 GiveUp → Is p gs g n end_block n (Plain row.None (first_and return_block 0 n)) → (e : Ending Flow) (s1 : State) → length s1.locals ≡ n → Sim p gs g None [] (Ends p gs at) [] s1 (flow_place (outside n) []) (leaves_by p gs) Any e → Comes (Ends p gs at) (ending_of p (leaving s0.locals args None e))
     leaves at n is_return is_raise is_end (Done flow t) s1 long r =
         record {
           run = over _ [] t;
-          there = (leads_on p gs named_if r.leads (left_at p gs named_if [] g None n is_return is_raise is_end flow t (r.after.long ∙ long))).by _ (step_ends p gs named_if (Returning (result_of flow) [] t.world) _ t.world refl);
+          there = (leads_on p gs r.leads (left_at p gs [] g None n is_return is_raise is_end flow t (r.after.long ∙ long))).by _ (step_ends p gs (Returning (result_of flow) [] t.world) _ t.world refl);
           outcome = refl;
           world = refl;
-          more = λ z wt. omega arith;
+          more = λ wt. omega arith;
         }
     leaves at n is_return is_raise is_end (Raised x t) s1 long r =
         record {
           run = over _ [] t;
-          there = (leads_on p gs named_if r.leads (raises_value p gs named_if [] g None n is_return is_raise is_end x t.world)).by _ (step_ends p gs named_if (Throwing x [] t.world) _ t.world refl);
+          there = (leads_on p gs r.leads (raises_value p gs [] g None n is_return is_raise is_end x t.world)).by _ (step_ends p gs (Throwing x [] t.world) _ t.world refl);
           outcome = refl;
           world = refl;
-          more = λ z wt. omega arith;
+          more = λ wt. omega arith;
         }
-    leaves at n is_return is_raise is_end (Failed name t) s1 long r = record { run = _; there = r; outcome = refl; world = refl; more = λ z wt. omega arith }
+    leaves at n is_return is_raise is_end (Failed name t) s1 long r = record { run = _; there = r; outcome = refl; world = refl; more = λ wt. omega arith }
     leaves at n is_return is_raise is_end (Running rs t) s1 long r =
         record {
           run = _;
           there = r.ends;
           outcome = refl;
           world = refl;
-          more = λ z wt. omega (arith, r.more z wt, total_append wt.of (rs ++ values_of t.locals) args, total_append wt.of rs (values_of t.locals));
+          more = λ wt. omega (arith, r.more wt, total_append wt.of (rs ++ values_of t.locals) args, total_append wt.of rs (values_of t.locals));
         }
-    leaves at n is_return is_raise is_end Wrong s1 long r = record { run = _; there = r; outcome = refl; world = refl; more = λ z wt. omega arith }
+    leaves at n is_return is_raise is_end Wrong s1 long r = record { run = _; there = r; outcome = refl; world = refl; more = λ wt. omega arith }
 
-  pub comes : (args : List (List ℕ)) (n : ℕ) → Comes (Ends p gs named_if (start p args n)) (mean p args n)
+  pub comes : (args : List (List ℕ)) (n : ℕ) → Comes (Ends p gs (start p args n)) (mean p args n)
   comes args n =
       let s0 = begin p args n 0 in
       let vs : List Value = Ref (length (prebuilt p)) ∷ [] in
-      called_any p gs named_if [] p.entry vs None s0 (within p unwatched n) (suc n) (good_within n) (λ w P e. Comes P (ending_of p e))
-      (λ at w x. record { run = _; there = x; outcome = refl; world = refl; more = λ z wt. omega arith })
-      (λ at w same x. record { run = _; there = x; outcome = refl; world = refl; more = λ z wt. let y = ap (total wt.of) same in omega (arith, y, total_append wt.of vs []) })
+      called_any p gs [] p.entry vs None s0 (within p unwatched n) (suc n) (good_within n) (λ w P e. Comes P (ending_of p e))
+      (λ at w x. record { run = _; there = x; outcome = refl; world = refl; more = λ wt. omega arith })
+      (λ at w same x. record { run = _; there = x; outcome = refl; world = refl; more = λ wt. let y = ap (total wt.of) same in omega (arith, y, total_append wt.of vs []) })
       (λ at w s1 k is_return is_raise is_end e later long x. leaves p.entry vs s0 at k is_return is_raise is_end e s1 long x)
       (start p args n) s0.world (slice_get p.functions p.entry) (stand p.entry) (omega arith) (sound_start (filter_map (λ object. object) p.sites) (Listed (map Text args) ∷ [])) refl refl
 
@@ -128,11 +128,11 @@ module _ (p : Program) (gs : Graphs) (named_if : Bool) (builtins : HasBuiltins p
       let same : q ≡ c.run = one_meaning p gs args n q c.run means (c.there.k, ap ended c.there.is) in
       (ap (λ r. r.outcome) same ∙ c.outcome, ap (λ r. r.world) same ∙ c.world)
 
-  holds : named_if ≡ true → (args : List (List ℕ)) (n : ℕ) (q : Run) → GMeans p gs args n q → (wt : Weight) → total wt.of q.held ≤ total wt.of (mean p args n).held
-  holds z args n q means wt =
+  holds : (args : List (List ℕ)) (n : ℕ) (q : Run) → GMeans p gs args n q → (wt : Weight) → total wt.of q.held ≤ total wt.of (mean p args n).held
+  holds args n q means wt =
       let c = comes args n in
       let same : q ≡ c.run = one_meaning p gs args n q c.run means (c.there.k, ap ended c.there.is) in
-      subst (λ r. total wt.of r.held ≤ total wt.of (mean p args n).held) (sym same) (c.more z wt)
+      subst (λ r. total wt.of r.held ≤ total wt.of (mean p args n).held) (sym same) (c.more wt)
 
 -- ---- functions hold nothing
 
@@ -203,12 +203,12 @@ bare_less vs us less f =
     let x = less w in
     omega (arith, x, total_is f (bare vs), total_is f (bare us), bare_total f vs, bare_total f us)
 
-module _ (p : Program) (gs : Graphs) (builtins : HasBuiltins p) (stand : Stand p gs true) where
+module _ (p : Program) (gs : Graphs) (builtins : HasBuiltins p) (stand : Stand p gs) where
   pub uses : (args : List (List ℕ)) (n : ℕ) (q : Run) → GMeans p gs args n q → UsesNoMore p q (mean p args n)
   uses args n q means =
       let r = mean p args n in
-      let less = holds p gs true builtins stand refl args n q means in
-      let same : q.world ≡ r.world = (only_ending p gs true builtins stand args n q means).1 in
+      let less = holds p gs builtins stand args n q means in
+      let same : q.world ≡ r.world = (only_ending p gs builtins stand args n q means).1 in
       let bared = bare_less q.held r.held less in
       record {
         values = λ f none. let x = less (record { of = f; functions = none }) in omega (arith, x, total_is f q.held, total_is f r.held);

@@ -55,21 +55,21 @@ pub after_low : {top n : ℕ} {s t : State} → Fit (suc top) n s → After s t 
 after_low f a lt =
     let g = fit_on f a in record { low = let l = f.low in omega (arith, l, lt); long = g.long; sound = g.sound }
 
-module _ (p : Program) (gs : Graphs) (named_if : Bool) (builtins : (k : ℕ) → k < builtin_classes → is_below p.classes k 0 ≡ true) (stand : Stand p gs named_if) (prev : Sem) (top : ℕ) (good : Good p gs named_if prev top) (f n : ℕ) (instead : Option Value) (frs : List Frame) where
+module _ (p : Program) (gs : Graphs) (builtins : (k : ℕ) → k < builtin_classes → is_below p.classes k 0 ≡ true) (stand : Stand p gs) (prev : Sem) (top : ℕ) (good : Good p gs prev top) (f n : ℕ) (instead : Option Value) (frs : List Frame) where
   abbrev F : {A : Type 0} → (Run → Type 0) → List Value → State → (A → State → Place) → (ℕ → State → Place) → (A → State → Type 0) → Ending A → Type 0
-  F P held s D R X e = Runs p gs named_if f instead frs P held s D R X e
+  F P held s D R X e = Runs p gs f instead frs P held s D R X e
 
   abbrev at_place : Place → World → Run → Type 0
-  at_place = enter p gs named_if f instead frs
+  at_place = enter p gs f instead frs
 
   abbrev Keep : ℕ → Scope → List Value → (ℕ → State → Place) → Type 0
-  Keep m sc held R = Catches p gs named_if n m sc held R
+  Keep m sc held R = Catches p gs n m sc held R
 
   -- a turn is paid, while some variables are there that go on
-  pub pay_sim : (m : ℕ) (sc : Scope) (held : List Value) (R : ℕ → State → Place) → Keep m sc held R → (s : State) → Fit (suc top) n s → (b q : ℕ) → Acts p gs named_if f n sc b row.Turn [] m (first q m)
+  pub pay_sim : (m : ℕ) (sc : Scope) (held : List Value) (R : ℕ → State → Place) → Keep m sc held R → (s : State) → Fit (suc top) n s → (b q : ℕ) → Acts p gs f n sc b row.Turn [] m (first q m)
       → F (at_place (place b (env s held)) s.world) held s (stay_at q held) R Any (perform p unwatched prev no_covers row.Turn [] s)
   pay_sim m sc held R c s fit b q is =
-      acts p gs named_if builtins stand prev top good f n instead frs m sc held R c s fit held [] (sym (append-nil held)) b m row.Turn [] (first q m) [] is (omega arith) refl [] (stay_at q held) Any (λ wt. omega arith) (λ wt. omega arith)
+      acts p gs builtins stand prev top good f n instead frs m sc held R c s fit held [] (sym (append-nil held)) b m row.Turn [] (first q m) [] is (omega arith) refl [] (stay_at q held) Any (λ wt. omega arith) (λ wt. omega arith)
       (λ v w k. (ap (place q) (land_first n s fit.long held held [] m (Some v ∷ []) (sym (append-nil held)) c.all), tt))
 
   -- on a walk
@@ -87,17 +87,17 @@ module _ (p : Program) (gs : Graphs) (named_if : Bool) (builtins : (k : ℕ) →
     many = let z = length-append held (over ∷ at ∷ []) in let a = c.all in omega (arith, z, a)
 
     -- an operation on the walk, whose result is one variable more
-    pub walk_sim : (s : State) → Fit (suc top) n s → (b q : ℕ) (o : RowOp) → Acts p gs named_if f n sc b o (m ∷ (m + 1) ∷ []) (m + 2) (first_and q (m + 2) (m + 2))
+    pub walk_sim : (s : State) → Fit (suc top) n s → (b q : ℕ) (o : RowOp) → Acts p gs f n sc b o (m ∷ (m + 1) ∷ []) (m + 2) (first_and q (m + 2) (m + 2))
         → F (at_place (place b (env s walked)) s.world) held s (vals q walked) R Any (perform p unwatched prev sc.covers o (over ∷ at ∷ []) s)
     walk_sim s fit b q o is =
-        acts p gs named_if builtins stand prev top good f n instead frs m sc held R c s fit walked (over ∷ at ∷ []) refl b (m + 2) o (m ∷ (m + 1) ∷ []) (first_and q (m + 2) (m + 2)) (over ∷ at ∷ []) is (omega arith) (operands s fit.long) (over ∷ at ∷ []) (vals q walked) Any (λ wt. omega arith) (λ wt. omega arith)
+        acts p gs builtins stand prev top good f n instead frs m sc held R c s fit walked (over ∷ at ∷ []) refl b (m + 2) o (m ∷ (m + 1) ∷ []) (first_and q (m + 2) (m + 2)) (over ∷ at ∷ []) is (omega arith) (operands s fit.long) (over ∷ at ∷ []) (vals q walked) Any (λ wt. omega arith) (λ wt. omega arith)
         (λ v w k. (ap (place q) (land_result n s fit.long walked walked [] (m + 2) (m + 2) v (sym (append-nil walked)) many many), tt))
 
     -- the next place stands for the last one
-    pub advance_sim : (s : State) → Fit (suc top) n s → (b q : ℕ) (o : RowOp) → Acts p gs named_if f n sc b o (m ∷ (m + 1) ∷ []) (m + 2) (first_and q (m + 1) (m + 2))
+    pub advance_sim : (s : State) → Fit (suc top) n s → (b q : ℕ) (o : RowOp) → Acts p gs f n sc b o (m ∷ (m + 1) ∷ []) (m + 2) (first_and q (m + 1) (m + 2))
         → F (at_place (place b (env s walked)) s.world) held s (λ next t. place q (env t (held ++ over ∷ next ∷ []))) R Any (perform p unwatched prev sc.covers o (over ∷ at ∷ []) s)
     advance_sim s fit b q o is =
-        acts p gs named_if builtins stand prev top good f n instead frs m sc held R c s fit walked (over ∷ at ∷ []) refl b (m + 2) o (m ∷ (m + 1) ∷ []) (first_and q (m + 1) (m + 2)) (over ∷ at ∷ []) is (omega arith) (operands s fit.long) (over ∷ at ∷ []) (λ next t. place q (env t (held ++ over ∷ next ∷ []))) Any (λ wt. omega arith) (λ wt. omega arith)
+        acts p gs builtins stand prev top good f n instead frs m sc held R c s fit walked (over ∷ at ∷ []) refl b (m + 2) o (m ∷ (m + 1) ∷ []) (first_and q (m + 1) (m + 2)) (over ∷ at ∷ []) is (omega arith) (operands s fit.long) (over ∷ at ∷ []) (λ next t. place q (env t (held ++ over ∷ next ∷ []))) Any (λ wt. omega arith) (λ wt. omega arith)
         (λ v w k. (
           ap (place q) (
               land_result n s fit.long walked (held ++ over ∷ []) (at ∷ []) (m + 1) (m + 2) v (sym (append_assoc held (over ∷ []) (at ∷ []))) (let z = length-append held (over ∷ []) in let a = c.all in omega (arith, z, a)) many
@@ -108,8 +108,8 @@ module _ (p : Program) (gs : Graphs) (named_if : Bool) (builtins : (k : ℕ) →
   -- all turns
   module _ (m : ℕ) (sc : Scope) (held : List Value) (R : ℕ → State → Place) (c : Keep m sc held R) (t : Ways) (keeps : Keeps t m) (each : Value → Eval Flow) (rest : Walking → Eval Flow) (X Xe : Flow → State → Type 0) (head turn_at advance : ℕ)
       (none_left : (s : State) → X Onward s) (broken : (s : State) → Xe Broken s → X Onward s) (returned : (v : Value) (s : State) → Xe (Returned v) s → X (Returned v) s) (walking : Walking)
-      (is : TurnsAt p gs named_if f n sc walking.step m head turn_at (first t.norm m) advance)
-      (each_sim : (v : Value) (s : State) → Fit (suc top) n s → F (at_place (place turn_at (env s ((held ++ walk_holds walking) ++ v ∷ []))) s.world) (held ++ walk_holds walking) s (flow_place (within p gs named_if f n t (record { to = advance; keep = m + 2 }) (record { to = t.norm; keep = m })) (held ++ walk_holds walking)) R Xe (each v s))
+      (is : TurnsAt p gs f n sc walking.step m head turn_at (first t.norm m) advance)
+      (each_sim : (v : Value) (s : State) → Fit (suc top) n s → F (at_place (place turn_at (env s ((held ++ walk_holds walking) ++ v ∷ []))) s.world) (held ++ walk_holds walking) s (flow_place (within p gs f n t (record { to = advance; keep = m + 2 }) (record { to = t.norm; keep = m })) (held ++ walk_holds walking)) R Xe (each v s))
       (rest_sim : (next : Value) (s : State) → Fit top n s → F (at_place (place head (env s (held ++ walking.over ∷ next ∷ []))) s.world) held s (flow_place t held) R X (rest (record walking { at = next }) s)) where
     abbrev W : List Value
     W = held ++ walk_holds walking
@@ -118,66 +118,66 @@ module _ (p : Program) (gs : Graphs) (named_if : Bool) (builtins : (k : ℕ) →
     all = many m sc held R c walking.over walking.at
 
     c2 : Keep (m + 2) sc W R
-    c2 = catches_more p gs named_if (walk_holds walking) (m + 2) (omega arith) c
+    c2 = catches_more p gs (walk_holds walking) (m + 2) (omega arith) c
 
     abbrev goes_on : State → Ending Flow
     goes_on u = then_go (on_walk p unwatched prev row.Advance walking u) (λ next u. rest (record walking { at = next }) u)
 
     next_sim : (u : State) → Fit top n u → F (at_place (place advance (env u W)) u.world) held u (flow_place t held) R X (goes_on u)
     next_sim u fit =
-        seq p gs named_if f instead frs (advance_sim m sc held R c walking.over walking.at u (lower fit) advance head (row.Advance walking.step) is.9)
+        seq p gs f instead frs (advance_sim m sc held R c walking.over walking.at u (lower fit) advance head (row.Advance walking.step) is.9)
         (λ next u2 after x. rest_sim next u2 (fit_on fit after))
 
-    flow_sim : (flow : Flow) (u : State) → Fit top n u → Xe flow u → F (at_place (flow_place (within p gs named_if f n t (record { to = advance; keep = m + 2 }) (record { to = t.norm; keep = m })) W flow u) u.world) held u (flow_place t held) R X (after_turn flow goes_on u)
+    flow_sim : (flow : Flow) (u : State) → Fit top n u → Xe flow u → F (at_place (flow_place (within p gs f n t (record { to = advance; keep = m + 2 }) (record { to = t.norm; keep = m })) W flow u) u.world) held u (flow_place t held) R X (after_turn flow goes_on u)
     flow_sim Onward u fit x = next_sim u fit
     flow_sim Continued u fit x =
-        moved p gs named_if f instead frs
-        (same_as p gs named_if builtins stand prev top good f n instead frs (place advance (take (m + 2) (env u W))) (place advance (env u W)) u.world (ap (place advance) (ap (take (m + 2)) (sym (append-nil (env u W))) ∙ take_first (m + 2) (env u W) [] (wide n u fit.long W ∙ all))))
+        moved p gs f instead frs
+        (same_as p gs builtins stand prev top good f n instead frs (place advance (take (m + 2) (env u W))) (place advance (env u W)) u.world (ap (place advance) (ap (take (m + 2)) (sym (append-nil (env u W))) ∙ take_first (m + 2) (env u W) [] (wide n u fit.long W ∙ all))))
         (next_sim u fit)
     flow_sim Broken u fit x =
-        here p gs named_if f instead frs
-        (same_as p gs named_if builtins stand prev top good f n instead frs (place t.norm (take m (env u W))) (place t.norm (env u held)) u.world (ap (place t.norm) (ap (take m) (env_push u held (walk_holds walking)) ∙ take_first m (env u held) (map Some (walk_holds walking)) (wide n u fit.long held ∙ c.all))))
+        here p gs f instead frs
+        (same_as p gs builtins stand prev top good f n instead frs (place t.norm (take m (env u W))) (place t.norm (env u held)) u.world (ap (place t.norm) (ap (take m) (env_push u held (walk_holds walking)) ∙ take_first m (env u held) (map Some (walk_holds walking)) (wide n u fit.long held ∙ c.all))))
         (broken u x)
     flow_sim (Returned v) u fit x =
-        here p gs named_if f instead frs
-        (same_as p gs named_if builtins stand prev top good f n instead frs (place t.ret.to (take t.ret.keep (env u W) ++ Some v ∷ [])) (place t.ret.to (take t.ret.keep (env u held) ++ Some v ∷ [])) u.world (ap (λ l. place t.ret.to (l ++ Some v ∷ [])) (take_less p gs named_if n u held (walk_holds walking) t.ret.keep m fit.long c.all keeps.ret)))
+        here p gs f instead frs
+        (same_as p gs builtins stand prev top good f n instead frs (place t.ret.to (take t.ret.keep (env u W) ++ Some v ∷ [])) (place t.ret.to (take t.ret.keep (env u held) ++ Some v ∷ [])) u.world (ap (λ l. place t.ret.to (l ++ Some v ∷ [])) (take_less p gs n u held (walk_holds walking) t.ret.keep m fit.long c.all keeps.ret)))
         (returned v u x)
 
     turn_sim : (s : State) → Fit (suc top) n s → F (at_place (place is.2 (env s W)) s.world) held s (flow_place t held) R X (turn p unwatched prev each rest walking s)
     turn_sim s fit =
-        seq_is p gs named_if f instead frs (hold p gs named_if f instead frs (walk_holds walking) (pay_sim (m + 2) sc W R c2 s fit is.2 is.3 is.7))
+        seq_is p gs f instead frs (hold p gs f instead frs (walk_holds walking) (pay_sim (m + 2) sc W R c2 s fit is.2 is.3 is.7))
         (λ a u e after x.
         let fit_u = after_low fit after (turn_held p prev (walk_holds walking) s u a e) in
-        seq p gs named_if f instead frs (walk_sim m sc held R c walking.over walking.at u (lower fit_u) is.3 turn_at (row.Item walking.step) is.8)
+        seq p gs f instead frs (walk_sim m sc held R c walking.over walking.at u (lower fit_u) is.3 turn_at (row.Item walking.step) is.8)
         (λ v u2 after2 x2.
         let fit_2 = fit_on fit_u after2 in
-        seq p gs named_if f instead frs (hold p gs named_if f instead frs (walk_holds walking) (each_sim v u2 (lower fit_2)))
+        seq p gs f instead frs (hold p gs f instead frs (walk_holds walking) (each_sim v u2 (lower fit_2)))
         (λ flow u3 after3 x3. flow_sim flow u3 (fit_on fit_2 after3) x3)))
 
     there_by : (s : State) → Fit (suc top) n s → (x : Value) (o : Option Bool) → truth_in s.world x ≡ o
         → F (at_place (place is.1 (env s (W ++ x ∷ []))) s.world) held s (flow_place t held) R X (then_go (known o s) (λ there u. (if there then turn p unwatched prev each rest walking else pure Onward) u))
     there_by s fit x None z =
         record {
-          sim = fork_strays p gs named_if builtins stand prev top good f n instead frs is.1 (m + 2 + 1) (m + 2) (first is.2 (m + 2)) (first t.norm m) (W ++ x ∷ []) s x is.6 (wide n s fit.long (W ++ x ∷ []) ∙ (let y = length-append W (x ∷ []) in omega (arith, y, all))) (land_at n s fit.long (W ++ x ∷ []) W [] x (m + 2) refl all) z;
+          sim = fork_strays p gs builtins stand prev top good f n instead frs is.1 (m + 2 + 1) (m + 2) (first is.2 (m + 2)) (first t.norm m) (W ++ x ∷ []) s x is.6 (wide n s fit.long (W ++ x ∷ []) ∙ (let y = length-append W (x ∷ []) in omega (arith, y, all))) (land_at n s fit.long (W ++ x ∷ []) W [] x (m + 2) refl all) z;
         }
     there_by s fit x (Some true) z =
-        moved p gs named_if f instead frs
-        (leads_on p gs named_if
-        (fork_on p gs named_if builtins stand prev top good f n instead frs is.1 (m + 2 + 1) (m + 2) (first is.2 (m + 2)) (first t.norm m) (W ++ x ∷ []) s x true is.6 (wide n s fit.long (W ++ x ∷ []) ∙ (let y = length-append W (x ∷ []) in omega (arith, y, all))) (land_at n s fit.long (W ++ x ∷ []) W [] x (m + 2) refl all) z)
-        (same_as p gs named_if builtins stand prev top good f n instead frs (place is.2 (pick (env s (W ++ x ∷ [])) (range 0 (m + 2)))) (place is.2 (env s W)) s.world (ap (place is.2) (jump_first n s fit.long (W ++ x ∷ []) W (x ∷ []) (m + 2) refl all))))
+        moved p gs f instead frs
+        (leads_on p gs
+        (fork_on p gs builtins stand prev top good f n instead frs is.1 (m + 2 + 1) (m + 2) (first is.2 (m + 2)) (first t.norm m) (W ++ x ∷ []) s x true is.6 (wide n s fit.long (W ++ x ∷ []) ∙ (let y = length-append W (x ∷ []) in omega (arith, y, all))) (land_at n s fit.long (W ++ x ∷ []) W [] x (m + 2) refl all) z)
+        (same_as p gs builtins stand prev top good f n instead frs (place is.2 (pick (env s (W ++ x ∷ [])) (range 0 (m + 2)))) (place is.2 (env s W)) s.world (ap (place is.2) (jump_first n s fit.long (W ++ x ∷ []) W (x ∷ []) (m + 2) refl all))))
         (turn_sim s fit)
     there_by s fit x (Some false) z =
-        here p gs named_if f instead frs
-        (leads_on p gs named_if
-        (fork_on p gs named_if builtins stand prev top good f n instead frs is.1 (m + 2 + 1) (m + 2) (first is.2 (m + 2)) (first t.norm m) (W ++ x ∷ []) s x false is.6 (wide n s fit.long (W ++ x ∷ []) ∙ (let y = length-append W (x ∷ []) in omega (arith, y, all))) (land_at n s fit.long (W ++ x ∷ []) W [] x (m + 2) refl all) z)
-        (same_as p gs named_if builtins stand prev top good f n instead frs (place t.norm (pick (env s (W ++ x ∷ [])) (range 0 m))) (place t.norm (env s held)) s.world (ap (place t.norm) (jump_first n s fit.long (W ++ x ∷ []) held (walk_holds walking ++ x ∷ []) m (append_assoc held (walk_holds walking) (x ∷ [])) c.all))))
+        here p gs f instead frs
+        (leads_on p gs
+        (fork_on p gs builtins stand prev top good f n instead frs is.1 (m + 2 + 1) (m + 2) (first is.2 (m + 2)) (first t.norm m) (W ++ x ∷ []) s x false is.6 (wide n s fit.long (W ++ x ∷ []) ∙ (let y = length-append W (x ∷ []) in omega (arith, y, all))) (land_at n s fit.long (W ++ x ∷ []) W [] x (m + 2) refl all) z)
+        (same_as p gs builtins stand prev top good f n instead frs (place t.norm (pick (env s (W ++ x ∷ [])) (range 0 m))) (place t.norm (env s held)) s.world (ap (place t.norm) (jump_first n s fit.long (W ++ x ∷ []) held (walk_holds walking ++ x ∷ []) m (append_assoc held (walk_holds walking) (x ∷ [])) c.all))))
         (none_left s)
 
     pub turns_sim : (s : State) → Fit (suc top) n s → F (at_place (place head (env s W)) s.world) held s (flow_place t held) R X (turns p unwatched prev each rest walking s)
     turns_sim s fit =
-        moved p gs named_if f instead frs
-        (jumps p gs named_if builtins stand prev top good f n instead frs head (m + 2) (first is.0 (m + 2)) W s (env s W) is.4 (wide n s fit.long W ∙ all) (jump_first n s fit.long W W [] (m + 2) (sym (append-nil W)) all))
+        moved p gs f instead frs
+        (jumps p gs builtins stand prev top good f n instead frs head (m + 2) (first is.0 (m + 2)) W s (env s W) is.4 (wide n s fit.long W ∙ all) (jump_first n s fit.long W W [] (m + 2) (sym (append-nil W)) all))
         (subst (λ e. F (at_place (place is.0 (env s W)) s.world) held s (flow_place t held) R X e)
         (sym (assoc (on_walk p unwatched prev row.HasItem walking s) is_so (λ there u. (if there then turn p unwatched prev each rest walking else pure Onward) u)))
-        (seq p gs named_if f instead frs (walk_sim m sc held R c walking.over walking.at s fit is.0 is.1 (row.HasItem walking.step) is.5)
+        (seq p gs f instead frs (walk_sim m sc held R c walking.over walking.at s fit is.0 is.1 (row.HasItem walking.step) is.5)
         (λ x u after y. there_by u (fit_on fit after) x (truth_in u.world x) refl)))

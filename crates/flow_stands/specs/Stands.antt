@@ -59,20 +59,9 @@ Reads (Local j) i = j ≡ i
 Reads (Apply o es) i = some_is_local es i
 Reads other i = ⊥
 
--- a tuple's target has names alone
-abbrev mutual
-  pub Named : Target → Type 0
-  Named (Name i) = Unit {0}
-  Named (Parts parts) = AllNamed parts
-  Named other = ⊥
-
-  pub AllNamed : Targets → Type 0
-  AllNamed no_targets = Unit {0}
-  AllNamed (more_targets t ts) = Named t × AllNamed ts
-
-abbrev pub NamedIf : Bool → Targets → Type 0
-NamedIf true parts = AllNamed parts
-NamedIf false parts = Unit {0}
+-- a way into a tuple: of how many items it is and which one is meant, and so on for the tuples within
+abbrev pub Path : Type 0
+Path = List (ℕ × ℕ)
 
 abbrev pub step_of : Subject → Option ℤ
 step_of (Over site e) = None
@@ -105,8 +94,8 @@ LocalIn n (Some i) = i < n
 abbrev pub Place : Type 1
 Place = ℕ → ℕ → ℕ → Type 0
 
--- The program and all its graphs. Where `named`, the targets in tuples are names. The part is one of function f, which has n locals.
-module _ (p : Program) (gs : Graphs) (named : Bool) (f n : ℕ) where
+-- The program and all its graphs. The part is one of function f, which has n locals.
+module _ (p : Program) (gs : Graphs) (f n : ℕ) where
   -- block b has this shape, with m inputs, whatever its first variable is and whatever node its operation has
   abbrev pub Is : ℕ → ℕ → Shape → Type 0
   Is b m shape = (base node : ℕ) × (value : Bool) × (block_in (slice_get gs.graphs f) b ≡ Some (numbered base m node value shape))
@@ -149,6 +138,25 @@ module _ (p : Program) (gs : Graphs) (named : Bool) (f n : ℕ) where
   Asks sc e E Sides b m so other_way =
       ((k : ℕ) × E b m k × Truth sc e k m m so other_way)
       ⊎ ((k c : ℕ) × Sides b m c k × Truth sc e k m (m + c) so other_way)
+
+  -- ---- items of tuples
+
+  -- the tuple at a place of w variables is unpacked along a path, each item behind the first m variables, and the last goes on as said
+  abbrev pub Unpacks : Scope → (ℕ → Jump) → ℕ → Path → ℕ → ℕ → ℕ → Type 0
+  Unpacks sc last m [] at w b = ⊥
+  Unpacks sc last m (part ∷ []) at w b = Acts sc b (row.Unpack part.0 part.1) (at ∷ []) w (last w)
+  Unpacks sc last m (part ∷ next ∷ path) at w b =
+      (k : ℕ) × Acts sc b (row.Unpack part.0 part.1) (at ∷ []) w (first_and k m w) × Unpacks sc last m (next ∷ path) m (m + 1) k
+
+  -- the tuple at a place has an item at the path
+  abbrev pub There : Scope → Path → ℕ → Place
+  There sc [] at b m q = b ≡ q
+  There sc (part ∷ path) at b m q = Unpacks sc (λ w. first q m) m (part ∷ path) at m b
+
+  -- the item at the path stands at place v of w variables: it is the variable itself, or one more
+  abbrev pub Taken : Scope → Path → ℕ → ℕ → ℕ → ℕ → ℕ → ℕ → Type 0
+  Taken sc [] at b m q v w = (b ≡ q) × (v ≡ at) × (w ≡ m)
+  Taken sc (part ∷ path) at b m q v w = Unpacks sc (first_and q m) m (part ∷ path) at m b × (v ≡ m) × (w ≡ m + 1)
 
   -- ---- expressions, by the places of their parts
 
@@ -233,7 +241,7 @@ module _ (p : Program) (gs : Graphs) (named : Bool) (f n : ℕ) where
     HasExpr sc (Or a e) b m q = OrAt sc (Asks sc a (HasExpr sc a) (HasSides sc a)) (HasExpr sc e) b m q
     HasExpr sc (Display site pairs) b m q = DisplayAt sc site (HasPairs sc pairs) b m q
     HasExpr sc (Comprehension site item target subject condition) b m q =
-        ComprehensionAt sc site (HasSubject sc subject) (GathersAt sc (step_of subject) (HasExpr sc item) (HasBind sc target) (HasCondition sc condition)) b m q
+        ComprehensionAt sc site (HasSubject sc subject) (GathersAt sc (step_of subject) (HasExpr sc item) (HasBind sc target []) (HasCondition sc condition)) b m q
 
     -- the operands, each one variable more
     pub HasExprs : Scope → Exprs → Place
@@ -257,7 +265,7 @@ module _ (p : Program) (gs : Graphs) (named : Bool) (f n : ℕ) where
         Asks sc (Display site pairs) (DisplayAt sc site (HasPairs sc pairs)) (λ b m c q. ⊥) b m (plainly so) (plainly other_way)
     HasTest sc (Comprehension site item target subject condition) b m so other_way =
         Asks sc (Comprehension site item target subject condition)
-        (ComprehensionAt sc site (HasSubject sc subject) (GathersAt sc (step_of subject) (HasExpr sc item) (HasBind sc target) (HasCondition sc condition)))
+        (ComprehensionAt sc site (HasSubject sc subject) (GathersAt sc (step_of subject) (HasExpr sc item) (HasBind sc target []) (HasCondition sc condition)))
         (λ b m c q. ⊥) b m (plainly so) (plainly other_way)
 
     -- the one operand of `not`, as a test
@@ -292,28 +300,35 @@ module _ (p : Program) (gs : Graphs) (named : Bool) (f n : ℕ) where
     HasCondition sc Always b m so other_way = b ≡ so
     HasCondition sc (Where e) b m so other_way = HasTest sc e b m so other_way
 
-    -- the target takes the value at a place, where m variables are there, and goes on with the first ones
-    pub HasBind : Scope → Target → ℕ → ℕ → ℕ → ℕ → ℕ → Type 0
-    HasBind sc (Name i) value m keep b q = (i < n) × Acts sc b row.Copy (value ∷ []) m (stored q keep i m)
-    HasBind sc (Attribute e name) value m keep b q =
-        (k : ℕ) × HasExpr sc e b m k × Acts sc k (row.StoreAttr name) (m ∷ value ∷ []) (m + 1) (first q keep)
-    HasBind sc (Item a i) value m keep b q =
-        (k l : ℕ) × HasExpr sc a b m k × HasExpr sc i k (m + 1) l × Acts sc l row.StoreIndex (m ∷ (m + 1) ∷ value ∷ []) (m + 2) (first q keep)
-    HasBind sc (Parts parts) value m keep b q =
-        (k l : ℕ)
-        × Acts sc b row.Copy (value ∷ []) m (first k m)
-        × HasItems sc parts (target_count parts) 0 value m k l
-        × Is l m (Go (first q keep))
-        × NamedIf named parts
+    -- The target takes the value at a place, or the item of it at a path, where m variables are there, and goes on with the first ones.
+    -- Whether the item is there is asked first; it is taken when the parts of the target are evaluated, so that it is not held before.
+    pub HasBind : Scope → Target → Path → ℕ → ℕ → ℕ → ℕ → ℕ → Type 0
+    HasBind sc (Name i) path at m keep b q = (k v w : ℕ) × (i < n) × Taken sc path at b m k v w × Acts sc k row.Copy (v ∷ []) w (stored q keep i w)
+    HasBind sc (Attribute e name) path at m keep b q =
+        (k l r v w : ℕ)
+        × There sc path at b m k
+        × HasExpr sc e k m l
+        × Taken sc path at l (m + 1) r v w
+        × Acts sc r (row.StoreAttr name) (m ∷ v ∷ []) w (first q keep)
+    HasBind sc (Item a i) path at m keep b q =
+        (k l o r v w : ℕ)
+        × There sc path at b m k
+        × HasExpr sc a k m l
+        × HasExpr sc i l (m + 1) o
+        × Taken sc path at o (m + 2) r v w
+        × Acts sc r row.StoreIndex (m ∷ (m + 1) ∷ v ∷ []) w (first q keep)
+    HasBind sc (Parts parts) path at m keep b q =
+        (k l r v w : ℕ)
+        × Taken sc path at b m k v w
+        × Acts sc k row.Copy (v ∷ []) w (first l m)
+        × HasItems sc parts (target_count parts) 0 path at l m r
+        × Is r m (Go (first q keep))
 
-    -- the targets from a place on take the items of the tuple at a place of the block
-    pub HasItems : Scope → Targets → ℕ → ℕ → ℕ → Place
-    HasItems sc no_targets c i value m b q = b ≡ q
-    HasItems sc (more_targets t ts) c i value m b q =
-        (k l : ℕ)
-        × Acts sc b (row.Unpack c i) (value ∷ []) m (first_and k m m)
-        × HasBind sc t m (m + 1) m k l
-        × HasItems sc ts c (suc i) value m l q
+    -- the targets from a place on take the items of the tuple at a path
+    pub HasItems : Scope → Targets → ℕ → ℕ → Path → ℕ → Place
+    HasItems sc no_targets c i path at b m q = b ≡ q
+    HasItems sc (more_targets t ts) c i path at b m q =
+        (k : ℕ) × HasBind sc t (path ++ (c, i) ∷ []) at m m b k × HasItems sc ts c (suc i) path at k m q
 
   -- ---- statements
 
@@ -328,8 +343,8 @@ module _ (p : Program) (gs : Graphs) (named : Bool) (f n : ℕ) where
   -- the targets take the value at m, which goes on as long as one is left
   abbrev pub HasTargets : Scope → Targets → Place
   HasTargets sc no_targets b m q = Is b (m + 1) (Go (first q m))
-  HasTargets sc (more_targets t no_targets) b m q = HasBind sc t m (m + 1) m b q
-  HasTargets sc (more_targets t (more_targets u ts)) b m q = (k : ℕ) × HasBind sc t m (m + 1) (m + 1) b k × HasTargets sc (more_targets u ts) k m q
+  HasTargets sc (more_targets t no_targets) b m q = HasBind sc t [] m (m + 1) m b q
+  HasTargets sc (more_targets t (more_targets u ts)) b m q = (k : ℕ) × HasBind sc t [] m (m + 1) (m + 1) b k × HasTargets sc (more_targets u ts) k m q
 
   -- the operation on the old value and the right side, the last two of m + 2 variables
   abbrev pub NewAt : Scope → RowOp → Place
@@ -394,7 +409,7 @@ module _ (p : Program) (gs : Graphs) (named : Bool) (f n : ℕ) where
     HasStmt sc (If e so other_way) b m t = (k l : ℕ) × HasTest sc e b m k l × HasBlock sc so k m t × HasBlock sc other_way l m t
     HasStmt sc (While e body) b m t = WhileAt sc (HasTest sc e) (HasBlock sc body) b m t
     HasStmt sc (For target subject body) b m t =
-        (head : ℕ) × HasSubject sc subject b m head × ForAt sc (step_of subject) (HasBind sc target) (HasBlock sc body) head m t
+        (head : ℕ) × HasSubject sc subject b m head × ForAt sc (step_of subject) (HasBind sc target []) (HasBlock sc body) head m t
     HasStmt sc (Try body clauses other) b m t =
         (after : ℕ) × (hands : List Hand) × (default : Aim)
         × HasBlock sc other after m t
@@ -444,18 +459,18 @@ outside n =
 abbrev pub no_try : Scope
 no_try = record { hands = []; default = record { to = raise_block; keep = 0 }; covers = no_covers; tried = false }
 
-module _ (p : Program) (gs : Graphs) (named : Bool) where
+module _ (p : Program) (gs : Graphs) where
   -- a function stands in its graph: the five first blocks, and its body, whose end gives `None`
   abbrev pub HasFunction : ℕ → Function → Type 0
   HasFunction f function =
       (begin : ℕ)
       × (length function.defaults ≤ function.locals)
-      × Is p gs named f function.locals head_block function.locals (Go (first begin function.locals))
-      × Is p gs named f function.locals return_block 1 GiveBack
-      × Is p gs named f function.locals raise_block 1 GiveUp
-      × Is p gs named f function.locals never_block 0 (Go (first never_block 0))
-      × Is p gs named f function.locals end_block function.locals (Plain row.None (first_and return_block 0 function.locals))
-      × HasBlock p gs named f function.locals no_try function.body begin function.locals (outside function.locals)
+      × Is p gs f function.locals head_block function.locals (Go (first begin function.locals))
+      × Is p gs f function.locals return_block 1 GiveBack
+      × Is p gs f function.locals raise_block 1 GiveUp
+      × Is p gs f function.locals never_block 0 (Go (first never_block 0))
+      × Is p gs f function.locals end_block function.locals (Plain row.None (first_and return_block 0 function.locals))
+      × HasBlock p gs f function.locals no_try function.body begin function.locals (outside function.locals)
 
   abbrev pub IfFunction : ℕ → Option Function → Type 0
   IfFunction f None = Unit {0}

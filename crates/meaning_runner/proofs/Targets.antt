@@ -11,7 +11,7 @@ use Rattle.rpy_resolved.specs.declared.tree.Resolved.{Resolved}
 use Rattle.meaning_runner.specs.declared.place.Place.{Place}
 use Rattle.meaning_runner.specs.declared.stop.Stop.{Stop}
 use Rattle.meaning_runner.specs.Endings.{Stops, Ends}
-use Rattle.meaning_runner.specs.Evaluates.{bind, bind_part, bind_parts, operate, store_pair, store_pairs, value}
+use Rattle.meaning_runner.specs.Evaluates.{take, take_part, take_parts, operate, store_pair, store_pairs, value}
 use Rattle.resolved_meaning.specs.Trees.{target_of, targets_of}
 use Rattle.meaning_runner.proofs.Endings.{goes_then, stops_then}
 
@@ -42,14 +42,14 @@ parts_count sites [] = refl
 parts_count sites (t ∷ ts) = ap suc (parts_count sites ts)
 
 module _ (r : Resolved) (at : Place) (count place : ℕ) (t : Target) (ts : List Target) (v : Value) (s u : State) where
-  parts_are : bind_parts r at count place (t ∷ ts) v s ≡ then_go (bind_part r at count place t v s) (λ _. bind_parts r at count (suc place) ts v)
-  parts_are = sym (then_then (operate r at [] (row.Unpack count place) (v ∷ []) s) (bind r at t) (λ _. bind_parts r at count (suc place) ts v))
+  parts_are : take_parts r at count place (t ∷ ts) v s ≡ then_go (take_part r at count place t v s) (λ _. take_parts r at count (suc place) ts v)
+  parts_are = sym (then_then (operate r at [] (row.Unpack count place) (v ∷ []) s) (λ x. take r at t (x ∷ []) x) (λ _. take_parts r at count (suc place) ts v))
 
-  pub part_stops : (stop : Stop) → Ends (bind_part r at count place t v s) (Err stop) u → Ends (bind_parts r at count place (t ∷ ts) v s) (Err stop) u
+  pub part_stops : (stop : Stop) → Ends (take_part r at count place t v s) (Err stop) u → Ends (take_parts r at count place (t ∷ ts) v s) (Err stop) u
   part_stops stop h = rw parts_are (stops_then _ _ stop u h)
 
-  pub part_goes : Ends (bind_part r at count place t v s) (Ok tt) u → bind_parts r at count place (t ∷ ts) v s ≡ bind_parts r at count (place + 1) ts v u
-  part_goes h = let e : bind_part r at count place t v s ≡ Done tt u = h.so in rw (parts_are, e, add-one place)
+  pub part_goes : Ends (take_part r at count place t v s) (Ok tt) u → take_parts r at count place (t ∷ ts) v s ≡ take_parts r at count (place + 1) ts v u
+  part_goes h = let e : take_part r at count place t v s ≡ Done tt u = h.so in rw (parts_are, e, add-one place)
 
 module _ (r : Resolved) (at : Place) (dict : Value) (p : Expr × Expr) (ps : List (Expr × Expr)) (s u : State) where
   pairs_are : store_pairs r at dict (p ∷ ps) s ≡ then_go (store_pair r at dict p s) (λ _. store_pairs r at dict ps)

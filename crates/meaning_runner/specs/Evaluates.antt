@@ -1,5 +1,5 @@
 -- The meaning of the parts of a resolved program, at a place.
-use Rattle.std.specs.Prelude.{ℕ, zero, suc, ◌+◌, ℤ, Bool, true, false, List, [], ◌∷◌, ◌++◌, map, length, replicate, ◌-◌, slice_get, Option, Some, None, option_map, if◌then◌else◌}
+use Rattle.std.specs.Prelude.{cond, ℕ, zero, suc, ◌+◌, ℤ, Bool, true, false, List, [], ◌∷◌, ◌++◌, map, length, replicate, ◌-◌, slice_get, Option, Some, None, option_map, if◌then◌else◌}
 use Rattle.rpy_tree.specs.Value.{Value, Ref}
 use Rattle.rpy_meaning.specs.declared.row.RowOp.{RowOp}
 use Rattle.rpy_meaning.specs.declared.row.RowOp.TheVariants as row
@@ -27,6 +27,10 @@ below p (suc n) = within p unwatched n
 abbrev pub given : Option Value → List Value → Option Value
 given default [] = default
 given default (v ∷ args) = Some v
+
+-- what is held by a store alone: a value that is an item of a tuple
+abbrev pub own : Bool → Value → List Value
+own inner v = cond inner (v ∷ []) []
 
 abbrev pub behind : List Value → List Value
 behind [] = []
@@ -136,12 +140,15 @@ module _ (r : Resolved) (at : Place) where
   abbrev pub bind : Target → Value → Eval (Unit {0})
   bind t v = meaning.bind (program_of r) unwatched asked at.covers (target_of r.sites t) v
 
-  -- the targets from a place on, of so many
-  abbrev pub bind_parts : ℕ → ℕ → List Target → Value → Eval (Unit {0})
-  bind_parts count place ts v = meaning.bind_parts (program_of r) unwatched asked at.covers count place (targets_of r.sites ts) v
+  abbrev pub take : Target → List Value → Value → Eval (Unit {0})
+  take t held v = meaning.take (program_of r) unwatched asked at.covers (target_of r.sites t) held v
 
-  abbrev pub bind_part : ℕ → ℕ → Target → Value → Eval (Unit {0})
-  bind_part count place t v = operate [] (row.Unpack count place) (v ∷ []) >>= bind t
+  -- the targets from a place on, of so many, take the items of a tuple
+  abbrev pub take_parts : ℕ → ℕ → List Target → Value → Eval (Unit {0})
+  take_parts count place ts v = meaning.take_parts (program_of r) unwatched asked at.covers count place (targets_of r.sites ts) v
+
+  abbrev pub take_part : ℕ → ℕ → Target → Value → Eval (Unit {0})
+  take_part count place t v = operate [] (row.Unpack count place) (v ∷ []) >>= (λ x. take t (x ∷ []) x)
 
   abbrev pub assign : List Target → Value → Eval (Unit {0})
   assign ts v = meaning.assign (program_of r) unwatched asked at.covers (targets_of r.sites ts) v

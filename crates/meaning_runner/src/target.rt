@@ -11,7 +11,7 @@ use crate::call::{operated, perform, perform_holding};
 use crate::expression::{value, value_holding};
 use crate::place::Place;
 use crate::stop::{State, Stop, deeper, holding, local, set_local};
-use crate::task::{small, three, two};
+use crate::task::{held_with, held_with_both, small, three, two};
 use rpy_base::Text;
 use rpy_meaning::RowOp;
 use rpy_resolved::{Expr, Resolved, Target};
@@ -32,22 +32,24 @@ pub fn bind_holding(
     ensures { Ends (eval.holding (v.now ∷ []) (spec.bind program.now place target.now v.now) (state_of state.old)) result (state_of state.new) }
 {
     let depth = deeper(depth)?;
-    match bind(program, depth, state, place, target, v) {
+    match take(program, depth, state, place, target, false, v) {
         Ok(()) => Ok(()),
         Err(stop) => Err(holding(state.alloc, stop, slice::from_ref(v))),
     }
 }
 
+// The store holds the value, too, where it is an item of a tuple.
 #[cycle(evaluate)]
-fn bind(
+fn take(
     program: &Resolved,
     depth: u32,
     state: &mut State,
     place: Place,
     target: &Target,
+    inner: bool,
     v: &Val,
 ) -> Result<(), Stop>
-    ensures { Ends (spec.bind program.now place target.now v.now (state_of state.old)) result (state_of state.new) }
+    ensures { Ends (spec.take program.now place target.now (spec.own inner v.now) v.now (state_of state.old)) result (state_of state.new) }
 {
     let depth = deeper(depth)?;
     match target {
@@ -56,51 +58,63 @@ fn bind(
             set_local(state, *at, copy);
             Ok(())
         }
-        Target::Attr(_, e, name) => bind_attribute(program, depth, state, place, e, name, v),
-        Target::Item(_, a, i) => bind_item(program, depth, state, place, a, i, v),
-        Target::Parts(_, parts) => bind_tuple(program, depth, state, place, parts.as_slice(), v),
+        Target::Attr(_, e, name) => {
+            take_attribute(program, depth, state, place, e, name, inner, v)
+        }
+        Target::Item(_, a, i) => take_item(program, depth, state, place, a, i, inner, v),
+        Target::Parts(_, parts) => take_tuple(program, depth, state, place, parts.as_slice(), v),
     }
 }
 
 #[cycle(evaluate)]
 #[tactic(auto, using(crate::proofs::Endings::goes_then, crate::proofs::Endings::stops_then))]
-fn bind_attribute(
+fn take_attribute(
     program: &Resolved,
     depth: u32,
     state: &mut State,
     place: Place,
     e: &Expr,
     name: &Text,
+    inner: bool,
     v: &Val,
 ) -> Result<(), Stop>
-    ensures { Ends (meaning.bind (program_of program.now) meaning.unwatched (spec.asked program.now place) place.covers (tree.Attribute (expr_of program.now.sites e.now) name.now) v.now (state_of state.old)) result (state_of state.new) }
+    ensures { Ends (meaning.take (program_of program.now) meaning.unwatched (spec.asked program.now place) place.covers (tree.Attribute (expr_of program.now.sites e.now) name.now) (spec.own inner v.now) v.now (state_of state.old)) result (state_of state.new) }
 {
     let depth = deeper(depth)?;
     let x = value(program, depth, state, place, e)?;
     let op = RowOp::StoreAttr(name.copy(state.alloc)?);
     let operands = two(state.alloc, &x, v)?;
-    let held = slice::from_ref(&x);
-    operated(program, depth, state, place, held, &op, operands.as_slice())?;
+    let held = held_with(state.alloc, &x, inner, v)?;
+    operated(
+        program,
+        depth,
+        state,
+        place,
+        held.as_slice(),
+        &op,
+        operands.as_slice(),
+    )?;
     Ok(())
 }
 
 #[cycle(evaluate)]
 #[tactic(auto, using(crate::proofs::Endings::goes_then, crate::proofs::Endings::stops_then))]
-fn bind_item(
+fn take_item(
     program: &Resolved,
     depth: u32,
     state: &mut State,
     place: Place,
     a: &Expr,
     i: &Expr,
+    inner: bool,
     v: &Val,
 ) -> Result<(), Stop>
-    ensures { Ends (meaning.bind (program_of program.now) meaning.unwatched (spec.asked program.now place) place.covers (tree.Item (expr_of program.now.sites a.now) (expr_of program.now.sites i.now)) v.now (state_of state.old)) result (state_of state.new) }
+    ensures { Ends (meaning.take (program_of program.now) meaning.unwatched (spec.asked program.now place) place.covers (tree.Item (expr_of program.now.sites a.now) (expr_of program.now.sites i.now)) (spec.own inner v.now) v.now (state_of state.old)) result (state_of state.new) }
 {
     let depth = deeper(depth)?;
     let x = value(program, depth, state, place, a)?;
     let y = value_holding(program, depth, state, place, slice::from_ref(&x), i)?;
-    let held = two(state.alloc, &x, &y)?;
+    let held = held_with_both(state.alloc, &x, &y, inner, v)?;
     let operands = three(state.alloc, &x, &y, v)?;
     let op = RowOp::StoreIndex;
     operated(
@@ -116,7 +130,7 @@ fn bind_item(
 }
 
 #[cycle(evaluate)]
-fn bind_tuple(
+fn take_tuple(
     program: &Resolved,
     depth: u32,
     state: &mut State,
@@ -124,16 +138,16 @@ fn bind_tuple(
     parts: &[Target],
     v: &Val,
 ) -> Result<(), Stop>
-    ensures { Ends (meaning.bind (program_of program.now) meaning.unwatched (spec.asked program.now place) place.covers (tree.Parts (targets_of program.now.sites parts.now)) v.now (state_of state.old)) result (state_of state.new) }
+    ensures { Ends (meaning.take_parts (program_of program.now) meaning.unwatched (spec.asked program.now place) place.covers (meaning.target_count (targets_of program.now.sites parts.now)) 0 (targets_of program.now.sites parts.now) v.now (state_of state.old)) result (state_of state.new) }
 {
     let depth = deeper(depth)?;
-    bind_parts(program, depth, state, place, parts, v)
+    take_parts(program, depth, state, place, parts, v)
 }
 
 // The targets take the items of a tuple.
 #[cycle(evaluate)]
 #[tactic(auto, using(crate::proofs::Targets::part_stops, crate::proofs::Targets::part_goes))]
-fn bind_parts(
+fn take_parts(
     program: &Resolved,
     depth: u32,
     state: &mut State,
@@ -141,14 +155,14 @@ fn bind_parts(
     parts: &[Target],
     v: &Val,
 ) -> Result<(), Stop>
-    ensures { Ends (spec.bind_parts program.now place (length parts.now) 0 parts.now v.now (state_of state.old)) result (state_of state.new) }
+    ensures { Ends (spec.take_parts program.now place (length parts.now) 0 parts.now v.now (state_of state.old)) result (state_of state.new) }
 {
     let depth = deeper(depth)?;
     let count = small(parts.len())?;
     let mut at = 0;
     let mut rest = parts;
     while let [part, after @ ..] = rest {
-        bind_part(program, depth, state, place, (count, at), part, v)?;
+        take_part(program, depth, state, place, (count, at), part, v)?;
         if at == u32::MAX {
             return Err(Stop::NoMem);
         }
@@ -161,7 +175,7 @@ fn bind_parts(
 // The part at a place, of so many.
 #[cycle(evaluate)]
 #[tactic(auto, using(crate::proofs::Endings::goes_then, crate::proofs::Endings::stops_then))]
-fn bind_part(
+fn take_part(
     program: &Resolved,
     depth: u32,
     state: &mut State,
@@ -170,12 +184,12 @@ fn bind_part(
     part: &Target,
     v: &Val,
 ) -> Result<(), Stop>
-    ensures { Ends (spec.bind_part program.now place at.0 at.1 part.now v.now (state_of state.old)) result (state_of state.new) }
+    ensures { Ends (spec.take_part program.now place at.0 at.1 part.now v.now (state_of state.old)) result (state_of state.new) }
 {
     let depth = deeper(depth)?;
     let op = RowOp::Unpack(at.0, at.1);
     let item = operated(program, depth, state, place, &[], &op, slice::from_ref(v))?;
-    bind(program, depth, state, place, part, &item)
+    take(program, depth, state, place, part, true, &item)
 }
 
 /// A value is held until all its targets are bound.
@@ -213,7 +227,7 @@ fn assign(
     let depth = deeper(depth)?;
     let mut rest = targets;
     while let [target, after @ ..] = rest {
-        bind(program, depth, state, place, target, v)?;
+        take(program, depth, state, place, target, false, v)?;
         rest = after;
     }
     Ok(())

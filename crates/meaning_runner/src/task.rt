@@ -38,6 +38,36 @@ pub fn three(alloc: Global, x: &Val, y: &Val, z: &Val) -> Result<Seq<Val>, NoMem
     Ok(row)
 }
 
+/// What a store to x holds, and with it the value where this is an item of a tuple.
+pub fn held_with(alloc: Global, x: &Val, inner: bool, v: &Val) -> Result<Seq<Val>, NoMem>
+    ensures { IfOk result (λ held. held ≡ x.now ∷ own.own inner v.now) }
+{
+    if inner {
+        two(alloc, x, v)
+    } else {
+        let mut held = Seq::new(alloc);
+        held.push(copy_value(alloc, x)?)?;
+        Ok(held)
+    }
+}
+
+/// The same, of a store at a place y.
+pub fn held_with_both(
+    alloc: Global,
+    x: &Val,
+    y: &Val,
+    inner: bool,
+    v: &Val,
+) -> Result<Seq<Val>, NoMem>
+    ensures { IfOk result (λ held. held ≡ x.now ∷ y.now ∷ own.own inner v.now) }
+{
+    if inner {
+        three(alloc, x, y, v)
+    } else {
+        two(alloc, x, y)
+    }
+}
+
 /// A count that fits an operation's.
 pub fn small(count: usize) -> Result<u32, NoMem>
     ensures { IfOk result (λ n. n ≡ count) }

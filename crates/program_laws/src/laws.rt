@@ -8,10 +8,12 @@ ghost use Rattle.rpy_front.specs.Modules.{AreModules};
 ghost use Rattle.resolved_laws.specs.Meant.{meant_by};
 ghost use Rattle.flow_graph.specs.declared.graph.Graphs.{Graphs};
 ghost use Rattle.flow_meaning.specs.Meaning.{GMeans};
-ghost use Rattle.flow_stands.specs.Follows.{EndsLike};
+ghost use Rattle.flow_stands.specs.Follows.{EndsLike, UsesNoMore};
 ghost use Rattle.flow_space.specs.Placed.{StandFor};
 
-use flow_laws::{flow_graphs_end_as_their_program, flow_graphs_have_an_ending};
+use flow_laws::{
+    flow_graphs_end_as_their_program, flow_graphs_have_an_ending, flow_graphs_use_no_more,
+};
 use front_laws::modules_have_no_inner_classes;
 use names_forest::{builtins_stand_below_exception, programs_have_their_functions};
 
@@ -37,4 +39,14 @@ pub fn graphs_of_texts_end_as_their_program()
     programs_have_their_functions();
     builtins_stand_below_exception();
     flow_graphs_end_as_their_program();
+}
+
+/// Where steps run out, what the graphs still use holds no more than what the program holds there.
+pub fn graphs_of_texts_use_no_more()
+    ensures { (sources names : List (List ℕ)) (modules : List Named) (p : Program) (gs : Graphs) → AreModules sources names modules → prog modules ≡ Some p → StandFor p gs → (args : List (List ℕ)) (n : ℕ) (q : Run) → GMeans (meant_by p) gs args n q → UsesNoMore (meant_by p) q (mean (meant_by p) args n) }
+{
+    modules_have_no_inner_classes();
+    programs_have_their_functions();
+    builtins_stand_below_exception();
+    flow_graphs_use_no_more();
 }

@@ -3,4 +3,7 @@
 
 mod laws;
 
-pub use laws::{graphs_of_texts_end_as_their_program, graphs_of_texts_have_an_ending};
+pub use laws::{
+    graphs_of_texts_end_as_their_program, graphs_of_texts_have_an_ending,
+    graphs_of_texts_use_no_more,
+};

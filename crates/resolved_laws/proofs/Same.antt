@@ -12,7 +12,7 @@ use Rattle.rpy_meaning.specs.World.{World, Answer, Gives, Throws, Fails, Lacks, 
 use Rattle.rpy_meaning.specs.Classes.{takes, some_takes, covers_within, no_covers}
 use Rattle.rpy_meaning.specs.Operations.{op}
 use Rattle.rpy_meaning.specs.Evaluation.{State, Ending, Done, Raised, Failed, Running, Wrong, Eval, then_go, ◌>>=◌, ◌>>◌, pure, wrong, holding, pay, local, set_local, set_local_if_any, is_so, Flow, Next, Broken, Continued, Returned, next_or, after_turn, finally, leaving, parameters}
-use Rattle.rpy_meaning.specs.Meaning.{Sem, Task, Body, Loop, Turns, Gather, Walking, walk_holds, unwatched, target_count, class_in, entered, called, answered, operate, perform, on_walk, turn, turns, gather, value, values, store_pairs, begin, keeps, bind, bind_parts, assign, augment, loop, each_item, tried, statement, block, handle, task, within, ended, start, prebuilt, mean}
+use Rattle.rpy_meaning.specs.Meaning.{Sem, Task, Body, Loop, Turns, Gather, Walking, walk_holds, unwatched, target_count, class_in, entered, called, answered, operate, perform, on_walk, turn, turns, gather, value, values, store_pairs, begin, keeps, take, take_parts, bind, assign, augment, loop, each_item, tried, statement, block, handle, task, within, ended, start, prebuilt, mean}
 use Rattle.resolved_laws.specs.Uncopied.{is_checked, copy_of, bare, uncopied_expr, uncopied_exprs, uncopied_pairs, uncopied_subject, uncopied_condition, uncopied_target, uncopied_targets, uncopied_stmt, uncopied_block, uncopied_clauses, uncopied_function, uncopied}
 use Rattle.resolved_laws.proofs.Ops.{op_same}
 
@@ -219,7 +219,7 @@ module _ (p : Program) (prev prev' : Sem) (below : (t : Task) → prev' (uncopie
     value_same c (Comprehension site item target subject condition) = λ i.
         perform_same c (row.Comprehension site) [] i
         >>= (λ list. holding (list ∷ []) (begin_same c subject i)
-        >>= (λ walking. holding (list ∷ []) (gathers_same c item target condition list walking (bind_same c target) (keeps_same c condition) (value_same c item) i) >> pure list))
+        >>= (λ walking. holding (list ∷ []) (gathers_same c item target condition list walking (λ j. take_same c target j []) (keeps_same c condition) (value_same c item) i) >> pure list))
 
     values_same : (c : Covers) (es : Exprs) → values (uncopied p) unwatched prev' c (uncopied_exprs es) ≡ values p unwatched prev c es
     values_same c none = refl
@@ -247,20 +247,23 @@ module _ (p : Program) (prev prev' : Sem) (below : (t : Task) → prev' (uncopie
     keeps_same c Always = refl
     keeps_same c (Where e) = λ i. value_same c e i >>= is_so
 
-    bind_same : (c : Covers) (t : Target) → bind (uncopied p) unwatched prev' c (uncopied_target t) ≡ bind p unwatched prev c t
-    bind_same c (Name n) = refl
-    bind_same c (Attribute e name) = λ i v.
-        value_same c e i >>= (λ x. operate_same (x ∷ []) c (row.StoreAttr name) (x ∷ v ∷ []) i >> pure tt)
-    bind_same c (Item a b) = λ i v.
+    take_same : (c : Covers) (t : Target) → take (uncopied p) unwatched prev' c (uncopied_target t) ≡ take p unwatched prev c t
+    take_same c (Name n) = refl
+    take_same c (Attribute e name) = λ i own v.
+        value_same c e i >>= (λ x. operate_same (x ∷ own) c (row.StoreAttr name) (x ∷ v ∷ []) i >> pure tt)
+    take_same c (Item a b) = λ i own v.
         value_same c a i
         >>= (λ x. holding (x ∷ []) (value_same c b i)
-        >>= (λ y. operate_same (x ∷ y ∷ []) c row.StoreIndex (x ∷ y ∷ v ∷ []) i >> pure tt))
-    bind_same c (Parts ts) = λ i v. (ap (λ n. bind_parts (uncopied p) unwatched prev' c n 0 (uncopied_targets ts) v) (count_same ts) ∙ parts_same c (target_count ts) 0 ts v) i
+        >>= (λ y. operate_same (x ∷ y ∷ own) c row.StoreIndex (x ∷ y ∷ v ∷ []) i >> pure tt))
+    take_same c (Parts ts) = λ i own v. (ap (λ n. take_parts (uncopied p) unwatched prev' c n 0 (uncopied_targets ts) v) (count_same ts) ∙ parts_same c (target_count ts) 0 ts v) i
 
-    parts_same : (c : Covers) (n k : ℕ) (ts : Targets) (v : Value) → bind_parts (uncopied p) unwatched prev' c n k (uncopied_targets ts) v ≡ bind_parts p unwatched prev c n k ts v
+    parts_same : (c : Covers) (n k : ℕ) (ts : Targets) (v : Value) → take_parts (uncopied p) unwatched prev' c n k (uncopied_targets ts) v ≡ take_parts p unwatched prev c n k ts v
     parts_same c n k no_targets v = refl
     parts_same c n k (more_targets t ts) v = λ i.
-        operate_same [] c (row.Unpack n k) (v ∷ []) i >>= (λ x. bind_same c t i x >> parts_same c n (suc k) ts v i)
+        operate_same [] c (row.Unpack n k) (v ∷ []) i >>= (λ x. take_same c t i (x ∷ []) x >> parts_same c n (suc k) ts v i)
+
+  bind_same : (c : Covers) (t : Target) → bind (uncopied p) unwatched prev' c (uncopied_target t) ≡ bind p unwatched prev c t
+  bind_same c t = λ i. take_same c t i []
 
   -- ---- assignments
 

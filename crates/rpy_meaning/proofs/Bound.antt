@@ -16,7 +16,7 @@ use Rattle.rpy_meaning.specs.Laws.{with_more, SameWithMore, OnLater}
 use Rattle.rpy_meaning.specs.Operations.{op}
 use Rattle.rpy_meaning.specs.Classes.{takes, covers_within, no_covers}
 use Rattle.rpy_meaning.specs.Evaluation.{State, Ending, Done, Raised, Failed, Running, Wrong, Eval, then_go, ◌>>=◌, ◌>>◌, pure, raised, wrong, holding, add_held, pay, bound, local, set_local, set_local_if_any, known, is_so, Flow, Next, Broken, Continued, Returned, next_or, after_turn, pending, finally, leaving, parameters}
-use Rattle.rpy_meaning.specs.Meaning.{Sem, Task, Body, Loop, Turns, Gather, Walking, walk_holds, unwatched, frame, entered, called, answered, operate, perform, on_walk, turn, turns, gather, value, values, store_pairs, begin, keeps, bind, bind_parts, target_count, assign, augment, loop, each_item, tried, statement, block, handle, task, within, class_in, start, over, returned, name_of, ended, mean, prebuilt}
+use Rattle.rpy_meaning.specs.Meaning.{Sem, Task, Body, Loop, Turns, Gather, Walking, walk_holds, unwatched, frame, entered, called, answered, operate, perform, on_walk, turn, turns, gather, value, values, store_pairs, begin, keeps, take, take_parts, bind, target_count, assign, augment, loop, each_item, tried, statement, block, handle, task, within, class_in, start, over, returned, name_of, ended, mean, prebuilt}
 use Rattle.rpy_meaning.specs.Bounds.{EndsAlike}
 use Rattle.rpy_meaning.proofs.Lawful.{lawful}
 use Rattle.rpy_meaning.proofs.Steady.{none_more, steady}
@@ -272,7 +272,7 @@ module _ (k : ℕ) where
       value_good c (Comprehension site item target subject condition) =
           bind_good (perform_good c (row.Comprehension site) []) (λ list.
           bind_good (holding_good (list ∷ []) (begin_good c subject)) (λ x.
-          then_good (holding_good (list ∷ []) (turns_good (gather_good (bind_good_at c target) (keeps_good c condition) (value_good c item) c list) (λ rest. prev_good (Gather c item target condition list rest)) x))
+          then_good (holding_good (list ∷ []) (turns_good (gather_good (take_good_at c target []) (keeps_good c condition) (value_good c item) c list) (λ rest. prev_good (Gather c item target condition list rest)) x))
           (pure_good list)))
 
       values_good : (c : Covers) (es : Exprs) → Good (suc d) (values p unwatched prev c es) (values p unwatched prev' c es)
@@ -294,17 +294,20 @@ module _ (k : ℕ) where
       keeps_good c Always = pure_good true
       keeps_good c (Where e) = bind_good (value_good c e) so_good
 
-      bind_good_at : (c : Covers) (t : Target) (v : Value) → Good (suc d) (bind p unwatched prev c t v) (bind p unwatched prev' c t v)
-      bind_good_at c (Name i) v = set_good i v
-      bind_good_at c (Attribute e name) v = bind_good (value_good c e) (λ x. then_good (operate_good (x ∷ []) c (row.StoreAttr name) (x ∷ v ∷ [])) (pure_good tt))
-      bind_good_at c (Item a i) v =
+      take_good_at : (c : Covers) (t : Target) (own : List Value) (v : Value) → Good (suc d) (take p unwatched prev c t own v) (take p unwatched prev' c t own v)
+      take_good_at c (Name i) own v = set_good i v
+      take_good_at c (Attribute e name) own v = bind_good (value_good c e) (λ x. then_good (operate_good (x ∷ own) c (row.StoreAttr name) (x ∷ v ∷ [])) (pure_good tt))
+      take_good_at c (Item a i) own v =
           bind_good (value_good c a) (λ x. bind_good (holding_good (x ∷ []) (value_good c i)) (λ y.
-          then_good (operate_good (x ∷ y ∷ []) c row.StoreIndex (x ∷ y ∷ v ∷ [])) (pure_good tt)))
-      bind_good_at c (Parts ts) v = parts_good c (target_count ts) 0 ts v
+          then_good (operate_good (x ∷ y ∷ own) c row.StoreIndex (x ∷ y ∷ v ∷ [])) (pure_good tt)))
+      take_good_at c (Parts ts) own v = parts_good c (target_count ts) 0 ts v
 
-      parts_good : (c : Covers) (n i : ℕ) (ts : Targets) (v : Value) → Good (suc d) (bind_parts p unwatched prev c n i ts v) (bind_parts p unwatched prev' c n i ts v)
+      parts_good : (c : Covers) (n i : ℕ) (ts : Targets) (v : Value) → Good (suc d) (take_parts p unwatched prev c n i ts v) (take_parts p unwatched prev' c n i ts v)
       parts_good c n i no_targets v = pure_good tt
-      parts_good c n i (more_targets t ts) v = bind_good (operate_good [] c (row.Unpack n i) (v ∷ [])) (λ x. then_good (bind_good_at c t x) (parts_good c n (suc i) ts v))
+      parts_good c n i (more_targets t ts) v = bind_good (operate_good [] c (row.Unpack n i) (v ∷ [])) (λ x. then_good (take_good_at c t (x ∷ []) x) (parts_good c n (suc i) ts v))
+
+    bind_good_at : (c : Covers) (t : Target) (v : Value) → Good (suc d) (bind p unwatched prev c t v) (bind p unwatched prev' c t v)
+    bind_good_at c t v = take_good_at c t [] v
 
     -- ---- statements
 

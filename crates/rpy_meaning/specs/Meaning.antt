@@ -140,7 +140,7 @@ module _ (p : Program) (watch : Watch) (prev : Sem) where
     value c (Comprehension site item target subject condition) = do
       list ← perform c (row.Comprehension site) []
       walking ← holding (list ∷ []) (begin c subject)
-      holding (list ∷ []) (turns (gather (bind c target) (keeps c condition) (value c item) c list) (λ rest. prev (Gather c item target condition list rest)) walking)
+      holding (list ∷ []) (turns (gather (take c target []) (keeps c condition) (value c item) c list) (λ rest. prev (Gather c item target condition list rest)) walking)
       pure list
 
     -- from left to right, each held while the next are evaluated
@@ -178,27 +178,31 @@ module _ (p : Program) (watch : Watch) (prev : Sem) where
     keeps c Always = pure true
     keeps c (Where e) = value c e >>= is_so
 
-    -- a target takes a value, which its assignment or loop holds
-    pub bind : Covers → Target → Value → Eval (Unit {0})
-    bind c (Name i) v = set_local i v
-    bind c (Attribute e name) v = do
+    -- A target takes a value, which its assignment or loop holds. In a tuple they hold the whole: its item is one of the store's own, which
+    -- the store holds besides.
+    pub take : Covers → Target → List Value → Value → Eval (Unit {0})
+    take c (Name i) own v = set_local i v
+    take c (Attribute e name) own v = do
       x ← value c e
-      operate (x ∷ []) c (row.StoreAttr name) (x ∷ v ∷ [])
+      operate (x ∷ own) c (row.StoreAttr name) (x ∷ v ∷ [])
       pure tt
-    bind c (Item a i) v = do
+    take c (Item a i) own v = do
       x ← value c a
       y ← holding (x ∷ []) (value c i)
-      operate (x ∷ y ∷ []) c row.StoreIndex (x ∷ y ∷ v ∷ [])
+      operate (x ∷ y ∷ own) c row.StoreIndex (x ∷ y ∷ v ∷ [])
       pure tt
-    bind c (Parts parts) v = bind_parts c (target_count parts) 0 parts v
+    take c (Parts parts) own v = take_parts c (target_count parts) 0 parts v
 
     -- the targets from a place on take the items of a tuple
-    pub bind_parts : Covers → ℕ → ℕ → Targets → Value → Eval (Unit {0})
-    bind_parts c n i no_targets v = pure tt
-    bind_parts c n i (more_targets t ts) v = do
+    pub take_parts : Covers → ℕ → ℕ → Targets → Value → Eval (Unit {0})
+    take_parts c n i no_targets v = pure tt
+    take_parts c n i (more_targets t ts) v = do
       x ← operate [] c (row.Unpack n i) (v ∷ [])
-      bind c t x
-      bind_parts c n (suc i) ts v
+      take c t (x ∷ []) x
+      take_parts c n (suc i) ts v
+
+  abbrev pub bind : Covers → Target → Value → Eval (Unit {0})
+  bind c t v = take c t [] v
 
   -- ---- assignments
 

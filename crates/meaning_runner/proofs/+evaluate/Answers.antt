@@ -49,8 +49,8 @@ statement::statement-returns-in-For t c =
     let e = rw (c.get.ensures, c.get-in-For.ensures, c.as_slice-in-For.ensures) at c.for_statement.ensures in
     rw (c.in-For.is, for_is c.args.program.now.sites c.in-For.field-0 c.in-For.target c.in-For.subject c.in-For.ss) e
 
-pub target::bind_tuple-returns : goal.target::bind_tuple-returns
-target::bind_tuple-returns t c = rw (parts_count c.args.program.now.sites c.args.parts.now) c.bind_parts.ensures
+pub target::take_tuple-returns : goal.target::take_tuple-returns
+target::take_tuple-returns t c = rw (parts_count c.args.program.now.sites c.args.parts.now) c.take_parts.ensures
 
 pub turn::while_loop-returns-in-None-lower : goal.turn::while_loop-returns-in-None-lower
 turn::while_loop-returns-in-None-lower t c =

@@ -96,20 +96,20 @@ decreases-walk::keeps l = l.depth
 abbrev pub decreases-target::bind_holding : goal.decreases-target::bind_holding
 decreases-target::bind_holding l = l.depth
 
-abbrev pub decreases-target::bind : goal.decreases-target::bind
-decreases-target::bind l = l.depth
+abbrev pub decreases-target::take : goal.decreases-target::take
+decreases-target::take l = l.depth
 
-abbrev pub decreases-target::bind_attribute : goal.decreases-target::bind_attribute
-decreases-target::bind_attribute l = l.depth
+abbrev pub decreases-target::take_attribute : goal.decreases-target::take_attribute
+decreases-target::take_attribute l = l.depth
 
-abbrev pub decreases-target::bind_item : goal.decreases-target::bind_item
-decreases-target::bind_item l = l.depth
+abbrev pub decreases-target::take_item : goal.decreases-target::take_item
+decreases-target::take_item l = l.depth
 
-abbrev pub decreases-target::bind_parts : goal.decreases-target::bind_parts
-decreases-target::bind_parts l = l.depth
+abbrev pub decreases-target::take_parts : goal.decreases-target::take_parts
+decreases-target::take_parts l = l.depth
 
-abbrev pub decreases-target::bind_part : goal.decreases-target::bind_part
-decreases-target::bind_part l = l.depth
+abbrev pub decreases-target::take_part : goal.decreases-target::take_part
+decreases-target::take_part l = l.depth
 
 abbrev pub decreases-target::assign_holding : goal.decreases-target::assign_holding
 decreases-target::assign_holding l = l.depth
@@ -200,12 +200,12 @@ invariant-expression::store_pairs-loop-rest l =
 abbrev pub decreases-expression::store_pairs-loop-rest : goal.decreases-expression::store_pairs-loop-rest
 decreases-expression::store_pairs-loop-rest l = length l.rest
 
-abbrev pub invariant-target::bind_parts-loop-rest : goal.invariant-target::bind_parts-loop-rest
-invariant-target::bind_parts-loop-rest l =
-    spec.bind_parts l.program l.place l.count 0 l.parts l.v (state_of l.fn.state) ≡ spec.bind_parts l.program l.place l.count l.at l.rest l.v (state_of l.state)
+abbrev pub invariant-target::take_parts-loop-rest : goal.invariant-target::take_parts-loop-rest
+invariant-target::take_parts-loop-rest l =
+    spec.take_parts l.program l.place l.count 0 l.parts l.v (state_of l.fn.state) ≡ spec.take_parts l.program l.place l.count l.at l.rest l.v (state_of l.state)
 
-abbrev pub decreases-target::bind_parts-loop-rest : goal.decreases-target::bind_parts-loop-rest
-decreases-target::bind_parts-loop-rest l = length l.rest
+abbrev pub decreases-target::take_parts-loop-rest : goal.decreases-target::take_parts-loop-rest
+decreases-target::take_parts-loop-rest l = length l.rest
 
 abbrev pub invariant-target::assign-loop-rest : goal.invariant-target::assign-loop-rest
 invariant-target::assign-loop-rest l =
@@ -247,5 +247,5 @@ decreases-turn::while_turn l = l.depth
 abbrev pub decreases-call::body_in : goal.decreases-call::body_in
 decreases-call::body_in l = l.depth
 
-abbrev pub decreases-target::bind_tuple : goal.decreases-target::bind_tuple
-decreases-target::bind_tuple l = l.depth
+abbrev pub decreases-target::take_tuple : goal.decreases-target::take_tuple
+decreases-target::take_tuple l = l.depth

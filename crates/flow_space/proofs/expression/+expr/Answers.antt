@@ -2,7 +2,9 @@ use Rattle.std.proofs.Common.{◌≡◌, ◌+◌, length, refl, sym, ◌∙◌, 
 use Rattle.flow_space.proofs.Items.{one_item, first_rest}
 use Rattle.resolved_meaning.proofs.Layers.{constant_in, parts_count, local_is, constant_is, apply_is, and_is, or_is, display_is, comprehension_is, over_is, up_is, from_is, name_is, attr_is, item_is, parts_is}
 use Rattle.flow_space.proofs.Layers.{count_is}
+use Rattle.flow_space.specs.Placed.{taken_place, taken_count}
 use Rattle.flow_space.proofs.Parts.{ok_map, part_map, part_then, part_patch}
+use Rattle.flow_space.proofs.Sources.{inner_binds}
 use Rattle.flow_space.proofs.expression.+expr.Goals as goal
 
 -- ---- expressions
@@ -240,49 +242,66 @@ put_comprehension-returns t c =
 
 -- ---- targets
 
-pub put_bind-returns-in_ok-jump-in-Name : goal.put_bind-returns-in_ok-jump-in-Name
-put_bind-returns-in_ok-jump-in-Name t c =
+pub put_bind-returns : goal.put_bind-returns
+put_bind-returns t c = rw (c.variable-source.ensures.0, c.variable-source.ensures.1) at c.put_take.ensures
+
+pub put_take-returns-in_ok-_place-in-Name : goal.put_take-returns-in_ok-_place-in-Name
+put_take-returns-in_ok-_place-in-Name t c =
     let lt = c.in_ok-_place-in-Name.ensures.within in
-    let act = rw (c.op_at.ensures, c.in_ok-args-in-Name.ensures, c.in_ok-jump-in-Name.ensures) at c.put_op.ensures in
-    ok_map c.put_op.result (λ b. part_map (λ r gs f h. rw (c.in-Name.is, name_is) (lt, h))) act
+    let s = c.args.source.now in
+    let m = c.args.m in
+    ok_map c.put_name.result (λ b. part_map (λ r gs f h. rw (c.in-Name.is, name_is) (h.0, taken_place s.path s.at m, taken_count s.path m, lt, h.1, h.2))) c.put_name.ensures
 
-pub put_bind-returns-in_ok-store-in-Attr : goal.put_bind-returns-in_ok-store-in-Attr
-put_bind-returns-in_ok-store-in-Attr t c =
-    let store = rw (c.op_at-of.ensures, c.in_ok-copy-in-Attr.ensures, c.in_ok-args-in-Attr.ensures, c.in_ok-jump-in-Attr.ensures, c.in_ok-more-in-Attr.ensures) at c.in_ok-store-in-Attr.ensures in
-    ok_map c.put_expr.result (λ b h.
-    part_map (λ r gs f k. rw (c.in-Attr.is, attr_is) (c.in_ok-store-in-Attr.store, k.1, k.0)) (part_then store h)) c.put_expr.ensures
+pub put_take-returns-in_ok-begin-in-Attr : goal.put_take-returns-in_ok-begin-in-Attr
+put_take-returns-in_ok-begin-in-Attr t c =
+    let s = c.args.source.now in
+    let more = c.args.m + 1 in
+    let store = rw (c.in_ok-copy-in-Attr.ensures, c.in_ok-args-in-Attr.ensures, c.place_taken.ensures, c.in_ok-more-in-Attr.ensures) at c.in_ok-store-in-Attr.ensures in
+    let begin = c.in_ok-begin-in-Attr.ensures in
+    ok_map c.put_there.result (λ b h.
+    part_map (λ r gs f k. rw (c.in-Attr.is, attr_is) (c.in_ok-begin-in-Attr.begin, c.in_ok-store-in-Attr.store, k.0.0, taken_place s.path s.at more, taken_count s.path more, k.1.1, k.1.0, k.0.1, k.0.2))
+    (part_then store (part_then begin h))) c.put_there.ensures
 
-pub put_bind-returns-in-Item : goal.put_bind-returns-in-Item
-put_bind-returns-in-Item t c =
+pub put_take-returns-in-Item : goal.put_take-returns-in-Item
+put_take-returns-in-Item t c =
     ok_map c.put_item.result (λ b. part_map (λ r gs f h. rw (c.in-Item.is, item_is) h)) c.put_item.ensures
 
-pub put_bind-returns-in-Parts : goal.put_bind-returns-in-Parts
-put_bind-returns-in-Parts t c =
+pub put_take-returns-in-Parts : goal.put_take-returns-in-Parts
+put_take-returns-in-Parts t c =
     let e = rw c.as_slice.ensures at c.put_parts.ensures in
     ok_map c.put_parts.result (λ b. part_map (λ r gs f h. rw (c.in-Parts.is, parts_is) h)) e
 
 pub put_item-returns : goal.put_item-returns
 put_item-returns t c =
-    let store = rw (c.op_at-of.ensures, c.in_ok-args.ensures, c.in_ok-jump.ensures, c.in_ok-index.ensures, c.in_ok-all.ensures) at c.in_ok-store.ensures in
+    let s = c.args.source.now in
+    let all = c.args.m + 2 in
+    let store = rw (c.in_ok-args.ensures, c.place_taken.ensures, c.in_ok-index.ensures, c.in_ok-all.ensures) at c.in_ok-store.ensures in
     let right = rw c.in_ok-index.ensures at c.in_ok-right.ensures in
-    ok_map c.put_expr-2.result (λ b h.
-    part_map (λ r gs f k. (c.in_ok-right.right, c.in_ok-store.store, k.1.1, k.1.0, k.0))
-    (part_then store (part_then right h))) c.put_expr-2.ensures
+    let begin = c.in_ok-begin.ensures in
+    ok_map c.put_there.result (λ b h.
+    part_map (λ r gs f k. (c.in_ok-begin.begin, c.in_ok-right.right, c.in_ok-store.store, k.0.0, taken_place s.path s.at all, taken_count s.path all, k.1.1.1, k.1.1.0, k.1.0, k.0.1, k.0.2))
+    (part_then store (part_then right (part_then begin h)))) c.put_there.ensures
 
 pub put_parts-returns : goal.put_parts-returns
 put_parts-returns t c =
+    let s = c.args.source.now in
+    let m = c.args.m in
     let end = rw c.in_ok-end.ensures at c.in_ok-end-2.ensures.put in
     let items = c.in_ok-begin.ensures in
-    let act = rw (c.op_at.ensures, c.in_ok-args.ensures, c.in_ok-jump.ensures) at c.put_op.ensures in
-    ok_map c.put_op.result (λ b h.
-    part_map (λ r gs f k. (c.in_ok-begin.begin, c.in_ok-end-2.end, k.1.1, rw parts_count k.1.0, k.0, tt))
-    (part_then end (part_then items h))) act
+    ok_map c.put_tuple.result (λ b h.
+    part_map (λ r gs f k. (k.1.1.0, c.in_ok-begin.begin, c.in_ok-end-2.end, taken_place s.path s.at m, taken_count s.path m, k.1.1.1, k.1.1.2, rw parts_count k.1.0, k.0))
+    (part_then end (part_then items h))) c.put_tuple.ensures
 
-pub put_items-returns-in_ok-narrow-in-len1-up-2 : goal.put_items-returns-in_ok-narrow-in-len1-up-2
-put_items-returns-in_ok-narrow-in-len1-up-2 t c =
+pub put_items-returns-in_ok-inner-in-len1-up : goal.put_items-returns-in_ok-inner-in-len1-up
+put_items-returns-in_ok-inner-in-len1-up t c =
     let e = first_rest c.args.parts.now c.part-item.result (omega arith) c.part-item.is in
     let later = rw c.in_ok-later-in-len1-up.ensures at c.in_ok-next-in-len1-up.ensures in
-    let bind = rw c.in_ok-more-in-len1-up.ensures at c.in_ok-bind-in-len1-up.ensures in
-    let act = rw (c.op_at-of.ensures, c.in_ok-args-in-len1-up.ensures, c.in_ok-jump-in-len1-up.ensures, c.in_ok-narrow-in-len1-up.ensures, c.in_ok-narrow-in-len1-up-2.ensures) at c.put_op.ensures in
-    ok_map c.put_op.result (λ b h.
-    part_map (λ r gs f k. rw e (c.in_ok-bind-in-len1-up.bind, c.in_ok-next-in-len1-up.next, k.1.1, k.1.0, rw add-one at k.0)) (part_then later (part_then bind h))) act
+    let inner = c.in_ok-inner-in-len1-up.ensures in
+    ok_map c.put_take.result (λ b h.
+    part_map (λ r gs f k.
+    rw e (
+      c.in_ok-next-in-len1-up.next,
+      inner_binds c.args.scope.now c.part-item.result c.in_ok-inner-in-len1-up.inner c.args.source.now _ c.args.m c.args.m b c.in_ok-next-in-len1-up.next r gs f c.args.count c.args.place inner.0 inner.1 c.in_ok-narrow-in-len1-up.ensures
+          c.in_ok-narrow-in-len1-up-2.ensures k.1,
+      rw add-one at k.0,
+    )) (part_then later h)) c.put_take.ensures

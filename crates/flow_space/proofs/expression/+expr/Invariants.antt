@@ -59,7 +59,10 @@ abbrev pub decreases-put_comprehension : goal.decreases-put_comprehension
 decreases-put_comprehension l = 16 * (expr_size l.item.now + target_size l.target.now + subject_size l.subject.now + option_map_or expr_size l.condition.now 0) + 9
 
 abbrev pub decreases-put_bind : goal.decreases-put_bind
-decreases-put_bind l = 16 * target_size l.target.now
+decreases-put_bind l = 16 * target_size l.target.now + 1
+
+abbrev pub decreases-put_take : goal.decreases-put_take
+decreases-put_take l = 16 * target_size l.target.now
 
 abbrev pub decreases-put_item : goal.decreases-put_item
 decreases-put_item l = 16 * (expr_size l.a.now + expr_size l.i.now) + 1
