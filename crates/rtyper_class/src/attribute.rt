@@ -1,4 +1,10 @@
 // Attributes.
+ghost use Rattle.std.specs.Prelude.{◌≡◌, option_map, OnOk};
+ghost use Rattle.rtyper_data.specs.Seen.{the_operand, the_place, writing, Leaves};
+ghost use Rattle.rtyper_class.specs.Attributes as spec;
+ghost use Rattle.rtyper_class.specs.Attributes.{the_standing};
+ghost use Rattle.rtyper_class.specs.Seen.{the_world};
+
 use crate::instance::fields_of;
 use ann_element::Element;
 use csub_tree::COperand;
@@ -20,7 +26,10 @@ struct Standing<'a> {
     element: &'a Element,
 }
 
-fn place_in<'a>(around: Around<'a>, class: ClassId, name: &Text) -> Option<Standing<'a>> {
+#[tactic(auto, unfolding(crate::specs::Attributes::place_in))]
+fn place_in<'a>(around: Around<'a>, class: ClassId, name: &Text) -> Option<Standing<'a>>
+    ensures { option_map the_standing result ≡ spec.place_in (the_world around.entry) class name.now }
+{
     let home = around.classes.home(class, name)?;
     let laid = around.layout.laid(home)?;
     let (place, element) = attribute_place(around.attributes, home, name.bytes())?;
@@ -32,6 +41,7 @@ fn place_in<'a>(around: Around<'a>, class: ClassId, name: &Text) -> Option<Stand
 }
 
 /// Reads an attribute of an instance of the class, or `None`.
+#[tactic(auto, unfolding(crate::specs::Attributes::read))]
 pub fn push_read(
     alloc: Global,
     around: Around<'_>,
@@ -42,7 +52,9 @@ pub fn push_read(
     or_none: bool,
     found: &mut Found,
     body: &mut Body,
-) -> Result<(), NoMem> {
+) -> Result<(), NoMem>
+    ensures { OnOk result (Leaves (spec.read (the_world around.entry) (the_place place.entry) name.now (the_operand a.entry) class or_none (writing found.old body.old)) found.new body.new) }
+{
     let x = present(alloc, around, a, or_none, found, body)?;
     let Some(at) = place_in(around, class, name) else {
         return Ok(());
@@ -59,6 +71,7 @@ pub fn push_read(
 }
 
 /// Sets an attribute. The result is the value.
+#[tactic(auto, unfolding(crate::specs::Attributes::store))]
 pub fn push_store(
     alloc: Global,
     around: Around<'_>,
@@ -70,7 +83,9 @@ pub fn push_store(
     or_none: bool,
     found: &mut Found,
     body: &mut Body,
-) -> Result<(), NoMem> {
+) -> Result<(), NoMem>
+    ensures { OnOk result (Leaves (spec.store (the_world around.entry) (the_place place.entry) name.now (the_operand a.entry) (the_operand b.entry) class or_none (writing found.old body.old)) found.new body.new) }
+{
     let x = present(alloc, around, a, or_none, found, body)?;
     let Some(at) = place_in(around, class, name) else {
         return Ok(());

@@ -1,5 +1,11 @@
 // Calls of classes, methods and function values.
+ghost use Rattle.std.specs.Prelude.{◌≡◌, ◌∷◌, IfOk, OnOk};
+ghost use Rattle.rtyper_data.specs.Seen.{the_around, the_operand, the_operands, the_place, writing, Leaves, Writes};
+ghost use Rattle.rtyper_class.specs.Calls as spec;
+ghost use Rattle.rtyper_class.specs.Seen.{the_world};
+
 use crate::instance::builtin_instance;
+use crate::vtable::names_of;
 use csub_tree::COperand;
 use ll_code::{LlOp, LlType, VarId};
 use rpy_base::{NoMem, Seq, Text};
@@ -17,7 +23,9 @@ pub const BUILTIN_CLASSES: ClassId = 13;
 // ---- through function values
 
 // The types of the parameters, those without a type aside.
-fn param_types(alloc: Global, around: Around<'_>, function: usize) -> Result<Seq<LlType>, NoMem> {
+fn param_types(alloc: Global, around: Around<'_>, function: usize) -> Result<Seq<LlType>, NoMem>
+    ensures { IfOk result (λ kinds. kinds ≡ spec.param_types (the_around around.entry) function) }
+{
     let mut kinds = Seq::new(alloc);
     let Some(params) = around.params.get(function) else {
         return Ok(kinds);
@@ -32,6 +40,7 @@ fn param_types(alloc: Global, around: Around<'_>, function: usize) -> Result<Seq
 }
 
 // A call of a function value that is one of several functions like this one.
+#[tactic(auto, unfolding(crate::specs::Calls::indirect))]
 fn push_indirect(
     alloc: Global,
     around: Around<'_>,
@@ -41,11 +50,31 @@ fn push_indirect(
     args: &[Operand<'_>],
     found: &mut Found,
     body: &mut Body,
-) -> Result<(), NoMem> {
+) -> Result<(), NoMem>
+    ensures { OnOk result (Leaves (spec.indirect (the_around around.entry) (the_place place.entry) value like (the_operands args.now) (writing found.old body.old)) found.new body.new) }
+{
     let at = like as usize;
     let kinds = param_types(alloc, around, at)?;
     let xs = arguments(alloc, around, at, args, found, body)?;
-    match repr_seen(around.layout, around.results.get(at)) {
+    let gives = repr_seen(around.layout, around.results.get(at));
+    push_indirect_giving(alloc, around, place, value, kinds, gives, xs, found, body)
+}
+
+#[tactic(auto, unfolding(crate::specs::Calls::indirect_giving))]
+fn push_indirect_giving(
+    alloc: Global,
+    around: Around<'_>,
+    place: Place<'_>,
+    value: VarId,
+    kinds: Seq<LlType>,
+    gives: LlType,
+    xs: Seq<COperand>,
+    found: &mut Found,
+    body: &mut Body,
+) -> Result<(), NoMem>
+    ensures { OnOk result (Leaves (spec.indirect_giving (the_around around.entry) (the_place place.entry) value kinds gives (xs, (writing found.old body.old))) found.new body.new) }
+{
+    match gives {
         LlType::Void => {
             body.ops
                 .push(LlOp::CallFn(None, LlType::Void, kinds, value, xs))?;
@@ -61,6 +90,7 @@ fn push_indirect(
 }
 
 /// A call of a value that is one of these functions, or `None`.
+#[tactic(auto, unfolding(crate::specs::Calls::call_value))]
 pub fn push_call_value(
     alloc: Global,
     around: Around<'_>,
@@ -71,7 +101,9 @@ pub fn push_call_value(
     args: &[Operand<'_>],
     found: &mut Found,
     body: &mut Body,
-) -> Result<(), NoMem> {
+) -> Result<(), NoMem>
+    ensures { OnOk result (Leaves (spec.call_value (the_around around.entry) (the_place place.entry) (the_operand a.entry) functions.now or_none (the_operands args.now) (writing found.old body.old)) found.new body.new) }
+{
     let x = present(alloc, around, a, or_none, found, body)?;
     match functions {
         [] => Ok(()),
@@ -93,7 +125,9 @@ enum Reached {
     Several(FunId),
 }
 
-fn with(reached: Reached, function: Option<FunId>) -> Reached {
+fn with(reached: Reached, function: Option<FunId>) -> Reached
+    ensures { result ≡ spec.also reached function }
+{
     match (reached, function) {
         (_, None) => reached,
         (Reached::Nothing, Some(function)) => Reached::One(function),
@@ -108,20 +142,43 @@ fn with(reached: Reached, function: Option<FunId>) -> Reached {
     }
 }
 
+// With the method of a class, where that is below this one.
+fn with_class(
+    around: Around<'_>,
+    class: ClassId,
+    name: &Text,
+    below: ClassId,
+    reached: Reached,
+) -> Reached
+    ensures { result ≡ spec.also_of (the_world around.entry) class name.now below reached }
+{
+    if around.classes.below(below, class) {
+        with(reached, around.classes.method(below, name))
+    } else {
+        reached
+    }
+}
+
 // The methods that instances of a class, or of one below it, have under a name.
-fn reached_by(around: Around<'_>, class: ClassId, name: &Text) -> Reached {
+#[tactic(auto, unfolding(crate::specs::Calls::reached_by))]
+fn reached_by(around: Around<'_>, class: ClassId, name: &Text) -> Reached
+    ensures { result ≡ spec.reached_by (the_world around.entry) class name.now }
+{
     let mut reached = Reached::Nothing;
-    for each in 0..around.made.len() {
-        let below = class_at(each);
-        if around.made[each] && around.classes.below(below, class) {
-            reached = with(reached, around.classes.method(below, name));
+    let mut number: usize = 0;
+    for is_made in around.made {
+        if *is_made {
+            reached = with_class(around, class, name, class_at(number), reached);
         }
+        number += 1;
     }
     reached
 }
 
 // The place of a method in the vtables of a family.
-fn slot_of(names: &[Text], name: &[u8]) -> u64 {
+fn slot_of(names: &[Text], name: &[u8]) -> u64
+    ensures { result ≡ spec.slot_from 1 names.now name.now }
+{
     let mut slot: u64 = 1;
     for each in names {
         if each.bytes() == name {
@@ -133,26 +190,21 @@ fn slot_of(names: &[Text], name: &[u8]) -> u64 {
 }
 
 // The function that the vtable of an instance has under a name.
+#[tactic(auto, unfolding(crate::specs::Calls::looked_up))]
 fn looked_up(
     around: Around<'_>,
     class: ClassId,
     name: &Text,
     instance: VarId,
     body: &mut Body,
-) -> Result<VarId, NoMem> {
+) -> Result<VarId, NoMem>
+    ensures { IfOk result (λ f. Writes (spec.looked_up (the_world around.entry) class name.now instance body.old) f body.new) }
+{
     let function = body.fresh(LlType::Fn)?;
     let Some(laid) = around.layout.laid(class) else {
         return Ok(function);
     };
-    let names: &[Text] = match around
-        .layout
-        .methods
-        .get(laid.vtable.saturating_sub(1) as usize)
-    {
-        None => &[],
-        Some(names) => names.as_slice(),
-    };
-    let slot = slot_of(names, name.bytes());
+    let slot = slot_of(names_of(around, laid.vtable), name.bytes());
     let vtable = body.fresh(LlType::Ptr(laid.vtable))?;
     body.ops
         .push(LlOp::GetField(vtable, laid.root, instance, 0))?;
@@ -161,7 +213,23 @@ fn looked_up(
     Ok(function)
 }
 
+fn with_first<'a>(
+    alloc: Global,
+    first: Operand<'a>,
+    rest: &[Operand<'a>],
+) -> Result<Vec<Operand<'a>>, NoMem>
+    ensures { IfOk result (λ all. the_operands all.items ≡ the_operand first.entry ∷ the_operands rest.now) }
+{
+    let mut all = Vec::new(alloc);
+    all.push(first)?;
+    for operand in rest {
+        all.push(*operand)?;
+    }
+    Ok(all)
+}
+
 /// A method call on an instance of the class, or `None`. The receiver is the first operand.
+#[tactic(auto, unfolding(crate::specs::Calls::method))]
 pub fn push_method(
     alloc: Global,
     around: Around<'_>,
@@ -172,7 +240,9 @@ pub fn push_method(
     args: &[Operand<'_>],
     found: &mut Found,
     body: &mut Body,
-) -> Result<(), NoMem> {
+) -> Result<(), NoMem>
+    ensures { OnOk result (Leaves (spec.method (the_world around.entry) (the_place place.entry) name.now class or_none (the_operands args.now) (writing found.old body.old)) found.new body.new) }
+{
     let [a, rest @ ..] = args else {
         return Ok(());
     };
@@ -181,11 +251,7 @@ pub fn push_method(
         x,
         element: a.element,
     };
-    let mut all = Vec::new(alloc);
-    all.push(receiver)?;
-    for operand in rest {
-        all.push(*operand)?;
-    }
+    let all = with_first(alloc, receiver, rest)?;
     match reached_by(around, class, name) {
         Reached::Nothing => Ok(()),
         Reached::One(function) => push_call(alloc, around, place, function, &all, found, body),
@@ -200,6 +266,7 @@ pub fn push_method(
 // ---- classes
 
 // The nearest `__init__`, of the new instance and the arguments. What it gives is dropped.
+#[tactic(auto, unfolding(crate::specs::Calls::call_init))]
 fn push_init(
     alloc: Global,
     around: Around<'_>,
@@ -209,29 +276,44 @@ fn push_init(
     args: &[Operand<'_>],
     found: &mut Found,
     body: &mut Body,
-) -> Result<(), NoMem> {
-    let mut all = Vec::new(alloc);
-    all.push(Operand {
+) -> Result<(), NoMem>
+    ensures { OnOk result (Leaves (spec.call_init (the_around around.entry) instance (the_place place.entry) init (the_operands args.now) (writing found.old body.old)) found.new body.new) }
+{
+    let first = Operand {
         x: COperand::Var(instance),
         element: place.element,
-    })?;
-    for operand in args {
-        all.push(*operand)?;
-    }
+    };
+    let all = with_first(alloc, first, args)?;
     let number = match around.numbers.get(init as usize) {
         None => 0,
         Some(number) => *number,
     };
     let xs = arguments(alloc, around, init as usize, &all, found, body)?;
-    let into = match repr_seen(around.layout, around.results.get(init as usize)) {
-        LlType::Void => None,
-        gives => Some(body.fresh(gives)?),
-    };
-    body.ops.push(LlOp::Call(into, number, xs))
+    let gives = repr_seen(around.layout, around.results.get(init as usize));
+    push_init_call(number, gives, xs, body)
+}
+
+#[tactic(auto, unfolding(crate::specs::Calls::init_giving))]
+fn push_init_call(
+    number: u64,
+    gives: LlType,
+    xs: Seq<COperand>,
+    body: &mut Body,
+) -> Result<(), NoMem>
+    ensures { OnOk result (body.new ≡ spec.init_giving number gives xs body.old) }
+{
+    match gives {
+        LlType::Void => body.ops.push(LlOp::Call(None, number, xs)),
+        gives => {
+            let into = body.fresh(gives)?;
+            body.ops.push(LlOp::Call(Some(into), number, xs))
+        }
+    }
 }
 
 /// Raises an instance of an exception class, or `None`. Nothing comes behind it, so the result is set
 /// before.
+#[tactic(auto, unfolding(crate::specs::Calls::raise))]
 pub fn push_raise(
     alloc: Global,
     around: Around<'_>,
@@ -240,7 +322,9 @@ pub fn push_raise(
     or_none: bool,
     found: &mut Found,
     body: &mut Body,
-) -> Result<(), NoMem> {
+) -> Result<(), NoMem>
+    ensures { OnOk result (Leaves (spec.raise (the_around around.entry) (the_place place.entry) (the_operand a.entry) or_none (writing found.old body.old)) found.new body.new) }
+{
     give_nothing(around, place, body)?;
     let kind = around.type_of(a);
     let x = present(alloc, around, a, or_none, found, body)?;
@@ -249,6 +333,7 @@ pub fn push_raise(
 }
 
 /// A call of a class.
+#[tactic(auto, unfolding(crate::specs::Calls::new))]
 pub fn push_new(
     alloc: Global,
     around: Around<'_>,
@@ -257,7 +342,9 @@ pub fn push_new(
     args: &[Operand<'_>],
     found: &mut Found,
     body: &mut Body,
-) -> Result<(), NoMem> {
+) -> Result<(), NoMem>
+    ensures { OnOk result (Leaves (spec.new (the_world around.entry) (the_place place.entry) class (the_operands args.now) (writing found.old body.old)) found.new body.new) }
+{
     let Some(laid) = around.layout.laid(class) else {
         return Ok(());
     };

@@ -1,4 +1,12 @@
 // Instances: how they are made, and of which class they are.
+ghost use Rattle.std.specs.Prelude.{◌≡◌, ◌∷◌, [], IfOk, OnOk};
+ghost use Rattle.std.specs.Option.{option_copied};
+ghost use Rattle.ll_code.specs.declared.program.LlType.TheVariants as LlType;
+ghost use Rattle.ll_code.specs.declared.program.LlOp.TheVariants as LlOp;
+ghost use Rattle.rtyper_data.specs.Seen.{writing, Leaves, Asks};
+ghost use Rattle.rtyper_class.specs.Instances as spec;
+ghost use Rattle.rtyper_class.specs.Seen.{the_world};
+
 use ann_element::Element;
 use class_desc::Initial;
 use csub_tree::{CBinary, CConst, COperand, CUnary};
@@ -16,7 +24,9 @@ use std::alloc::Global;
 // ---- new instances
 
 // What an attribute starts with, where the class has a constant for it.
-fn initial_of<'a>(initials: &'a [Initial], home: ClassId, name: &[u8]) -> Option<&'a Initial> {
+fn initial_of<'a>(initials: &'a [Initial], home: ClassId, name: &[u8]) -> Option<&'a Initial>
+    ensures { option_copied result ≡ spec.initial_of initials.now home name.now }
+{
     for initial in initials {
         if initial.home == home && initial.name.bytes() == name {
             return Some(initial);
@@ -26,6 +36,7 @@ fn initial_of<'a>(initials: &'a [Initial], home: ClassId, name: &[u8]) -> Option
 }
 
 // The value of an attribute, and whether it is set.
+#[tactic(auto, unfolding(crate::specs::Instances::start))]
 fn push_attribute(
     alloc: Global,
     around: Around<'_>,
@@ -35,7 +46,9 @@ fn push_attribute(
     initial: Option<&Initial>,
     found: &mut Found,
     body: &mut Body,
-) -> Result<(), NoMem> {
+) -> Result<(), NoMem>
+    ensures { OnOk result (Leaves (spec.start (the_world around.entry) own place element.now (option_copied initial.entry) (writing found.old body.old)) found.new body.new) }
+{
     let kind = field_type(repr(around.layout, element));
     let (value, is_set) = match initial {
         None => (default_operand(kind), false),
@@ -50,6 +63,7 @@ fn push_attribute(
 }
 
 // The attributes that a class itself declares, of the instance that is variable 0.
+#[tactic(auto, unfolding(crate::specs::Instances::starts))]
 fn push_declared(
     alloc: Global,
     around: Around<'_>,
@@ -58,7 +72,9 @@ fn push_declared(
     initials: &[Initial],
     found: &mut Found,
     body: &mut Body,
-) -> Result<(), NoMem> {
+) -> Result<(), NoMem>
+    ensures { OnOk result (Leaves (spec.starts (the_world around.entry) home own initials.now (writing found.old body.old)) found.new body.new) }
+{
     let mut place: u64 = 0;
     for attribute in around.attributes {
         if attribute.0 == home {
@@ -72,6 +88,7 @@ fn push_declared(
 }
 
 // Those of a class and of all its bases.
+#[tactic(auto, using(crate::proofs::Turns::next_starts), unfolding(crate::specs::Instances::all_starts))]
 fn push_all_declared(
     alloc: Global,
     around: Around<'_>,
@@ -79,9 +96,11 @@ fn push_all_declared(
     initials: &[Initial],
     found: &mut Found,
     body: &mut Body,
-) -> Result<(), NoMem> {
+) -> Result<(), NoMem>
+    ensures { OnOk result (Leaves (spec.all_starts (the_world around.entry) initials.now class (writing found.old body.old)) found.new body.new) }
+{
     let mut at = class;
-    for _ in 0..around.classes.len() {
+    for _turn in 0..around.classes.len() {
         let own = match around.layout.laid(at) {
             None => return Ok(()),
             Some(laid) => laid.own,
@@ -96,13 +115,16 @@ fn push_all_declared(
 }
 
 // It is paid, made, and all that it has is set at once.
+#[tactic(auto, unfolding(crate::specs::Instances::instance_body))]
 fn new_body(
     alloc: Global,
     around: Around<'_>,
     class: ClassId,
     laid: Laid,
     found: &mut Found,
-) -> Result<Body, NoMem> {
+) -> Result<Body, NoMem>
+    ensures { IfOk result (λ body. Leaves (spec.instance_body (the_world around.entry) class laid found.old) found.new body) }
+{
     let mut body = Body::new(alloc);
     body.types.push(LlType::Ptr(laid.root))?;
     body.ops.push(LlOp::Step(word(1)))?;
@@ -121,7 +143,9 @@ fn new_instance(
     class: ClassId,
     laid: Laid,
     found: &mut Found,
-) -> Result<LlGraph, NoMem> {
+) -> Result<LlGraph, NoMem>
+    ensures { IfOk result (λ graph. Asks (spec.new_instance (the_world around.entry) class laid found.old) graph found.new) }
+{
     let Body { types, ops } = new_body(alloc, around, class, laid, found)?;
     let mut blocks = Seq::new(alloc);
     let given = LlExit::Return(Some(COperand::Var(0)));
@@ -137,7 +161,9 @@ fn new_instance(
 
 // ---- attributes that may not be set
 
-fn attribute_types(alloc: Global, root: u64, kind: LlType) -> Result<Seq<LlType>, NoMem> {
+fn attribute_types(alloc: Global, root: u64, kind: LlType) -> Result<Seq<LlType>, NoMem>
+    ensures { IfOk result (λ types. types ≡ LlType.Ptr root ∷ LlType.Bool ∷ kind ∷ []) }
+{
     let mut types = Seq::new(alloc);
     types.push(LlType::Ptr(root))?;
     types.push(LlType::Bool)?;
@@ -146,9 +172,12 @@ fn attribute_types(alloc: Global, root: u64, kind: LlType) -> Result<Seq<LlType>
 }
 
 // The struct of the topmost class above the struct of a class.
-fn root_of(around: Around<'_>, own: u64) -> u64 {
+#[tactic(auto, using(crate::proofs::Turns::next_root), unfolding(crate::specs::Instances::root_of))]
+fn root_of(around: Around<'_>, own: u64) -> u64
+    ensures { result ≡ spec.root_of (the_world around.entry) own }
+{
     let mut at = own;
-    for _ in 0..around.layout.structs.len() {
+    for _turn in 0..around.layout.structs.len() {
         match around.layout.structs.get(at as usize) {
             None => return at,
             Some(each) => match each.base {
@@ -162,13 +191,18 @@ fn root_of(around: Around<'_>, own: u64) -> u64 {
 
 /// The numbers of the fields of an attribute: its value, and whether it is set. In a struct with a
 /// base, and in one with a vtable, one field stands before those of attributes.
-pub fn fields_of(place: u64) -> (u64, u64) {
+pub fn fields_of(place: u64) -> (u64, u64)
+    ensures { result ≡ (spec.value_field place, spec.set_field place) }
+{
     let first = place.saturating_mul(2).saturating_add(1);
     (first, first.saturating_add(1))
 }
 
 // The type of a field, by its number: the field of a base has none.
-fn type_of_field(around: Around<'_>, own: u64, number: u64) -> LlType {
+#[tactic(auto, unfolding(crate::specs::Instances::type_of_field))]
+fn type_of_field(around: Around<'_>, own: u64, number: u64) -> LlType
+    ensures { result ≡ spec.type_of_field (the_world around.entry) own number }
+{
     let at = match around.layout.structs.get(own as usize) {
         None => number,
         Some(each) => match each.base {
@@ -182,12 +216,15 @@ fn type_of_field(around: Around<'_>, own: u64, number: u64) -> LlType {
     }
 }
 
-fn get_field(alloc: Global, into: VarId, own: u64, number: u64) -> Result<Seq<LlOp>, NoMem> {
+fn get_field(alloc: Global, into: VarId, own: u64, number: u64) -> Result<Seq<LlOp>, NoMem>
+    ensures { IfOk result (λ ops. ops ≡ LlOp.GetField into own 0 number ∷ []) }
+{
     let mut ops = Seq::new(alloc);
     ops.push(LlOp::GetField(into, own, 0, number))?;
     Ok(ops)
 }
 
+#[tactic(auto, unfolding(crate::specs::Instances::attribute))]
 fn attribute(
     alloc: Global,
     around: Around<'_>,
@@ -195,7 +232,9 @@ fn attribute(
     place: u64,
     raises: bool,
     found: &mut Found,
-) -> Result<LlGraph, NoMem> {
+) -> Result<LlGraph, NoMem>
+    ensures { IfOk result (λ graph. Asks (spec.attribute (the_world around.entry) own place raises found.old) graph found.new) }
+{
     let (value, is_set) = fields_of(place);
     let kind = type_of_field(around, own, value);
     let there = link(alloc, 1, [COperand::Var(0)])?;
@@ -225,7 +264,9 @@ fn asks_range(
     vtable: u64,
     low: u32,
     high: u32,
-) -> Result<Seq<LlOp>, NoMem> {
+) -> Result<Seq<LlOp>, NoMem>
+    ensures { IfOk result (λ ops. ops ≡ spec.asks_range root vtable low high) }
+{
     let number = COperand::Var(3);
     let mut ops = Seq::new(alloc);
     ops.push(LlOp::GetField(2, root, 0, 0))?;
@@ -239,7 +280,9 @@ fn asks_range(
     Ok(ops)
 }
 
-fn range_types(alloc: Global, root: u64, vtable: u64) -> Result<Seq<LlType>, NoMem> {
+fn range_types(alloc: Global, root: u64, vtable: u64) -> Result<Seq<LlType>, NoMem>
+    ensures { IfOk result (λ types. types ≡ spec.range_types root vtable) }
+{
     let mut types = Seq::new(alloc);
     types.push(LlType::Ptr(root))?;
     types.push(LlType::Bool)?;
@@ -252,13 +295,10 @@ fn range_types(alloc: Global, root: u64, vtable: u64) -> Result<Seq<LlType>, NoM
     Ok(types)
 }
 
-fn is_instance(
-    alloc: Global,
-    root: u64,
-    vtable: u64,
-    low: u32,
-    high: u32,
-) -> Result<LlGraph, NoMem> {
+#[tactic(auto, unfolding(crate::specs::Instances::is_instance))]
+fn is_instance(alloc: Global, root: u64, vtable: u64, low: u32, high: u32) -> Result<LlGraph, NoMem>
+    ensures { IfOk result (λ graph. graph ≡ spec.is_instance root vtable low high) }
+{
     let there = link(alloc, 1, [])?;
     let elsewhere = link(alloc, 2, [COperand::Var(0)])?;
     let mut blocks = Seq::new(alloc);
@@ -281,7 +321,10 @@ fn is_instance(
 // ---- exceptions
 
 /// The one instance of a builtin exception class.
-pub fn builtin_instance(around: Around<'_>, class: ClassId) -> COperand {
+#[tactic(auto, unfolding(crate::specs::Instances::builtin_instance))]
+pub fn builtin_instance(around: Around<'_>, class: ClassId) -> COperand
+    ensures { result ≡ spec.builtin_instance (the_world around.entry) class }
+{
     let root = match around.layout.laid(0) {
         None => 0,
         Some(laid) => laid.root,
@@ -290,7 +333,10 @@ pub fn builtin_instance(around: Around<'_>, class: ClassId) -> COperand {
     COperand::Const(CConst::Static(root, number))
 }
 
-fn raise(alloc: Global, around: Around<'_>, class: ClassId) -> Result<LlGraph, NoMem> {
+#[tactic(auto, unfolding(crate::specs::Instances::raise))]
+fn raise(alloc: Global, around: Around<'_>, class: ClassId) -> Result<LlGraph, NoMem>
+    ensures { IfOk result (λ graph. graph ≡ spec.raise (the_world around.entry) class) }
+{
     let root = match around.layout.laid(0) {
         None => 0,
         Some(laid) => laid.root,

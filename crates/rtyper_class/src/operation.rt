@@ -1,4 +1,10 @@
 // The lowering of operations on instances and function values.
+ghost use Rattle.std.specs.Prelude.{◌≡◌, option_map, OnOk};
+ghost use Rattle.rtyper_data.specs.Lowering as plain;
+ghost use Rattle.rtyper_data.specs.Seen.{the_operand, the_operands, the_place, writing, Leaves};
+ghost use Rattle.rtyper_class.specs.Lowering as spec;
+ghost use Rattle.rtyper_class.specs.Seen.{the_world};
+
 use crate::attribute::{push_read, push_store};
 use crate::call::{push_call_value, push_method, push_new, push_raise};
 use ann_element::Element;
@@ -9,21 +15,44 @@ use rpy_tree::{ClassId, FunId};
 use rtyper_data::{
     Around, Body, Found, Operand, Place, Small, by_small, give, push_call, push_failure,
 };
+use rtyper_layout::{Kind, kind_seen};
 use rtyper_list::lower_list_op;
 use std::alloc::Global;
 
 // The class of an instance, and whether it may be `None`.
-fn instance_of(operand: Operand<'_>) -> Option<(ClassId, bool)> {
+fn instance_of(operand: Operand<'_>) -> Option<(ClassId, bool)>
+    ensures { result ≡ spec.instance_of (the_operand operand.entry) }
+{
     match operand.element {
-        Some(Element::Instance(class, or_none)) => Some((*class, *or_none)),
+        None => None,
+        Some(element) => instance_in(element),
+    }
+}
+
+fn instance_in(element: &Element) -> Option<(ClassId, bool)>
+    ensures { result ≡ spec.of_instance element.now }
+{
+    match element {
+        Element::Instance(class, or_none) => Some((*class, *or_none)),
         _ => None,
     }
 }
 
 // The functions of a function value, and whether it may be `None`.
-fn functions_of<'a>(operand: Operand<'a>) -> Option<(&'a [FunId], bool)> {
+fn functions_of<'a>(operand: Operand<'a>) -> Option<(&'a [FunId], bool)>
+    ensures { option_map (λ f. (f.0.now, f.1)) result ≡ spec.functions_of (the_operand operand.entry) }
+{
     match operand.element {
-        Some(Element::Func(functions, or_none)) => Some((functions.as_slice(), *or_none)),
+        None => None,
+        Some(element) => functions_in(element),
+    }
+}
+
+fn functions_in<'a>(element: &'a Element) -> Option<(&'a [FunId], bool)>
+    ensures { option_map (λ f. (f.0.now, f.1)) result ≡ spec.of_functions element.now }
+{
+    match element {
+        Element::Func(functions, or_none) => Some((functions.as_slice(), *or_none)),
         _ => None,
     }
 }
@@ -35,16 +64,19 @@ fn is_none(operand: Operand<'_>) -> bool {
     }
 }
 
-fn is_never(args: &[Operand<'_>]) -> bool {
+fn is_never(args: &[Operand<'_>]) -> bool
+    ensures { result ≡ plain.is_never (the_operands args.now) }
+{
     for operand in args {
-        match operand.element {
-            None | Some(Element::Unreached) => return true,
+        match kind_seen(operand.element) {
+            Kind::Never => return true,
             _ => {}
         }
     }
     false
 }
 
+#[tactic(auto, unfolding(crate::specs::Lowering::is_instance))]
 fn push_is_instance(
     alloc: Global,
     around: Around<'_>,
@@ -54,7 +86,9 @@ fn push_is_instance(
     class: ClassId,
     found: &mut Found,
     body: &mut Body,
-) -> Result<(), NoMem> {
+) -> Result<(), NoMem>
+    ensures { OnOk result (Leaves (spec.is_instance (the_world around.entry) (the_place place.entry) of (the_operand a.entry) class (writing found.old body.old)) found.new body.new) }
+{
     let Some(laid) = around.layout.laid(class) else {
         return Ok(());
     };
@@ -64,6 +98,7 @@ fn push_is_instance(
     give(alloc, around, place, x, LlType::Bool, found, body)
 }
 
+#[tactic(auto, unfolding(crate::specs::Lowering::attribute))]
 fn push_attribute(
     alloc: Global,
     around: Around<'_>,
@@ -72,7 +107,9 @@ fn push_attribute(
     a: Operand<'_>,
     found: &mut Found,
     body: &mut Body,
-) -> Result<(), NoMem> {
+) -> Result<(), NoMem>
+    ensures { OnOk result (Leaves (spec.attribute (the_world around.entry) (the_place place.entry) name.now (the_operand a.entry) (writing found.old body.old)) found.new body.new) }
+{
     match instance_of(a) {
         Some((class, or_none)) => {
             push_read(alloc, around, place, name, a, class, or_none, found, body)
@@ -81,6 +118,7 @@ fn push_attribute(
     }
 }
 
+#[tactic(auto, unfolding(crate::specs::Lowering::set_attribute))]
 fn push_set_attribute(
     alloc: Global,
     around: Around<'_>,
@@ -90,7 +128,9 @@ fn push_set_attribute(
     b: Operand<'_>,
     found: &mut Found,
     body: &mut Body,
-) -> Result<(), NoMem> {
+) -> Result<(), NoMem>
+    ensures { OnOk result (Leaves (spec.set_attribute (the_world around.entry) (the_place place.entry) name.now (the_operand a.entry) (the_operand b.entry) (writing found.old body.old)) found.new body.new) }
+{
     match instance_of(a) {
         Some((class, or_none)) => {
             push_store(
@@ -101,6 +141,7 @@ fn push_set_attribute(
     }
 }
 
+#[tactic(auto, unfolding(crate::specs::Lowering::value_call))]
 fn push_value_call(
     alloc: Global,
     around: Around<'_>,
@@ -108,7 +149,9 @@ fn push_value_call(
     args: &[Operand<'_>],
     found: &mut Found,
     body: &mut Body,
-) -> Result<(), NoMem> {
+) -> Result<(), NoMem>
+    ensures { OnOk result (Leaves (spec.value_call (the_world around.entry) (the_place place.entry) (the_operands args.now) (writing found.old body.old)) found.new body.new) }
+{
     let [a, rest @ ..] = args else {
         return Ok(());
     };

@@ -1,4 +1,9 @@
 // The vtables of classes: the number of the class, a function for each method of its family, and its name.
+ghost use Rattle.std.specs.Prelude.{◌≡◌, ◌++◌, ◌∷◌, [], length, IfOk, OnOk};
+ghost use Rattle.csub_tree.specs.declared.tree.CCell.TheVariants as CCell;
+ghost use Rattle.rtyper_class.specs.Seen.{the_world};
+ghost use Rattle.rtyper_class.specs.Vtables as spec;
+
 use crate::call::BUILTIN_CLASSES;
 use csub_tree::{CCell, CConst, CStatic};
 use ll_code::LlStatic;
@@ -9,7 +14,9 @@ use rtyper_data::Around;
 use std::alloc::Global;
 
 // The nearest method of a name, where that is reached.
-fn method_cell(around: Around<'_>, reached: &[bool], class: ClassId, name: &Text) -> CCell {
+fn method_cell(around: Around<'_>, reached: &[bool], class: ClassId, name: &Text) -> CCell
+    ensures { result ≡ spec.method_cell (the_world around.entry) reached.now class name.now }
+{
     match around.classes.method(class, name) {
         None => CCell::Const(CConst::Null),
         Some(function) => match (
@@ -28,14 +35,18 @@ fn push_methods(
     class: ClassId,
     names: &[Text],
     cells: &mut Seq<CCell>,
-) -> Result<(), NoMem> {
+) -> Result<(), NoMem>
+    ensures { OnOk result (cells.new ≡ cells.old ++ spec.method_cells (the_world around.entry) reached.now class names.now) }
+{
     for name in names {
         cells.push(method_cell(around, reached, class, name))?;
     }
     Ok(())
 }
 
-fn name_cells(alloc: Global, program: &Resolved, class: ClassId) -> Result<Seq<CCell>, NoMem> {
+fn name_cells(alloc: Global, program: &Resolved, class: ClassId) -> Result<Seq<CCell>, NoMem>
+    ensures { IfOk result (λ cells. cells ≡ spec.name_cells program.now class) }
+{
     let mut cells = Seq::new(alloc);
     if let Some(of) = program.classes.get(class as usize) {
         for byte in of.name.bytes() {
@@ -45,8 +56,10 @@ fn name_cells(alloc: Global, program: &Resolved, class: ClassId) -> Result<Seq<C
     Ok(cells)
 }
 
-// The names of the methods of a family, by the struct of its vtables: the first is struct 1.
-fn names_of(around: Around<'_>, vtable: u64) -> &[Text] {
+/// The names of the methods of a family, by the struct of its vtables: the first is struct 1.
+pub fn names_of(around: Around<'_>, vtable: u64) -> &[Text]
+    ensures { result.now ≡ spec.names_of (the_world around.entry) vtable }
+{
     match around.layout.methods.get(vtable.saturating_sub(1) as usize) {
         None => &[],
         Some(names) => names.as_slice(),
@@ -59,7 +72,9 @@ fn vtable_of(
     program: &Resolved,
     reached: &[bool],
     class: ClassId,
-) -> Result<LlStatic, NoMem> {
+) -> Result<LlStatic, NoMem>
+    ensures { IfOk result (λ made. made ≡ spec.vtable (the_world around.entry) program.now reached.now class) }
+{
     let kind = match around.layout.laid(class) {
         None => 0,
         Some(laid) => laid.vtable,
@@ -79,7 +94,9 @@ pub fn push_vtables(
     program: &Resolved,
     reached: &[bool],
     statics: &mut Seq<LlStatic>,
-) -> Result<(), NoMem> {
+) -> Result<(), NoMem>
+    ensures { OnOk result (statics.new ≡ statics.old ++ spec.vtables (the_world around.entry) program.now reached.now) }
+{
     for class in around.layout.order.as_slice() {
         statics.push(vtable_of(alloc, around, program, reached, *class)?)?;
     }
@@ -89,16 +106,19 @@ pub fn push_vtables(
 // ---- builtin exceptions
 
 // The cells of an instance of a class without attributes: those of its base stand within the first.
+#[tactic(auto, using(crate::proofs::Turns::next_wrapped))]
 fn instance_cells(
     alloc: Global,
     around: Around<'_>,
     vtable: CConst,
     class: ClassId,
-) -> Result<Seq<CCell>, NoMem> {
+) -> Result<Seq<CCell>, NoMem>
+    ensures { IfOk result (λ cells. cells ≡ spec.wrapped (the_world around.entry).classes.classes (length (the_world around.entry).classes.classes) class (CCell.Const vtable ∷ [])) }
+{
     let mut cells = Seq::new(alloc);
     cells.push(CCell::Const(vtable))?;
     let mut at = class;
-    for _ in 0..around.classes.len() {
+    for _turn in 0..around.classes.len() {
         match around.classes.base(at) {
             None => return Ok(cells),
             Some(base) => {
@@ -112,7 +132,9 @@ fn instance_cells(
     Ok(cells)
 }
 
-fn exception_of(alloc: Global, around: Around<'_>, class: ClassId) -> Result<LlStatic, NoMem> {
+fn exception_of(alloc: Global, around: Around<'_>, class: ClassId) -> Result<LlStatic, NoMem>
+    ensures { IfOk result (λ made. made ≡ spec.exception (the_world around.entry) class) }
+{
     let (kind, vtable) = match around.layout.laid(class) {
         None => (0, CConst::Null),
         Some(laid) => {
@@ -131,7 +153,9 @@ pub fn push_exceptions(
     alloc: Global,
     around: Around<'_>,
     statics: &mut Seq<LlStatic>,
-) -> Result<(), NoMem> {
+) -> Result<(), NoMem>
+    ensures { OnOk result (statics.new ≡ statics.old ++ spec.exceptions (the_world around.entry)) }
+{
     if around.layout.laid(0).is_none() {
         return Ok(());
     }

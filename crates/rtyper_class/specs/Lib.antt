@@ -1,0 +1,6 @@
+pub mod Attributes
+pub mod Calls
+pub mod Instances
+pub mod Lowering
+pub mod Seen
+pub mod Vtables
