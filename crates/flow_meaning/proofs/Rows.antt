@@ -17,6 +17,7 @@ use Rattle.flow_graph.specs.declared.graph.Op.{Op}
 use Rattle.flow_graph.specs.declared.graph.Block.{Block}
 use Rattle.flow_graph.specs.declared.graph.Graphs.{Graphs}
 use Rattle.flow_meaning.specs.Meaning.{run, gmean}
+use Rattle.flow_meaning.specs.Moments.{run_to, gmoment}
 
 -- ---- graphs of one function with one parameter
 
@@ -101,3 +102,16 @@ caller = record program {
 passes_once : seen (gmean caller calling [] 1 10) ≡ Some (Some Running, 1, 0)
 unfolding calling caller run
 passes_once = refl
+
+-- the moments of these: the entry, before the call, its entry, behind it, and then the end
+stands_behind_the_call : seen (gmoment caller calling [] 9 3 99) ≡ Some (Some Running, 1, 7)
+unfolding calling caller run_to
+stands_behind_the_call = refl
+
+stands_in_the_call : seen (gmoment caller calling [] 9 2 99) ≡ Some (Some Running, 1, 8)
+unfolding calling caller run_to
+stands_in_the_call = refl
+
+stands_at_the_end : seen (gmoment caller calling [] 9 4 99) ≡ Some (Some (Returned (pos 7)), 0, 7)
+unfolding calling caller run_to
+stands_at_the_end = refl

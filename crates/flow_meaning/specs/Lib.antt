@@ -1,3 +1,4 @@
 pub mod Machine
 pub mod Meaning
 pub mod Roots
+pub mod Moments

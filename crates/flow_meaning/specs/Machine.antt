@@ -74,6 +74,12 @@ pub data State : Type 0 where
   Returning : (value : Value) → (frames : List Frame) → (world : World) → State
   Throwing : (exception : ℕ) → (frames : List Frame) → (world : World) → State
 
+abbrev pub world_of : State → World
+world_of (Calling f args instead frames world) = world
+world_of (At f ops exit env instead frames world) = world
+world_of (Returning v frames world) = world
+world_of (Throwing r frames world) = world
+
 -- what one step leads to: a state; the end of the run; want of steps; or no way that a program has
 pub data Next : Type 0 where
   Goes : (state : State) → Next

@@ -19,9 +19,15 @@ use Rattle.flow_space.specs.declared.code.Hand.{Hand}
 use Rattle.flow_space.specs.declared.code.Scope.{Scope}
 use Rattle.flow_space.specs.declared.statement.Ways.{Ways}
 use Rattle.resolved_meaning.specs.Programs.{value_in}
-use Rattle.resolved_meaning.specs.Trees.{program_of, function_of, block_of}
-use Rattle.flow_space.specs.Placed.{Part, Headed, ShapeAt, BlockAt, GraphAt, GraphsAt, FlowAt, hands_of}
-use Rattle.flow_space.proofs.Parts.{part_then, part_patch}
+use Rattle.resolved_meaning.specs.Trees as bare
+use Rattle.resolved_meaning.specs.Trees.{program_of}
+use Rattle.flow_space.specs.Marks as marks
+use Rattle.flow_space.specs.Ops.{OfBlocks, InBlock, InFunction}
+use Rattle.flow_space.specs.Trees.{function_of, block_of}
+use Rattle.flow_space.specs.Placed.{Part, Headed, ShapeAt, MarkedAt, BlockAt, GraphAt, GraphsAt, NodesAt, FlowAt, hands_of}
+use Rattle.flow_space.proofs.Forget.{function_stands}
+use Rattle.flow_space.proofs.Parts.{either, blocks_map, part_then, part_patch}
+use Rattle.flow_space.proofs.Plain.{function_plain}
 
 -- the scope and the ways of a function's body
 abbrev scope_for : ℕ → List Hand → Covers → ℕ → Scope
@@ -36,12 +42,12 @@ pub graph_stands : (program : Resolved) (function : Function) (number : ℕ) (bo
     → Part c1 c2 (ShapeAt returning 1 GiveBack) → returning ≡ length c1 → length c2 ≡ length c1 + 1
     → Part c2 c3 (ShapeAt raising 1 GiveUp) → raising ≡ length c2 → length c3 ≡ length c2 + 1
     → Part c3 c4 (ShapeAt never 0 (Go (first 3 0))) → never ≡ length c3 → length c4 ≡ length c3 + 1
-    → Part c4 c5 (ShapeAt end function.locals (Plain row.None (first_and 1 0 function.locals))) → end ≡ length c4
+    → Part c4 c5 (MarkedAt end function.locals function.node false (Plain row.None (first_and 1 0 function.locals))) → end ≡ length c4
     → Part c5 c6 (BlockAt (scope_for function.locals hands covers raising) program body begin function.locals (ways_for function.locals end returning))
     → final ≡ slice_set c6 head (numbered base count 0 false (Go (first begin count)))
     → body ≡ function.body → hands ≡ [] → covers ≡ no_covers → length function.defaults ≤ function.locals
     → GraphAt program function (record { function = number; blocks = final })
-graph_stands program function number body hands covers old c1 c2 c3 c4 c5 c6 final head base count returning raising never end begin is_old headed p1 at1 n1 p2 at2 n2 p3 at3 n3 p4 at4 p5 last is_body no_hands nothing few gs f is =
+graph_stands program function number body hands covers old c1 c2 c3 c4 c5 c6 final head base count returning raising never end begin is_old headed p1 at1 n1 p2 at2 n2 p3 at3 n3 p4 at4 p5 last is_body no_hands nothing few =
     let n = function.locals in
     let len1 : length c1 ≡ 1 = omega (arith, ap length headed.grows.1, length-append old (headed.grows.0 ∷ []), ap length is_old) in
     let zero_at : head ≡ 0 = headed.at ∙ ap length is_old in
@@ -50,25 +56,33 @@ graph_stands program function number body hands covers old c1 c2 c3 c4 c5 c6 fin
     let three_at : never ≡ 3 = omega (arith, at3, n2, n1, len1) in
     let four_at : end ≡ 4 = omega (arith, at4, n3, n2, n1, len1) in
     let whole = part_patch final base n head count begin headed (part_then (part_then (part_then (part_then p1 p2) p3) p4) p5) last in
-    let k = whole.stands program gs f (λ b le lt. ap (λ g. block_in g b) is) in
-    let p = program_of program in
-    let few2 : length (map (option_map (value_in program.sites)) function.defaults) ≤ n = let l = length-map function.defaults (option_map (value_in program.sites)) in omega (arith, l, few) in
-    let b1 = k.1.1 refl in
-    let b2 = subst (λ ss. stands.HasBlock p gs f n (record { hands = hands_of hands; default = record { to = raising; keep = 0 }; covers = covers; tried = false }) (block_of program.sites ss) begin n (record { norm = end; brk = record { to = end; keep = n }; cont = record { to = end; keep = n }; ret = record { to = returning; keep = 0 } })) is_body b1 in
-    let b3 = subst (λ hs. stands.HasBlock p gs f n (record { hands = hands_of hs; default = record { to = raising; keep = 0 }; covers = covers; tried = false }) (block_of program.sites function.body) begin n (record { norm = end; brk = record { to = end; keep = n }; cont = record { to = end; keep = n }; ret = record { to = returning; keep = 0 } })) no_hands b2 in
-    let b4 = subst (λ cs. stands.HasBlock p gs f n (record { hands = []; default = record { to = raising; keep = 0 }; covers = cs; tried = false }) (block_of program.sites function.body) begin n (record { norm = end; brk = record { to = end; keep = n }; cont = record { to = end; keep = n }; ret = record { to = returning; keep = 0 } })) nothing b3 in
-    let b5 = subst (λ j. stands.HasBlock p gs f n (record { hands = []; default = record { to = j; keep = 0 }; covers = no_covers; tried = false }) (block_of program.sites function.body) begin n (record { norm = end; brk = record { to = end; keep = n }; cont = record { to = end; keep = n }; ret = record { to = returning; keep = 0 } })) two_at b4 in
-    let b6 = subst (λ j. stands.HasBlock p gs f n stands.no_try (block_of program.sites function.body) begin n (record { norm = j; brk = record { to = j; keep = n }; cont = record { to = j; keep = n }; ret = record { to = returning; keep = 0 } })) four_at b5 in
-    let b7 = subst (λ j. stands.HasBlock p gs f n stands.no_try (block_of program.sites function.body) begin n (record { norm = 4; brk = record { to = 4; keep = n }; cont = record { to = 4; keep = n }; ret = record { to = j; keep = 0 } })) one_at b6 in (
-      begin,
-      few2,
-      subst (λ j. ShapeAt j n (Go (first begin n)) program gs f) zero_at k.0,
-      subst (λ j. ShapeAt j 1 GiveBack program gs f) one_at k.1.0.0.0.0,
-      subst (λ j. ShapeAt j 1 GiveUp program gs f) two_at k.1.0.0.0.1,
-      subst (λ j. ShapeAt j 0 (Go (first 3 0)) program gs f) three_at k.1.0.0.1,
-      subst (λ j. ShapeAt j n (Plain row.None (first_and 1 0 n)) program gs f) four_at k.1.0.1,
-      b7,
-    )
+    let is : final ≡ whole.grows.0 = whole.grows.1 ∙ ap (λ l. l ++ whole.grows.0) is_old in
+    record {
+      stands = λ gs f is.
+          let k = whole.stands program gs f (λ b le lt. ap (λ g. block_in g b) is) in
+          let p = program_of program in
+          let few2 : length (map (option_map (value_in program.sites)) function.defaults) ≤ n = let l = length-map function.defaults (option_map (value_in program.sites)) in omega (arith, l, few) in
+          let b1 = k.1.1 refl in
+          let b2 = subst (λ ss. marks.HasBlock p gs f n (record { hands = hands_of hands; default = record { to = raising; keep = 0 }; covers = covers; tried = false }) (block_of program.sites ss) begin n (record { norm = end; brk = record { to = end; keep = n }; cont = record { to = end; keep = n }; ret = record { to = returning; keep = 0 } })) is_body b1 in
+          let b3 = subst (λ hs. marks.HasBlock p gs f n (record { hands = hands_of hs; default = record { to = raising; keep = 0 }; covers = covers; tried = false }) (block_of program.sites function.body) begin n (record { norm = end; brk = record { to = end; keep = n }; cont = record { to = end; keep = n }; ret = record { to = returning; keep = 0 } })) no_hands b2 in
+          let b4 = subst (λ cs. marks.HasBlock p gs f n (record { hands = []; default = record { to = raising; keep = 0 }; covers = cs; tried = false }) (block_of program.sites function.body) begin n (record { norm = end; brk = record { to = end; keep = n }; cont = record { to = end; keep = n }; ret = record { to = returning; keep = 0 } })) nothing b3 in
+          let b5 = subst (λ j. marks.HasBlock p gs f n (record { hands = []; default = record { to = j; keep = 0 }; covers = no_covers; tried = false }) (block_of program.sites function.body) begin n (record { norm = end; brk = record { to = end; keep = n }; cont = record { to = end; keep = n }; ret = record { to = returning; keep = 0 } })) two_at b4 in
+          let b6 = subst (λ j. marks.HasBlock p gs f n stands.no_try (block_of program.sites function.body) begin n (record { norm = j; brk = record { to = j; keep = n }; cont = record { to = j; keep = n }; ret = record { to = returning; keep = 0 } })) four_at b5 in
+          let b7 = subst (λ j. marks.HasBlock p gs f n stands.no_try (block_of program.sites function.body) begin n (record { norm = 4; brk = record { to = 4; keep = n }; cont = record { to = 4; keep = n }; ret = record { to = j; keep = 0 } })) one_at b6 in (
+            begin,
+            few2,
+            subst (λ j. (ShapeAt j n (Go (first begin n))).stands program gs f) zero_at k.0,
+            subst (λ j. (ShapeAt j 1 GiveBack).stands program gs f) one_at k.1.0.0.0.0,
+            subst (λ j. (ShapeAt j 1 GiveUp).stands program gs f) two_at k.1.0.0.0.1,
+            subst (λ j. (ShapeAt j 0 (Go (first 3 0))).stands program gs f) three_at k.1.0.0.1,
+            subst (λ j. (MarkedAt j n function.node false (Plain row.None (first_and 1 0 n))).stands program gs f) four_at k.1.0.1,
+            b7,
+          );
+      only = subst (λ bs. OfBlocks (λ x g w. InFunction x g w (function_of program.sites function)) bs) (sym is)
+          (blocks_map (λ x g w. either (either (either (either (λ a. absurd a) (λ a. absurd a)) (λ a. absurd a)) (λ a. inl (a.0, a.1)))
+          (λ a. inr (subst (λ ss. InBlock x g w (block_of program.sites ss)) is_body a)))
+          whole.grows.0 (whole.only program));
+    }
 
 get_before : {A : Type 0} (a more : List A) (i : ℕ) → i < length a → slice_get (a ++ more) i ≡ slice_get a i
 get_before [] more i lt = absurd (omega arith)
@@ -100,21 +114,44 @@ graphs_push program functions graphs new function graph index len item is e all 
 
 -- graphs of all functions stand for the program
 stand_by : (program : Resolved) (gs : Graphs) (f : ℕ) (functions : List Function) → length gs.graphs ≡ length functions → GraphsAt program functions gs.graphs
-    → (o : Option Function) → slice_get functions f ≡ o → stands.IfFunction (program_of program) gs f (option_map (function_of program.sites) o)
+    → (o : Option Function) → slice_get functions f ≡ o → marks.IfFunction (program_of program) gs f (option_map (function_of program.sites) o)
 stand_by program gs f functions len all None e = tt
 stand_by program gs f functions len all (Some function) e = by (slice_get gs.graphs f) refl
   where
-    by : (g : Option Graph) → slice_get gs.graphs f ≡ g → stands.HasFunction (program_of program) gs f (function_of program.sites function)
-    by (Some graph) z = all f function graph e z gs f z
+    by : (g : Option Graph) → slice_get gs.graphs f ≡ g → marks.HasFunction (program_of program) gs f (function_of program.sites function)
+    by (Some graph) z = (all f function graph e z).stands gs f z
     by None z = absurd (let lt = slice_get_within functions f function e in let y = slice_get-get_or gs.graphs f (record { function = 0; blocks = [] }) (omega (arith, lt, len)) in cc)
+
+-- a graph has no other operations than its function, which there is
+only_by : (program : Resolved) (gs : Graphs) (f : ℕ) (graph : Graph) (functions : List Function) → length gs.graphs ≡ length functions → GraphsAt program functions gs.graphs → slice_get gs.graphs f ≡ Some graph
+    → (o : Option Function) → slice_get functions f ≡ o
+    → (function : Function) × (slice_get functions f ≡ Some function) × OfBlocks (λ x g w. InFunction x g w (function_of program.sites function)) graph.blocks
+only_by program gs f graph functions len all z (Some function) e = (function, e, (all f function graph e z).only)
+only_by program gs f graph functions len all z None e =
+    absurd (let lt = slice_get_within gs.graphs f graph z in let y = slice_get-get_or functions f (record { node = 0; name = []; defaults = []; takes_more = false; locals = 0; body = [] }) (omega (arith, lt, len)) in cc)
 
 get_map : {A B : Type 0} (g : A → B) (xs : List A) (i : ℕ) → slice_get (map g xs) i ≡ option_map g (slice_get xs i)
 get_map {A = A} {B = B} g [] i = refl
 get_map {A = A} {B = B} g (x ∷ xs) zero = refl
 get_map {A = A} {B = B} g (x ∷ xs) (suc i) = get_map g xs i
 
-pub all_stand : (program : Resolved) (gs : Graphs) → length gs.graphs ≡ length program.functions → GraphsAt program program.functions gs.graphs → FlowAt program gs
+pub all_stand : (program : Resolved) (gs : Graphs) → length gs.graphs ≡ length program.functions → GraphsAt program program.functions gs.graphs → NodesAt program gs
+all_stand program gs len all = record {
+  stand = λ f.
+      subst (λ o. marks.IfFunction (program_of program) gs f o) (sym (get_map (function_of program.sites) program.functions f))
+      (stand_by program gs f program.functions len all (slice_get program.functions f) refl);
+  only = λ f graph z. only_by program gs f graph program.functions len all z (slice_get program.functions f) refl;
+}
+
+forget_by : (program : Resolved) (gs : Graphs) (f : ℕ) (o : Option Function) → marks.IfFunction (program_of program) gs f (option_map (function_of program.sites) o)
+    → stands.IfFunction (program_of program) gs f (option_map (bare.function_of program.sites) o)
+forget_by program gs f None h = tt
+forget_by program gs f (Some function) h =
+    subst (λ g. stands.HasFunction (program_of program) gs f g) (function_plain program.sites function) (function_stands (program_of program) gs f (function_of program.sites function) h)
+
+-- graphs that stand with nodes stand without
+pub nodes_forgotten : (program : Resolved) (gs : Graphs) → NodesAt program gs → FlowAt program gs
 unfolding program_of
-all_stand program gs len all f =
-    subst (λ o. stands.IfFunction (program_of program) gs f o) (sym (get_map (function_of program.sites) program.functions f))
-    (stand_by program gs f program.functions len all (slice_get program.functions f) refl)
+nodes_forgotten program gs h f =
+    subst (λ o. stands.IfFunction (program_of program) gs f o) (sym (get_map (bare.function_of program.sites) program.functions f))
+    (forget_by program gs f (slice_get program.functions f) (subst (λ o. marks.IfFunction (program_of program) gs f o) (get_map (function_of program.sites) program.functions f) (h.stand f)))

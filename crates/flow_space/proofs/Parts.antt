@@ -1,5 +1,5 @@
 -- Parts that were put one after another.
-use Rattle.std.proofs.Common.{◌≡◌, ℕ, zero, suc, ◌+◌, ◌<◌, Bool, false, List, [], ◌∷◌, ◌++◌, length, map, Some, refl, sym, ap, ◌∙◌, subst, arith, append_assoc, append-nil, length-append, add-zero, add-one}
+use Rattle.std.proofs.Common.{◌≡◌, ℕ, zero, suc, ◌+◌, ◌<◌, Bool, false, List, [], ◌∷◌, ◌++◌, length, map, ◌⊎◌, inl, inr, Some, refl, sym, ap, ◌∙◌, subst, arith, append_assoc, append-nil, length-append, add-zero, add-one}
 use Rattle.std.specs.Prelude.{slice_get, slice_set, IfOk, OnOk}
 use Rattle.std.proofs.Common.{Result, Ok, Err}
 use Rattle.rpy_base.specs.declared.fault.NoMem.{NoMem}
@@ -8,9 +8,12 @@ use Rattle.rpy_resolved.specs.declared.tree.Resolved.{Resolved}
 use Rattle.flow_graph.specs.declared.graph.Block.{Block}
 use Rattle.flow_graph.specs.declared.graph.Graphs.{Graphs}
 use Rattle.flow_graph.specs.declared.graph.Link.{Link}
-use Rattle.flow_stands.specs.Places.{Shape, Go, range, numbered, link, links, hand_jumps, stored_if_any, first}
+use Rattle.flow_graph.specs.declared.graph.Op.{Op}
+use Rattle.rpy_meaning.specs.declared.row.RowOp.{RowOp}
+use Rattle.flow_space.specs.Ops.{Property, OfOps, OfBlocks, IsOp, InShape, Helps}
+use Rattle.flow_stands.specs.Places.{Shape, Go, Fork, Does, Plain, GiveBack, GiveUp, range, numbered, link, links, hand_jumps, stored_if_any, first}
 use Rattle.flow_space.specs.declared.code.Hand.{Hand}
-use Rattle.flow_space.specs.Placed.{At, Part, Headed, ShapeAt, aim_of, hands_of}
+use Rattle.flow_space.specs.Placed.{At, Part, Headed, ShapeAt, MarkedAt, aim_of, hands_of}
 
 get_left : (a more : List Block) (p : ℕ) → p < length a → slice_get (a ++ more) p ≡ slice_get a p
 get_left [] more p lt = absurd (omega arith)
@@ -27,19 +30,62 @@ get_other [] b x more (suc p) lt = refl
 get_other (y ∷ old) b x more zero lt = absurd (omega arith)
 get_other (y ∷ old) b x more (suc p) lt = get_other old b x more p (omega arith)
 
+-- ---- operations of blocks
+
+pub either : {A B C : Type 0} → (A → C) → (B → C) → A ⊎ B → C
+either g h (inl a) = g a
+either g h (inr b) = h b
+
+pub helps : {x node : ℕ} {g : Bool} {w op : RowOp} → IsOp x g w node false op → Helps x g w node
+helps h = (h.0, h.1)
+
+ops_map : {P Q : Property} → ((x : ℕ) (g : Bool) (w : RowOp) → P x g w → Q x g w) → (ops : List Op) → OfOps P ops → OfOps Q ops
+ops_map h [] all = tt
+ops_map h (op ∷ ops) all = (h op.node op.value op.op all.0, ops_map h ops all.1)
+
+pub blocks_map : {P Q : Property} → ((x : ℕ) (g : Bool) (w : RowOp) → P x g w → Q x g w) → (blocks : List Block) → OfBlocks P blocks → OfBlocks Q blocks
+blocks_map h [] all = tt
+blocks_map h (block ∷ blocks) all = (ops_map h block.ops all.0, blocks_map h blocks all.1)
+
+blocks_append : (P : Property) (xs ys : List Block) → OfBlocks P xs → OfBlocks P ys → OfBlocks P (xs ++ ys)
+blocks_append P [] ys all more = more
+blocks_append P (x ∷ xs) ys all more = (all.0, blocks_append P xs ys all.1 more)
+
+shape_ops : (base m node : ℕ) (value : Bool) (shape : Shape) → OfOps (λ x g w. InShape x g w node value shape) (numbered base m node value shape).ops
+shape_ops base m node value (Go jump) = tt
+shape_ops base m node value (Fork test so other) = tt
+shape_ops base m node value (Does op args covers hands default norm) = ((refl, refl, refl), tt)
+shape_ops base m node value (Plain op jump) = ((refl, refl, refl), tt)
+shape_ops base m node value GiveBack = tt
+shape_ops base m node value GiveUp = tt
+
+-- ---- parts
+
+pub part_map : {old new : List Block} {P Q : At} → ((r : Resolved) (gs : Graphs) (f : ℕ) → P.stands r gs f → Q.stands r gs f) → ((r : Resolved) (x : ℕ) (g : Bool) (w : RowOp) → P.ops r x g w → Q.ops r x g w) → Part old new P → Part old new Q
+part_map g ops x = record { grows = x.grows; stands = λ r gs f h. g r gs f (x.stands r gs f h); only = λ r. blocks_map (ops r) x.grows.0 (x.only r) }
+
 -- one block more
-pub part_push : (old new : List Block) (base node : ℕ) (value : Bool) (b m : ℕ) (shape : Shape) → b ≡ length old → new ≡ old ++ numbered base m node value shape ∷ [] → Part old new (ShapeAt b m shape)
-part_push old new base node value b m shape at e =
+pub part_marked : (old new : List Block) (base node : ℕ) (value : Bool) (b m : ℕ) (shape : Shape) → b ≡ length old → new ≡ old ++ numbered base m node value shape ∷ [] → Part old new (MarkedAt b m node value shape)
+part_marked old new base node value b m shape at e =
     let block = numbered base m node value shape in
     record {
       grows = (block ∷ [], e);
       stands = λ r gs f h.
           let lt : b < length new = omega (arith, ap length e, length-append old (block ∷ []), at) in
-          (base, node, value, h b (omega (arith, at)) lt ∙ ap (λ l. slice_get l b) e ∙ ap (slice_get (old ++ block ∷ [])) at ∙ get_seam old block []);
+          (base, h b (omega (arith, at)) lt ∙ ap (λ l. slice_get l b) e ∙ ap (slice_get (old ++ block ∷ [])) at ∙ get_seam old block []);
+      only = λ r. (shape_ops base m node value shape, tt);
     }
 
+-- one without an operation
+pub part_push : (old new : List Block) (base node : ℕ) (value : Bool) (b m : ℕ) (shape : Shape) → ((x : ℕ) (g : Bool) (w : RowOp) → InShape x g w node value shape → ⊥) → b ≡ length old → new ≡ old ++ numbered base m node value shape ∷ []
+    → Part old new (ShapeAt b m shape)
+part_push old new base node value b m shape none at e = part_map (λ r gs f h. (h.0, node, value, h.1)) (λ r x g w h. none x g w h) (part_marked old new base node value b m shape at e)
+
 -- one part after another
-pub part_then : {old mid new : List Block} {P Q : At} → Part old mid P → Part mid new Q → Part old new (λ r gs f. P r gs f × Q r gs f)
+abbrev pub Both : At → At → At
+Both P Q = record { stands = λ r gs f. P.stands r gs f × Q.stands r gs f; ops = λ r x g w. P.ops r x g w ⊎ Q.ops r x g w }
+
+pub part_then : {old mid new : List Block} {P Q : At} → Part old mid P → Part mid new Q → Part old new (Both P Q)
 part_then {old} {mid} {new} {P} {Q} x y =
     let l1 = ap length x.grows.1 ∙ length-append old x.grows.0 in
     let l2 = ap length y.grows.1 ∙ length-append mid y.grows.0 in
@@ -49,16 +95,17 @@ part_then {old} {mid} {new} {P} {Q} x y =
         x.stands r gs f (λ p le lt. h p le (omega (arith, l2, lt)) ∙ ap (λ l. slice_get l p) y.grows.1 ∙ get_left mid y.grows.0 p lt),
         y.stands r gs f (λ p le lt. h p (omega (arith, l1, le)) lt),
       );
+      only = λ r. blocks_append (λ n g w. P.ops r n g w ⊎ Q.ops r n g w) x.grows.0 y.grows.0 (blocks_map (λ x g w h. inl h) x.grows.0 (x.only r)) (blocks_map (λ x g w h. inr h) y.grows.0 (y.only r));
     }
 
-pub part_map : {old new : List Block} {P Q : At} → ((r : Resolved) (gs : Graphs) (f : ℕ) → P r gs f → Q r gs f) → Part old new P → Part old new Q
-part_map g x = record { grows = x.grows; stands = λ r gs f h. g r gs f (x.stands r gs f h) }
-
-pub part_none : {P : At} (old : List Block) → ((r : Resolved) (gs : Graphs) (f : ℕ) → P r gs f) → Part old old P
-part_none old x = record { grows = ([], sym (append-nil old)); stands = λ r gs f h. x r gs f }
+pub part_none : {P : At} (old : List Block) → ((r : Resolved) (gs : Graphs) (f : ℕ) → P.stands r gs f) → Part old old P
+part_none old x = record { grows = ([], sym (append-nil old)); stands = λ r gs f h. x r gs f; only = λ r. tt }
 
 -- a block that was put first and written last
-pub part_patch : {old c1 c2 : List Block} {P : At} (new : List Block) (base m k count to : ℕ) → Headed old c1 m k count → Part c1 c2 P → new ≡ slice_set c2 k (numbered base count 0 false (Go (first to count))) → Part old new (λ r gs f. ShapeAt k m (Go (first to m)) r gs f × P r gs f)
+abbrev pub Patched : ℕ → ℕ → ℕ → At → At
+Patched k m to P = record { stands = λ r gs f. (ShapeAt k m (Go (first to m))).stands r gs f × P.stands r gs f; ops = P.ops }
+
+pub part_patch : {old c1 c2 : List Block} {P : At} (new : List Block) (base m k count to : ℕ) → Headed old c1 m k count → Part c1 c2 P → new ≡ slice_set c2 k (numbered base count 0 false (Go (first to count))) → Part old new (Patched k m to P)
 part_patch {old} {c1} {c2} {P} new base m k count to head y e2 =
     let b = numbered base count 0 false (Go (first to count)) in
     let x = head.grows.0 in
@@ -73,12 +120,13 @@ part_patch {old} {c1} {c2} {P} new base m k count to head y e2 =
     record {
       grows = (b ∷ more, new_is);
       stands = λ r gs f h. (
-        subst (λ n. ShapeAt k n (Go (first to n)) r gs f) head.count_is
+        subst (λ n. (ShapeAt k n (Go (first to n))).stands r gs f) head.count_is
             (base, 0, false, h k (omega (arith, at)) (omega (arith, l1, at)) ∙ ap (λ l. slice_get l k) new_is ∙ ap (slice_get (old ++ b ∷ more)) at ∙ get_seam old b more),
         y.stands r gs f (λ p le lt.
             let past : length old < p = omega (arith, l3, le) in
             h p (omega (arith, past)) (omega (arith, l1, l2, lt)) ∙ ap (λ l. slice_get l p) new_is ∙ get_other old b x more p past ∙ ap (λ l. slice_get l p) (sym c2_is)),
       );
+      only = λ r. (tt, y.only r);
     }
 
 -- ---- results
@@ -86,6 +134,10 @@ part_patch {old} {c1} {c2} {P} new base m k count to head y e2 =
 pub ok_map : {A : Type 0} {P Q : A → Type 0} (result : Result A NoMem) → ((x : A) → P x → Q x) → IfOk result P → IfOk result Q
 ok_map (Ok b) g h = g b h
 ok_map (Err e) g h = h
+
+pub ok_both : {A : Type 0} (P Q : A → Type 0) (result : Result A NoMem) → IfOk result P → IfOk result Q → IfOk result (λ x. P x × Q x)
+ok_both P Q (Ok x) g h = (g, h)
+ok_both P Q (Err e) g h = g
 
 pub ok_put : {Q : ℕ → Type 0} (result : Result ℕ NoMem) (new old : List Block) (block : Block) → IfOk result (λ b. b ≡ length old) → OnOk result (new ≡ old ++ block ∷ []) → ((b : ℕ) → b ≡ length old → new ≡ old ++ block ∷ [] → Q b) → IfOk result Q
 ok_put (Ok b) new old block at put g = g b at put

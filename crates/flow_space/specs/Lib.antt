@@ -1,1 +1,5 @@
+pub mod Marks
+pub mod Ops
 pub mod Placed
+pub mod Tree
+pub mod Trees

@@ -1,9 +1,8 @@
 -- What appended blocks say of every graph that they end up in, whatever program it is of.
-use Rattle.std.specs.Prelude.{◌≡◌, ℕ, ℤ, ◌+◌, ◌<◌, ◌≤◌, Bool, false, cond, List, [], ◌∷◌, ◌++◌, length, slice_get, map, Option, Some}
+use Rattle.std.specs.Prelude.{◌≡◌, ℕ, ℤ, ◌+◌, ◌<◌, ◌≤◌, ◌⊎◌, Bool, true, false, cond, List, [], ◌∷◌, ◌++◌, length, slice_get, map, Option, Some}
 use Rattle.rpy_meaning.specs.declared.row.RowOp.{RowOp}
 use Rattle.rpy_meaning.specs.declared.row.RowOp.TheVariants as row
 use Rattle.rpy_tree.specs.declared.program.Program.{Program}
-use Rattle.rpy_meaning.specs.Tree as tree
 use Rattle.rpy_resolved.specs.Count.{function_count}
 use Rattle.rpy_resolved.specs.declared.tree.Clause.{Clause}
 use Rattle.rpy_resolved.specs.declared.tree.Expr.{Expr}
@@ -20,9 +19,14 @@ use Rattle.flow_graph.specs.declared.graph.Graphs.{Graphs}
 use Rattle.flow_meaning.specs.Machine.{block_in}
 use Rattle.flow_stands.specs.Places.{Aim, Hand, Scope, Ways, Jump, Shape, Go, Fork, onto, first, first_and, stored}
 use Rattle.flow_stands.specs.Stands as stands
-use Rattle.flow_stands.specs.Stands.{Branch, Path, count}
+use Rattle.flow_stands.specs.Stands.{Branch}
 use Rattle.rpy_resolved.specs.declared.tree.Function.{Function}
-use Rattle.resolved_meaning.specs.Trees.{program_of, function_of, expr_of, exprs_of, pairs_of, subject_of, target_of, targets_of, condition_of, stmt_of, block_of, clauses_of}
+use Rattle.resolved_meaning.specs.Trees.{program_of}
+use Rattle.flow_space.specs.Tree as tree
+use Rattle.flow_space.specs.Trees.{functions_of, function_of, expr_of, exprs_of, pairs_of, subject_of, target_of, targets_of, condition_of, stmt_of, block_of, clauses_of}
+use Rattle.flow_space.specs.Marks as marks
+use Rattle.flow_space.specs.Marks.{Path}
+use Rattle.flow_space.specs.Ops.{Property, OfBlocks, IsOp, InShape, Helps, Meets, InExpr, InExprs, InPairs, InSubject, InCondition, InTarget, InTargets, InPath, InStmt, InBlock, InClauses, InFunction}
 use Rattle.flow_space.specs.declared.code.Aim as code_aim
 use Rattle.flow_space.specs.declared.code.Hand as code_hand
 use Rattle.flow_space.specs.declared.code.Jump as code_jump
@@ -39,14 +43,16 @@ use Rattle.flow_space.specs.declared.statement.Ways as code_ways
 abbrev pub Agrees : Graphs → ℕ → ℕ → List Block → Type 0
 Agrees gs f from blocks = (b : ℕ) → from ≤ b → b < length blocks → block_in (slice_get gs.graphs f) b ≡ slice_get blocks b
 
--- what is said of the graph of a function, of a program and all its graphs
-abbrev pub At : Type 1
-At = Resolved → Graphs → ℕ → Type 0
+-- what is said of the graph of a function, of a program and all its graphs; and of each operation
+pub record At : Type 1 where
+  pub stands : Resolved → Graphs → ℕ → Type 0
+  pub ops : Resolved → Property
 
--- blocks were added, and P holds of whatever graph has them at these numbers
+-- blocks were added, P stands in whatever graph has them at these numbers, and they have no other operations than those of P
 pub record Part (old new : List Block) (P : At) : Type 0 where
   pub grows : (more : List Block) × (new ≡ old ++ more)
-  pub stands : (r : Resolved) (gs : Graphs) (f : ℕ) → Agrees gs f (length old) new → P r gs f
+  pub stands : (r : Resolved) (gs : Graphs) (f : ℕ) → Agrees gs f (length old) new → P.stands r gs f
+  pub only : (r : Resolved) → OfBlocks (P.ops r) grows.0
 
 -- a block was added that is written later, and `head` is its number
 pub record Headed (old new : List Block) (m head count : ℕ) : Type 0 where
@@ -80,7 +86,7 @@ ways_of t = record { norm = t.norm; brk = aim_of t.brk; cont = aim_of t.cont; re
 -- ---- what targets take
 
 abbrev pub path_of : List TupleItem → Path
-path_of path = map (λ item. (item.count, item.place)) path
+path_of path = map (λ item. record { node = item.node; count = item.count; place = item.place }) path
 
 -- where it stands once it is taken behind m variables, and how many are there then
 abbrev pub taken_place : List TupleItem → ℕ → ℕ → ℕ
@@ -114,245 +120,395 @@ AreArgs other args i m value = args ≡ i ∷ []
 
 -- ---- what stands
 
+-- of a block without an operation, and of one whose operation has the node and the mark
 abbrev pub ShapeAt : ℕ → ℕ → Shape → At
-ShapeAt b m shape = λ r gs f. stands.Is (program_of r) gs f 0 b m shape
+ShapeAt b m shape = record {
+  stands = λ r gs f. marks.Is (program_of r) gs f 0 b m shape;
+  ops = λ r x g w. ⊥;
+}
+
+abbrev pub MarkedAt : ℕ → ℕ → ℕ → Bool → Shape → At
+MarkedAt b m node value shape = record {
+  stands = λ r gs f. marks.Marked (program_of r) gs f 0 b m node value shape;
+  ops = λ r x g w. InShape x g w node value shape;
+}
 
 module _ (sc : code_scope.Scope) where
-  abbrev pub ActsAt : ℕ → RowOp → List ℕ → ℕ → Jump → At
-  ActsAt b o args m norm = λ r gs f. stands.Acts (program_of r) gs f sc.locals (scope_of sc) b o args m norm
+  abbrev pub ActsAt : ℕ → ℕ → Bool → RowOp → List ℕ → ℕ → Jump → At
+  ActsAt b node value o args m norm = record {
+    stands = λ r gs f. marks.Acts (program_of r) gs f sc.locals (scope_of sc) b node value o args m norm;
+    ops = λ r x g w. IsOp x g w node value o;
+  }
 
-  abbrev pub MeetsAt : ℕ → ℕ → ℕ → At
-  MeetsAt b m q = λ r gs f. stands.Meets (program_of r) gs f sc.locals (scope_of sc) b m q
+  abbrev pub MeetsAt : ℕ → ℕ → ℕ → ℕ → At
+  MeetsAt node b m q = record {
+    stands = λ r gs f. marks.Meets (program_of r) gs f sc.locals (scope_of sc) node b m q;
+    ops = λ r x g w. IsOp x g w node true row.Copy;
+  }
 
   abbrev pub ExprAt : Expr → ℕ → ℕ → ℕ → At
-  ExprAt e b m q = λ r gs f. stands.HasExpr (program_of r) gs f sc.locals (scope_of sc) (expr_of r.sites e) b m q
+  ExprAt e b m q = record {
+    stands = λ r gs f. marks.HasExpr (program_of r) gs f sc.locals (scope_of sc) (expr_of r.sites e) b m q;
+    ops = λ r x g w. InExpr x g w (expr_of r.sites e);
+  }
 
   abbrev pub ExprsAt : List Expr → ℕ → ℕ → ℕ → At
-  ExprsAt es b m q = λ r gs f. stands.HasExprs (program_of r) gs f sc.locals (scope_of sc) (exprs_of r.sites es) b m q
+  ExprsAt es b m q = record {
+    stands = λ r gs f. marks.HasExprs (program_of r) gs f sc.locals (scope_of sc) (exprs_of r.sites es) b m q;
+    ops = λ r x g w. InExprs x g w (exprs_of r.sites es);
+  }
 
-  abbrev pub ApplyAt : RowOp → List Expr → ℕ → ℕ → ℕ → At
-  ApplyAt o es b m q = λ r gs f. stands.HasExpr (program_of r) gs f sc.locals (scope_of sc) (tree.Apply o (exprs_of r.sites es)) b m q
+  abbrev pub ApplyAt : ℕ → Bool → RowOp → List Expr → ℕ → ℕ → ℕ → At
+  ApplyAt node value o es b m q = record {
+    stands = λ r gs f. marks.HasExpr (program_of r) gs f sc.locals (scope_of sc) (tree.Apply node value o (exprs_of r.sites es)) b m q;
+    ops = λ r x g w. InExpr x g w (tree.Apply node value o (exprs_of r.sites es));
+  }
 
   -- `not` of a test as a value
-  abbrev pub NotAt : Expr → ℕ → ℕ → ℕ → At
-  NotAt a b m q = λ r gs f.
-      stands.NotAt (program_of r) gs f sc.locals (scope_of sc) (stands.HasTest (program_of r) gs f sc.locals (scope_of sc) (expr_of r.sites a)) b m q
+  abbrev pub NotAt : ℕ → Expr → ℕ → ℕ → ℕ → At
+  NotAt node a b m q = record {
+    stands = λ r gs f. marks.NotAt (program_of r) gs f sc.locals (scope_of sc) node (marks.HasTest (program_of r) gs f sc.locals (scope_of sc) node (expr_of r.sites a)) b m q;
+    ops = λ r x g w. Meets x g w node ⊎ InExpr x g w (expr_of r.sites a);
+  }
 
   -- `and` where the flag is true, else `or`
-  abbrev pub LogicAt : Bool → Expr → Expr → ℕ → ℕ → ℕ → At
-  LogicAt is_and a e b m q = λ r gs f.
-      stands.HasExpr (program_of r) gs f sc.locals (scope_of sc) (cond is_and (tree.And (expr_of r.sites a) (expr_of r.sites e)) (tree.Or (expr_of r.sites a) (expr_of r.sites e))) b m q
+  abbrev pub LogicAt : ℕ → Bool → Expr → Expr → ℕ → ℕ → ℕ → At
+  LogicAt node is_and a e b m q = record {
+    stands = λ r gs f. marks.HasExpr (program_of r) gs f sc.locals (scope_of sc) (cond is_and (tree.And node (expr_of r.sites a) (expr_of r.sites e)) (tree.Or node (expr_of r.sites a) (expr_of r.sites e))) b m q;
+    ops = λ r x g w. Meets x g w node ⊎ InExpr x g w (expr_of r.sites a) ⊎ InExpr x g w (expr_of r.sites e);
+  }
 
-  abbrev pub DisplayAt : ℕ → List (Expr × Expr) → ℕ → ℕ → ℕ → At
-  DisplayAt site pairs b m q = λ r gs f. stands.HasExpr (program_of r) gs f sc.locals (scope_of sc) (tree.Display site (pairs_of r.sites pairs)) b m q
+  abbrev pub DisplayAt : ℕ → ℕ → List (Expr × Expr) → ℕ → ℕ → ℕ → At
+  DisplayAt node site pairs b m q = record {
+    stands = λ r gs f. marks.HasExpr (program_of r) gs f sc.locals (scope_of sc) (tree.Display node site (pairs_of r.sites pairs)) b m q;
+    ops = λ r x g w. InExpr x g w (tree.Display node site (pairs_of r.sites pairs));
+  }
 
-  abbrev pub ComprehensionAt : ℕ → Expr → Target → Subject → Option Expr → ℕ → ℕ → ℕ → At
-  ComprehensionAt site item target subject condition b m q = λ r gs f.
-      stands.HasExpr (program_of r) gs f sc.locals (scope_of sc)
-      (tree.Comprehension site (expr_of r.sites item) (target_of r.sites target) (subject_of r.sites subject) (condition_of r.sites condition)) b m q
+  abbrev pub ComprehensionAt : ℕ → ℕ → Expr → Target → Subject → Option Expr → ℕ → ℕ → ℕ → At
+  ComprehensionAt node site item target subject condition b m q = record {
+    stands = λ r gs f. marks.HasExpr (program_of r) gs f sc.locals (scope_of sc)
+        (tree.Comprehension node site (expr_of r.sites item) (target_of r.sites target) (subject_of r.sites subject) (condition_of r.sites condition)) b m q;
+    ops = λ r x g w. InExpr x g w (tree.Comprehension node site (expr_of r.sites item) (target_of r.sites target) (subject_of r.sites subject) (condition_of r.sites condition));
+  }
 
-  abbrev pub TestAt : Expr → ℕ → ℕ → ℕ → ℕ → At
-  TestAt e b m so other_way = λ r gs f. stands.HasTest (program_of r) gs f sc.locals (scope_of sc) (expr_of r.sites e) b m so other_way
+  abbrev pub TestAt : ℕ → Expr → ℕ → ℕ → ℕ → ℕ → At
+  TestAt node e b m so other_way = record {
+    stands = λ r gs f. marks.HasTest (program_of r) gs f sc.locals (scope_of sc) node (expr_of r.sites e) b m so other_way;
+    ops = λ r x g w. Helps x g w node ⊎ InExpr x g w (expr_of r.sites e);
+  }
 
   -- a block in which a local is narrowed, and the way to it
-  abbrev pub NarrowedAt : Narrowing → ℕ → ℕ → ℕ → Jump → At
-  NarrowedAt narrowing m value to jump = λ r gs f.
-      (b : ℕ) × (args : List ℕ)
-      × (narrowing.local < sc.locals)
-      × stands.Narrows (program_of r) gs f sc.locals sc.covers (narrowing_op narrowing.kind) narrowing.local args m value
-      × stands.Acts (program_of r) gs f sc.locals (scope_of sc) b (narrowing_op narrowing.kind) args (value + 1) (stored to m narrowing.local (value + 1))
-      × (jump ≡ first b (value + 1))
+  abbrev pub NarrowedAt : ℕ → Narrowing → ℕ → ℕ → ℕ → Jump → At
+  NarrowedAt node narrowing m value to jump = record {
+    stands = λ r gs f. (b : ℕ) × (args : List ℕ)
+        × (narrowing.local < sc.locals)
+        × stands.Narrows (program_of r) gs f sc.locals sc.covers (narrowing_op narrowing.kind) narrowing.local args m value
+        × marks.Acts (program_of r) gs f sc.locals (scope_of sc) b node false (narrowing_op narrowing.kind) args (value + 1) (stored to m narrowing.local (value + 1))
+        × (jump ≡ first b (value + 1));
+    ops = λ r x g w. Helps x g w node;
+  }
 
-  abbrev pub WayAt : Expr → ℕ → ℕ → Branch → Jump → At
-  WayAt e m value branch jump = λ r gs f. stands.Way (program_of r) gs f sc.locals (scope_of sc) (expr_of r.sites e) m value branch jump
+  abbrev pub WayAt : ℕ → Expr → ℕ → ℕ → Branch → Jump → At
+  WayAt node e m value branch jump = record {
+    stands = λ r gs f. marks.Way (program_of r) gs f sc.locals (scope_of sc) node (expr_of r.sites e) m value branch jump;
+    ops = λ r x g w. Helps x g w node;
+  }
 
-  abbrev pub TruthAt : Expr → ℕ → ℕ → ℕ → Branch → Branch → At
-  TruthAt e b m value so other_way = λ r gs f. stands.Truth (program_of r) gs f sc.locals (scope_of sc) (expr_of r.sites e) b m value so other_way
+  abbrev pub TruthAt : ℕ → Expr → ℕ → ℕ → ℕ → Branch → Branch → At
+  TruthAt node e b m value so other_way = record {
+    stands = λ r gs f. marks.Truth (program_of r) gs f sc.locals (scope_of sc) node (expr_of r.sites e) b m value so other_way;
+    ops = λ r x g w. Helps x g w node;
+  }
 
-  abbrev pub AsksAt : Expr → ℕ → ℕ → Branch → Branch → At
-  AsksAt e b m so other_way = λ r gs f.
-      stands.Asks (program_of r) gs f sc.locals (scope_of sc) (expr_of r.sites e)
-      (stands.HasExpr (program_of r) gs f sc.locals (scope_of sc) (expr_of r.sites e))
-      (stands.HasSides (program_of r) gs f sc.locals (scope_of sc) (expr_of r.sites e)) b m so other_way
+  abbrev pub AsksAt : ℕ → Expr → ℕ → ℕ → Branch → Branch → At
+  AsksAt node e b m so other_way = record {
+    stands = λ r gs f. marks.Asks (program_of r) gs f sc.locals (scope_of sc) node (expr_of r.sites e)
+        (marks.HasExpr (program_of r) gs f sc.locals (scope_of sc) (expr_of r.sites e))
+        (marks.HasSides (program_of r) gs f sc.locals (scope_of sc) (expr_of r.sites e)) b m so other_way;
+    ops = λ r x g w. Helps x g w node ⊎ InExpr x g w (expr_of r.sites e);
+  }
 
   -- the operands of a comparison and its result
-  abbrev pub SidesAt : RowOp → List Expr → ℕ → ℕ → ℕ → At
-  SidesAt o es b m q = λ r gs f.
-      stands.HasSides (program_of r) gs f sc.locals (scope_of sc) (tree.Apply o (exprs_of r.sites es)) b m (length es) q
+  abbrev pub SidesAt : ℕ → Bool → RowOp → List Expr → ℕ → ℕ → ℕ → At
+  SidesAt node value o es b m q = record {
+    stands = λ r gs f. marks.HasSides (program_of r) gs f sc.locals (scope_of sc) (tree.Apply node value o (exprs_of r.sites es)) b m (length es) q;
+    ops = λ r x g w. IsOp x g w node value o ⊎ InExprs x g w (exprs_of r.sites es);
+  }
 
-  abbrev pub PairsAt : List (Expr × Expr) → ℕ → ℕ → ℕ → At
-  PairsAt pairs b m q = λ r gs f. stands.HasPairs (program_of r) gs f sc.locals (scope_of sc) (pairs_of r.sites pairs) b m q
+  abbrev pub PairsAt : ℕ → List (Expr × Expr) → ℕ → ℕ → ℕ → At
+  PairsAt node pairs b m q = record {
+    stands = λ r gs f. marks.HasPairs (program_of r) gs f sc.locals (scope_of sc) node (pairs_of r.sites pairs) b m q;
+    ops = λ r x g w. Helps x g w node ⊎ InPairs x g w (pairs_of r.sites pairs);
+  }
 
   -- a pair is stored to the dict at m
-  abbrev pub PairAt : Expr × Expr → ℕ → ℕ → ℕ → At
-  PairAt pair b m next = λ r gs f.
-      (k l : ℕ)
-      × stands.HasExpr (program_of r) gs f sc.locals (scope_of sc) (expr_of r.sites pair.0) b (m + 1) k
-      × stands.HasExpr (program_of r) gs f sc.locals (scope_of sc) (expr_of r.sites pair.1) k (m + 1 + 1) l
-      × stands.Acts (program_of r) gs f sc.locals (scope_of sc) l row.StoreIndex (m ∷ (m + 1) ∷ (m + 2) ∷ []) (m + 3) (first next (m + 1))
+  abbrev pub PairAt : ℕ → Expr × Expr → ℕ → ℕ → ℕ → At
+  PairAt node pair b m next = record {
+    stands = λ r gs f. (k l : ℕ)
+        × marks.HasExpr (program_of r) gs f sc.locals (scope_of sc) (expr_of r.sites pair.0) b (m + 1) k
+        × marks.HasExpr (program_of r) gs f sc.locals (scope_of sc) (expr_of r.sites pair.1) k (m + 1 + 1) l
+        × marks.Acts (program_of r) gs f sc.locals (scope_of sc) l node false row.StoreIndex (m ∷ (m + 1) ∷ (m + 2) ∷ []) (m + 3) (first next (m + 1));
+    ops = λ r x g w. Helps x g w node ⊎ InExpr x g w (expr_of r.sites pair.0) ⊎ InExpr x g w (expr_of r.sites pair.1);
+  }
 
   -- a turn of a walk, from the question for an item on
-  abbrev pub TurnAt : Option ℤ → ℕ → ℕ → ℕ → Jump → ℕ → At
-  TurnAt step over all turn after begin = λ r gs f.
-      (fork paid item : ℕ)
-      × stands.Acts (program_of r) gs f sc.locals (scope_of sc) begin (row.HasItem step) (over ∷ (over + 1) ∷ []) all (first_and fork all all)
-      × stands.Is (program_of r) gs f sc.locals fork (all + 1) (Fork all (first paid all) after)
-      × stands.Acts (program_of r) gs f sc.locals (scope_of sc) paid row.Turn [] all (first item all)
-      × stands.Acts (program_of r) gs f sc.locals (scope_of sc) item (row.Item step) (over ∷ (over + 1) ∷ []) all (first_and turn all all)
+  abbrev pub TurnAt : ℕ → Option ℤ → ℕ → ℕ → ℕ → Jump → ℕ → At
+  TurnAt node step over all turn after begin = record {
+    stands = λ r gs f. (fork paid item : ℕ)
+        × marks.Acts (program_of r) gs f sc.locals (scope_of sc) begin node false (row.HasItem step) (over ∷ (over + 1) ∷ []) all (first_and fork all all)
+        × marks.Is (program_of r) gs f sc.locals fork (all + 1) (Fork all (first paid all) after)
+        × marks.Acts (program_of r) gs f sc.locals (scope_of sc) paid node false row.Turn [] all (first item all)
+        × marks.Acts (program_of r) gs f sc.locals (scope_of sc) item node false (row.Item step) (over ∷ (over + 1) ∷ []) all (first_and turn all all);
+    ops = λ r x g w. Helps x g w node;
+  }
 
-  abbrev pub GatherAt : Expr → Option Expr → ℕ → ℕ → ℕ → ℕ → At
-  GatherAt item condition list m advance b = λ r gs f.
-      stands.GatherAt (program_of r) gs f sc.locals (scope_of sc)
-      (stands.HasExpr (program_of r) gs f sc.locals (scope_of sc) (expr_of r.sites item))
-      (stands.HasCondition (program_of r) gs f sc.locals (scope_of sc) (condition_of r.sites condition)) list b m advance
+  abbrev pub GatherAt : ℕ → Expr → Option Expr → ℕ → ℕ → ℕ → ℕ → At
+  GatherAt node item condition list m advance b = record {
+    stands = λ r gs f. marks.GatherAt (program_of r) gs f sc.locals (scope_of sc) node
+        (marks.HasExpr (program_of r) gs f sc.locals (scope_of sc) (expr_of r.sites item))
+        (marks.HasCondition (program_of r) gs f sc.locals (scope_of sc) node (condition_of r.sites condition)) list b m advance;
+    ops = λ r x g w. Helps x g w node ⊎ InExpr x g w (expr_of r.sites item) ⊎ InCondition x g w (condition_of r.sites condition);
+  }
 
-  abbrev pub SubjectAt : Subject → ℕ → ℕ → ℕ → At
-  SubjectAt subject b m q = λ r gs f. stands.HasSubject (program_of r) gs f sc.locals (scope_of sc) (subject_of r.sites subject) b m q
+  abbrev pub SubjectAt : ℕ → Subject → ℕ → ℕ → ℕ → At
+  SubjectAt node subject b m q = record {
+    stands = λ r gs f. marks.HasSubject (program_of r) gs f sc.locals (scope_of sc) node (subject_of r.sites subject) b m q;
+    ops = λ r x g w. Helps x g w node ⊎ InSubject x g w (subject_of r.sites subject);
+  }
 
   -- along a path, from the tuple at a place of `all` variables on
   abbrev pub UnpacksAt : Bool → List TupleItem → ℕ → ℕ → ℕ → ℕ → ℕ → At
-  UnpacksAt kept path at m all q b = λ r gs f. stands.Unpacks (program_of r) gs f sc.locals (scope_of sc) (λ w. last_jump kept q m w) m (path_of path) at all b
+  UnpacksAt kept path at m all q b = record {
+    stands = λ r gs f. marks.Unpacks (program_of r) gs f sc.locals (scope_of sc) (λ w. last_jump kept q m w) m (path_of path) at all b;
+    ops = λ r x g w. InPath x g w (path_of path);
+  }
 
   abbrev pub ThereAt : Source → ℕ → ℕ → ℕ → At
-  ThereAt source b m q = λ r gs f. stands.There (program_of r) gs f sc.locals (scope_of sc) (path_of source.path) source.at b m q
+  ThereAt source b m q = record {
+    stands = λ r gs f. marks.There (program_of r) gs f sc.locals (scope_of sc) (path_of source.path) source.at b m q;
+    ops = λ r x g w. InPath x g w (path_of source.path);
+  }
 
   abbrev pub TakenAt : Source → ℕ → ℕ → ℕ → At
-  TakenAt source b m q = λ r gs f.
-      stands.Taken (program_of r) gs f sc.locals (scope_of sc) (path_of source.path) source.at b m q (taken_place source.path source.at m) (taken_count source.path m)
+  TakenAt source b m q = record {
+    stands = λ r gs f. marks.Taken (program_of r) gs f sc.locals (scope_of sc) (path_of source.path) source.at b m q (taken_place source.path source.at m) (taken_count source.path m);
+    ops = λ r x g w. InPath x g w (path_of source.path);
+  }
 
   abbrev pub BindAt : Target → ℕ → ℕ → ℕ → ℕ → ℕ → At
-  BindAt target value m keep b q = λ r gs f. stands.HasBind (program_of r) gs f sc.locals (scope_of sc) (target_of r.sites target) [] value m keep b q
+  BindAt target value m keep b q = record {
+    stands = λ r gs f. marks.HasBind (program_of r) gs f sc.locals (scope_of sc) (target_of r.sites target) [] value m keep b q;
+    ops = λ r x g w. InTarget x g w (target_of r.sites target);
+  }
 
   abbrev pub TakeAt : Target → Source → ℕ → ℕ → ℕ → ℕ → At
-  TakeAt target source m keep b q = λ r gs f.
-      stands.HasBind (program_of r) gs f sc.locals (scope_of sc) (target_of r.sites target) (path_of source.path) source.at m keep b q
+  TakeAt target source m keep b q = record {
+    stands = λ r gs f. marks.HasBind (program_of r) gs f sc.locals (scope_of sc) (target_of r.sites target) (path_of source.path) source.at m keep b q;
+    ops = λ r x g w. InPath x g w (path_of source.path) ⊎ InTarget x g w (target_of r.sites target);
+  }
 
   -- it is taken, and a local takes it
-  abbrev pub NamedAt : ℕ → Source → ℕ → ℕ → ℕ → ℕ → At
-  NamedAt local source m keep b q = λ r gs f.
-      (k : ℕ)
-      × TakenAt source b m k r gs f
-      × ActsAt k row.Copy (taken_place source.path source.at m ∷ []) (taken_count source.path m) (stored q keep local (taken_count source.path m)) r gs f
+  abbrev pub NamedAt : ℕ → ℕ → Source → ℕ → ℕ → ℕ → ℕ → At
+  NamedAt node local source m keep b q = record {
+    stands = λ r gs f. (k : ℕ)
+        × (TakenAt source b m k).stands r gs f
+        × (ActsAt k node true row.Copy (taken_place source.path source.at m ∷ []) (taken_count source.path m) (stored q keep local (taken_count source.path m))).stands r gs f;
+    ops = λ r x g w. IsOp x g w node true row.Copy ⊎ InPath x g w (path_of source.path);
+  }
 
   -- or an operation stores it
-  abbrev pub StoredAt : RowOp → List ℕ → Source → ℕ → ℕ → ℕ → ℕ → At
-  StoredAt o args source m keep b q = λ r gs f.
-      (k : ℕ) × TakenAt source b m k r gs f × ActsAt k o args (taken_count source.path m) (first q keep) r gs f
+  abbrev pub StoredAt : ℕ → RowOp → List ℕ → Source → ℕ → ℕ → ℕ → ℕ → At
+  StoredAt node o args source m keep b q = record {
+    stands = λ r gs f. (k : ℕ) × (TakenAt source b m k).stands r gs f × (ActsAt k node true o args (taken_count source.path m) (first q keep)).stands r gs f;
+    ops = λ r x g w. IsOp x g w node true o ⊎ InPath x g w (path_of source.path);
+  }
 
-  abbrev pub ItemAt : Expr → Expr → Source → ℕ → ℕ → ℕ → ℕ → At
-  ItemAt a i source m keep b q = λ r gs f.
-      stands.HasBind (program_of r) gs f sc.locals (scope_of sc) (tree.Item (expr_of r.sites a) (expr_of r.sites i)) (path_of source.path) source.at m keep b q
+  abbrev pub ItemAt : ℕ → Expr → Expr → Source → ℕ → ℕ → ℕ → ℕ → At
+  ItemAt node a i source m keep b q = record {
+    stands = λ r gs f. marks.HasBind (program_of r) gs f sc.locals (scope_of sc) (tree.Item node (expr_of r.sites a) (expr_of r.sites i)) (path_of source.path) source.at m keep b q;
+    ops = λ r x g w. InPath x g w (path_of source.path) ⊎ InTarget x g w (tree.Item node (expr_of r.sites a) (expr_of r.sites i));
+  }
 
-  abbrev pub PartsAt : List Target → Source → ℕ → ℕ → ℕ → ℕ → At
-  PartsAt parts source m keep b q = λ r gs f.
-      stands.HasBind (program_of r) gs f sc.locals (scope_of sc) (tree.Parts (targets_of r.sites parts)) (path_of source.path) source.at m keep b q
+  abbrev pub PartsAt : ℕ → List Target → Source → ℕ → ℕ → ℕ → ℕ → At
+  PartsAt node parts source m keep b q = record {
+    stands = λ r gs f. marks.HasBind (program_of r) gs f sc.locals (scope_of sc) (tree.Parts node (targets_of r.sites parts)) (path_of source.path) source.at m keep b q;
+    ops = λ r x g w. InPath x g w (path_of source.path) ⊎ InTarget x g w (tree.Parts node (targets_of r.sites parts));
+  }
 
   -- the tuple is taken and copied
-  abbrev pub TupleAt : Source → ℕ → ℕ → ℕ → At
-  TupleAt source m b q = λ r gs f.
-      (k : ℕ) × TakenAt source b m k r gs f × ActsAt k row.Copy (taken_place source.path source.at m ∷ []) (taken_count source.path m) (first q m) r gs f
+  abbrev pub TupleAt : ℕ → Source → ℕ → ℕ → ℕ → At
+  TupleAt node source m b q = record {
+    stands = λ r gs f. (k : ℕ) × (TakenAt source b m k).stands r gs f × (ActsAt k node true row.Copy (taken_place source.path source.at m ∷ []) (taken_count source.path m) (first q m)).stands r gs f;
+    ops = λ r x g w. IsOp x g w node true row.Copy ⊎ InPath x g w (path_of source.path);
+  }
 
-  abbrev pub ItemsAt : List Target → ℕ → ℕ → Source → ℕ → ℕ → ℕ → At
-  ItemsAt parts count place source m b q = λ r gs f.
-      stands.HasItems (program_of r) gs f sc.locals (scope_of sc) (targets_of r.sites parts) count place (path_of source.path) source.at b m q
+  abbrev pub ItemsAt : ℕ → List Target → ℕ → ℕ → Source → ℕ → ℕ → ℕ → At
+  ItemsAt node parts count place source m b q = record {
+    stands = λ r gs f. marks.HasItems (program_of r) gs f sc.locals (scope_of sc) node (targets_of r.sites parts) count place (path_of source.path) source.at b m q;
+    ops = λ r x g w. Helps x g w node ⊎ InPath x g w (path_of source.path) ⊎ InTargets x g w (targets_of r.sites parts);
+  }
 
   -- ---- statements
 
-  abbrev pub MarkAt : ℕ → ℕ → ℕ → At
-  MarkAt b m q = λ r gs f. stands.Mark (program_of r) gs f sc.locals (scope_of sc) b m q
+  abbrev pub MarkAt : ℕ → ℕ → ℕ → ℕ → At
+  MarkAt node b m q = record {
+    stands = λ r gs f. marks.Mark (program_of r) gs f sc.locals (scope_of sc) node b m q;
+    ops = λ r x g w. Helps x g w node;
+  }
 
   abbrev pub ReturnAt : Expr → ℕ → ℕ → code_ways.Ways → At
-  ReturnAt e b m t = λ r gs f. stands.HasStmt (program_of r) gs f sc.locals (scope_of sc) (tree.Return (expr_of r.sites e)) b m (ways_of t)
+  ReturnAt e b m t = record {
+    stands = λ r gs f. (k : ℕ) × marks.HasExpr (program_of r) gs f sc.locals (scope_of sc) (expr_of r.sites e) b m k × marks.Is (program_of r) gs f sc.locals k (m + 1) (Go (first_and t.ret.to t.ret.keep m));
+    ops = λ r x g w. InExpr x g w (expr_of r.sites e);
+  }
 
   abbrev pub DoAt : Expr → ℕ → ℕ → ℕ → At
-  DoAt e b m q = λ r gs f.
-      (k : ℕ) × stands.HasExpr (program_of r) gs f sc.locals (scope_of sc) (expr_of r.sites e) b m k × stands.Is (program_of r) gs f sc.locals k (m + 1) (Go (first q m))
+  DoAt e b m q = record {
+    stands = λ r gs f. (k : ℕ) × marks.HasExpr (program_of r) gs f sc.locals (scope_of sc) (expr_of r.sites e) b m k × marks.Is (program_of r) gs f sc.locals k (m + 1) (Go (first q m));
+    ops = λ r x g w. InExpr x g w (expr_of r.sites e);
+  }
 
   abbrev pub AssignAt : List Target → Expr → ℕ → ℕ → ℕ → At
-  AssignAt ts e b m q = λ r gs f.
-      (k : ℕ) × stands.HasExpr (program_of r) gs f sc.locals (scope_of sc) (expr_of r.sites e) b m k × stands.HasTargets (program_of r) gs f sc.locals (scope_of sc) (targets_of r.sites ts) k m q
+  AssignAt ts e b m q = record {
+    stands = λ r gs f. (k : ℕ) × marks.HasExpr (program_of r) gs f sc.locals (scope_of sc) (expr_of r.sites e) b m k × marks.HasTargets (program_of r) gs f sc.locals (scope_of sc) (targets_of r.sites ts) k m q;
+    ops = λ r x g w. InTargets x g w (targets_of r.sites ts) ⊎ InExpr x g w (expr_of r.sites e);
+  }
 
   abbrev pub SimpleAt : Stmt → ℕ → ℕ → code_ways.Ways → At
-  SimpleAt s b m t = λ r gs f. stands.HasStmt (program_of r) gs f sc.locals (scope_of sc) (stmt_of r.sites s) b m (ways_of t)
+  SimpleAt s b m t = record {
+    stands = λ r gs f. marks.HasStmt (program_of r) gs f sc.locals (scope_of sc) (stmt_of r.sites s) b m (ways_of t);
+    ops = λ r x g w. InStmt x g w (stmt_of r.sites s);
+  }
 
   abbrev pub BindsAt : List Target → ℕ → ℕ → ℕ → At
-  BindsAt ts b m q = λ r gs f. stands.HasTargets (program_of r) gs f sc.locals (scope_of sc) (targets_of r.sites ts) b m q
+  BindsAt ts b m q = record {
+    stands = λ r gs f. marks.HasTargets (program_of r) gs f sc.locals (scope_of sc) (targets_of r.sites ts) b m q;
+    ops = λ r x g w. InTargets x g w (targets_of r.sites ts);
+  }
 
   -- the operation on the old value and the right side
-  abbrev pub NewAt : RowOp → ℕ → ℕ → ℕ → At
-  NewAt o b m q = λ r gs f. stands.NewAt (program_of r) gs f sc.locals (scope_of sc) o b m q
+  abbrev pub NewAt : ℕ → RowOp → ℕ → ℕ → ℕ → At
+  NewAt node o b m q = record {
+    stands = λ r gs f. marks.NewAt (program_of r) gs f sc.locals (scope_of sc) node o b m q;
+    ops = λ r x g w. Helps x g w node;
+  }
 
-  abbrev pub AugmentNameAt : ℕ → RowOp → Expr → ℕ → ℕ → ℕ → At
-  AugmentNameAt i o e b m q = λ r gs f. stands.HasAugment (program_of r) gs f sc.locals (scope_of sc) (tree.Name i) o (expr_of r.sites e) b m q
+  abbrev pub AugmentNameAt : ℕ → ℕ → ℕ → RowOp → Expr → ℕ → ℕ → ℕ → At
+  AugmentNameAt node at i o e b m q = record {
+    stands = λ r gs f. marks.HasAugment (program_of r) gs f sc.locals (scope_of sc) node (tree.Name at i) o (expr_of r.sites e) b m q;
+    ops = λ r x g w. InStmt x g w (tree.Augment node (tree.Name at i) o (expr_of r.sites e));
+  }
 
-  abbrev pub AugmentAttrAt : Expr → List ℕ → RowOp → Expr → ℕ → ℕ → ℕ → At
-  AugmentAttrAt a name o e b m q = λ r gs f. stands.HasAugment (program_of r) gs f sc.locals (scope_of sc) (tree.Attribute (expr_of r.sites a) name) o (expr_of r.sites e) b m q
+  abbrev pub AugmentAttrAt : ℕ → ℕ → Expr → List ℕ → RowOp → Expr → ℕ → ℕ → ℕ → At
+  AugmentAttrAt node at a name o e b m q = record {
+    stands = λ r gs f. marks.HasAugment (program_of r) gs f sc.locals (scope_of sc) node (tree.Attribute at (expr_of r.sites a) name) o (expr_of r.sites e) b m q;
+    ops = λ r x g w. InStmt x g w (tree.Augment node (tree.Attribute at (expr_of r.sites a) name) o (expr_of r.sites e));
+  }
 
-  abbrev pub AugmentItemAt : Expr → Expr → RowOp → Expr → ℕ → ℕ → ℕ → At
-  AugmentItemAt a i o e b m q = λ r gs f. stands.HasAugment (program_of r) gs f sc.locals (scope_of sc) (tree.Item (expr_of r.sites a) (expr_of r.sites i)) o (expr_of r.sites e) b m q
+  abbrev pub AugmentItemAt : ℕ → ℕ → Expr → Expr → RowOp → Expr → ℕ → ℕ → ℕ → At
+  AugmentItemAt node at a i o e b m q = record {
+    stands = λ r gs f. marks.HasAugment (program_of r) gs f sc.locals (scope_of sc) node (tree.Item at (expr_of r.sites a) (expr_of r.sites i)) o (expr_of r.sites e) b m q;
+    ops = λ r x g w. InStmt x g w (tree.Augment node (tree.Item at (expr_of r.sites a) (expr_of r.sites i)) o (expr_of r.sites e));
+  }
 
-  abbrev pub AugmentAt : Target → RowOp → Expr → ℕ → ℕ → ℕ → At
-  AugmentAt t o e b m q = λ r gs f. stands.HasAugment (program_of r) gs f sc.locals (scope_of sc) (target_of r.sites t) o (expr_of r.sites e) b m q
+  abbrev pub AugmentAt : ℕ → Target → RowOp → Expr → ℕ → ℕ → ℕ → At
+  AugmentAt node t o e b m q = record {
+    stands = λ r gs f. marks.HasAugment (program_of r) gs f sc.locals (scope_of sc) node (target_of r.sites t) o (expr_of r.sites e) b m q;
+    ops = λ r x g w. InStmt x g w (tree.Augment node (target_of r.sites t) o (expr_of r.sites e));
+  }
 
   -- a statement, a block and clauses, of a program
   module _ (program : Resolved) where
     abbrev pub StmtAt : Stmt → ℕ → ℕ → code_ways.Ways → At
-    StmtAt s b m t = λ r gs f. r ≡ program → stands.HasStmt (program_of r) gs f sc.locals (scope_of sc) (stmt_of r.sites s) b m (ways_of t)
+    StmtAt s b m t = record {
+      stands = λ r gs f. r ≡ program → marks.HasStmt (program_of r) gs f sc.locals (scope_of sc) (stmt_of r.sites s) b m (ways_of t);
+      ops = λ r x g w. InStmt x g w (stmt_of r.sites s);
+    }
 
     abbrev pub BlockAt : List Stmt → ℕ → ℕ → code_ways.Ways → At
-    BlockAt ss b m t = λ r gs f. r ≡ program → stands.HasBlock (program_of r) gs f sc.locals (scope_of sc) (block_of r.sites ss) b m (ways_of t)
+    BlockAt ss b m t = record {
+      stands = λ r gs f. r ≡ program → marks.HasBlock (program_of r) gs f sc.locals (scope_of sc) (block_of r.sites ss) b m (ways_of t);
+      ops = λ r x g w. InBlock x g w (block_of r.sites ss);
+    }
 
-    abbrev pub IfAt : Expr → List Stmt → List Stmt → ℕ → ℕ → code_ways.Ways → At
-    IfAt e so other b m t = λ r gs f. r ≡ program → stands.HasStmt (program_of r) gs f sc.locals (scope_of sc) (tree.If (expr_of r.sites e) (block_of r.sites so) (block_of r.sites other)) b m (ways_of t)
+    abbrev pub IfAt : ℕ → Expr → List Stmt → List Stmt → ℕ → ℕ → code_ways.Ways → At
+    IfAt node e so other b m t = record {
+      stands = λ r gs f. r ≡ program → marks.HasStmt (program_of r) gs f sc.locals (scope_of sc) (tree.If node (expr_of r.sites e) (block_of r.sites so) (block_of r.sites other)) b m (ways_of t);
+      ops = λ r x g w. InStmt x g w (tree.If node (expr_of r.sites e) (block_of r.sites so) (block_of r.sites other));
+    }
 
-    abbrev pub WhileAt : Expr → List Stmt → ℕ → ℕ → code_ways.Ways → At
-    WhileAt e ss b m t = λ r gs f. r ≡ program → stands.HasStmt (program_of r) gs f sc.locals (scope_of sc) (tree.While (expr_of r.sites e) (block_of r.sites ss)) b m (ways_of t)
+    abbrev pub WhileAt : ℕ → Expr → List Stmt → ℕ → ℕ → code_ways.Ways → At
+    WhileAt node e ss b m t = record {
+      stands = λ r gs f. r ≡ program → marks.HasStmt (program_of r) gs f sc.locals (scope_of sc) (tree.While node (expr_of r.sites e) (block_of r.sites ss)) b m (ways_of t);
+      ops = λ r x g w. InStmt x g w (tree.While node (expr_of r.sites e) (block_of r.sites ss));
+    }
 
-    abbrev pub ForAt : Target → Subject → List Stmt → ℕ → ℕ → code_ways.Ways → At
-    ForAt target subject ss b m t = λ r gs f.
-        r ≡ program
-        → stands.HasStmt (program_of r) gs f sc.locals (scope_of sc) (tree.For (target_of r.sites target) (subject_of r.sites subject) (block_of r.sites ss)) b m (ways_of t)
+    abbrev pub ForAt : ℕ → Target → Subject → List Stmt → ℕ → ℕ → code_ways.Ways → At
+    ForAt node target subject ss b m t = record {
+      stands = λ r gs f. r ≡ program
+          → marks.HasStmt (program_of r) gs f sc.locals (scope_of sc) (tree.For node (target_of r.sites target) (subject_of r.sites subject) (block_of r.sites ss)) b m (ways_of t);
+      ops = λ r x g w. InStmt x g w (tree.For node (target_of r.sites target) (subject_of r.sites subject) (block_of r.sites ss));
+    }
 
     abbrev pub TryAt : List Stmt → List Clause → List Stmt → ℕ → ℕ → code_ways.Ways → At
-    TryAt ss cs other b m t = λ r gs f.
-        r ≡ program
-        → stands.HasStmt (program_of r) gs f sc.locals (scope_of sc) (tree.Try (block_of r.sites ss) (clauses_of r.sites cs) (block_of r.sites other)) b m (ways_of t)
+    TryAt ss cs other b m t = record {
+      stands = λ r gs f. r ≡ program
+          → (node : ℕ)
+          → marks.HasStmt (program_of r) gs f sc.locals (scope_of sc) (tree.Try node (block_of r.sites ss) (clauses_of r.sites cs) (block_of r.sites other)) b m (ways_of t);
+      ops = λ r x g w. InBlock x g w (block_of r.sites ss) ⊎ InClauses x g w (clauses_of r.sites cs) ⊎ InBlock x g w (block_of r.sites other);
+    }
 
-    abbrev pub FinallyAt : List Stmt → List Stmt → ℕ → ℕ → code_ways.Ways → At
-    FinallyAt ss last b m t = λ r gs f. r ≡ program → stands.HasStmt (program_of r) gs f sc.locals (scope_of sc) (tree.Finally (block_of r.sites ss) (block_of r.sites last)) b m (ways_of t)
+    abbrev pub FinallyAt : ℕ → List Stmt → List Stmt → ℕ → ℕ → code_ways.Ways → At
+    FinallyAt node ss last b m t = record {
+      stands = λ r gs f. r ≡ program → marks.HasStmt (program_of r) gs f sc.locals (scope_of sc) (tree.Finally node (block_of r.sites ss) (block_of r.sites last)) b m (ways_of t);
+      ops = λ r x g w. InStmt x g w (tree.Finally node (block_of r.sites ss) (block_of r.sites last));
+    }
 
     -- these hands and this way for other exceptions are those of the clauses, and of what stands around
     abbrev pub ClausesAt : List Clause → ℕ → code_ways.Ways → List Hand → Aim → At
-    ClausesAt cs m t hands default = λ r gs f. r ≡ program → stands.HasClauses (program_of r) gs f sc.locals (scope_of sc) (clauses_of r.sites cs) m (ways_of t) hands default
+    ClausesAt cs m t hands default = record {
+      stands = λ r gs f. r ≡ program → marks.HasClauses (program_of r) gs f sc.locals (scope_of sc) (clauses_of r.sites cs) m (ways_of t) hands default;
+      ops = λ r x g w. InClauses x g w (clauses_of r.sites cs);
+    }
 
     -- the last part of a `finally`, and then on by a jump
     abbrev pub LeftAt : List Stmt → ℕ → ℕ → Jump → code_ways.Ways → At
-    LeftAt last b m jump t = λ r gs f.
-        r ≡ program
-        → (out : ℕ)
-        × stands.HasBlock (program_of r) gs f sc.locals (scope_of sc) (block_of r.sites last) b m (onto (ways_of t) out)
-        × stands.Is (program_of r) gs f sc.locals out m (Go jump)
+    LeftAt last b m jump t = record {
+      stands = λ r gs f. r ≡ program
+          → (out : ℕ)
+          × marks.HasBlock (program_of r) gs f sc.locals (scope_of sc) (block_of r.sites last) b m (onto (ways_of t) out)
+          × marks.Is (program_of r) gs f sc.locals out m (Go jump);
+      ops = λ r x g w. InBlock x g w (block_of r.sites last);
+    }
 
     -- the last part with an exception held at m, which is raised again
-    abbrev pub RaisedAt : List Stmt → ℕ → ℕ → code_ways.Ways → At
-    RaisedAt last b m t = λ r gs f.
-        r ≡ program
-        → (out : ℕ)
-        × stands.HasBlock (program_of r) gs f sc.locals (scope_of sc) (block_of r.sites last) b (m + 1) (onto (ways_of t) out)
-        × stands.Acts (program_of r) gs f sc.locals (scope_of sc) out row.Raise (m ∷ []) (m + 1) (first stands.never_block 0)
+    abbrev pub RaisedAt : ℕ → List Stmt → ℕ → ℕ → code_ways.Ways → At
+    RaisedAt node last b m t = record {
+      stands = λ r gs f. r ≡ program
+          → (out : ℕ)
+          × marks.HasBlock (program_of r) gs f sc.locals (scope_of sc) (block_of r.sites last) b (m + 1) (onto (ways_of t) out)
+          × marks.Acts (program_of r) gs f sc.locals (scope_of sc) out node false row.Raise (m ∷ []) (m + 1) (first stands.never_block 0);
+      ops = λ r x g w. Helps x g w node ⊎ InBlock x g w (block_of r.sites last);
+    }
 
 -- ---- graphs
 
--- a graph is that of a function of the program, whichever number it has
-abbrev pub GraphAt : Resolved → Function → Graph → Type 0
-GraphAt program function graph =
-    (gs : Graphs) (f : ℕ) → slice_get gs.graphs f ≡ Some graph → stands.HasFunction (program_of program) gs f (function_of program.sites function)
+-- a graph is that of a function of the program, whichever number it has, and has no other operations than those of its tree
+pub record GraphAt (program : Resolved) (function : Function) (graph : Graph) : Type 0 where
+  pub stands : (gs : Graphs) (f : ℕ) → slice_get gs.graphs f ≡ Some graph → marks.HasFunction (program_of program) gs f (function_of program.sites function)
+  pub only : OfBlocks (λ x g w. InFunction x g w (function_of program.sites function)) graph.blocks
 
 -- each graph is that of the function with its number
 abbrev pub GraphsAt : Resolved → List Function → List Graph → Type 0
 GraphsAt program functions graphs = (i : ℕ) (function : Function) (graph : Graph) → slice_get functions i ≡ Some function → slice_get graphs i ≡ Some graph → GraphAt program function graph
 
--- the graphs of a program are those of its functions
+-- the graphs of a program are those of its functions, with their nodes, and have no other operations
+pub record NodesAt (program : Resolved) (gs : Graphs) : Type 0 where
+  pub stand : marks.Stand (program_of program) gs (functions_of program)
+  pub only : (f : ℕ) (graph : Graph) → slice_get gs.graphs f ≡ Some graph
+      → (function : Function) × (slice_get program.functions f ≡ Some function) × OfBlocks (λ x g w. InFunction x g w (function_of program.sites function)) graph.blocks
+
+-- without nodes
 abbrev pub FlowAt : Resolved → Graphs → Type 0
 FlowAt program gs = stands.Stand (program_of program) gs
 
@@ -362,4 +518,5 @@ pub record StandFor (p : Program) (gs : Graphs) : Type 0 where
   pub resolved : Resolved
   pub count : length resolved.functions ≡ function_count p.modules
   pub meant : HasNoInnerClasses p.modules → function_count p.modules ≤ length p.functions → uncopied (program_of resolved) ≡ meant_by p
+  pub nodes : NodesAt resolved gs
   pub stand : FlowAt resolved gs

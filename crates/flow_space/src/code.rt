@@ -2,7 +2,7 @@
 ghost use Rattle.std.specs.Prelude.{◌≡◌, ◌+◌, ◌<◌, false, [], ◌∷◌, ◌++◌, length, slice_set, IfOk, OnOk};
 ghost use Rattle.rpy_meaning.specs.Classes.{no_covers};
 ghost use Rattle.flow_stands.specs.Places.{range, first as on_first, first_and as on_first_and, stored as on_stored, stored_if_any, hand_jumps, shift, link as link_of, links, act, numbered, Go, Fork, Does, Plain, GiveBack, GiveUp};
-ghost use Rattle.flow_space.specs.Placed.{Part, Headed, ShapeAt, ActsAt, aim_of, hands_of, jump_of};
+ghost use Rattle.flow_space.specs.Placed.{Part, Headed, ShapeAt, MarkedAt, ActsAt, aim_of, hands_of, jump_of};
 
 use crate::places::{first, first_and, stored};
 use flow_graph::{Block, Exit, Link, Op, VarId};
@@ -302,7 +302,7 @@ impl Code {
         m: usize,
         norm: Jump,
     ) -> Result<u64, NoMem>
-        ensures { IfOk result (λ b. Part self.old.blocks self.new.blocks (ActsAt scope.now b of.op args m (jump_of norm))) }
+        ensures { IfOk result (λ b. Part self.old.blocks self.new.blocks (ActsAt scope.now b of.node of.value of.op args m (jump_of norm))) }
     {
         let base = self.take(m)?;
         let result = self.take(1)?;
@@ -322,7 +322,7 @@ impl Code {
     pub fn put_plain(&mut self, alloc: Global, of: Act, m: usize, norm: Jump) -> Result<u64, NoMem>
         ensures at { IfOk result (λ b. b ≡ length self.old.blocks) }
         ensures count { OnOk result (length self.new.blocks ≡ length self.old.blocks + 1) }
-        ensures put { IfOk result (λ b. Part self.old.blocks self.new.blocks (ShapeAt b m (Plain of.op (jump_of norm)))) }
+        ensures put { IfOk result (λ b. Part self.old.blocks self.new.blocks (MarkedAt b m of.node of.value (Plain of.op (jump_of norm)))) }
     {
         let base = self.take(m)?;
         let _result = self.take(1)?;

@@ -1,7 +1,7 @@
 // Expressions to blocks. What comes after a part is put first, so each block goes on to blocks with
 // known numbers. Where a part begins, the first variables of a block are the function's locals, and
 // those that enclosing parts hold stand behind them. A part's value is one more.
-ghost use Rattle.std.specs.Prelude.{◌≡◌, ◌+◌, ◌∷◌, ◌++◌, [], pos, IfOk};
+ghost use Rattle.std.specs.Prelude.{◌≡◌, ◌+◌, false, ◌∷◌, ◌++◌, [], pos, IfOk};
 ghost use Rattle.rpy_meaning.specs.declared.row.RowOp.TheVariants as row;
 ghost use Rattle.flow_stands.specs.Places.{range, first_and as on_first_and, Go};
 ghost use Rattle.flow_stands.specs.Stands as stands;
@@ -127,7 +127,7 @@ fn put_apply(
     m: usize,
     norm: u64,
 ) -> Result<u64, NoMem>
-    ensures { IfOk result (λ b. Part code.old.blocks code.new.blocks (ApplyAt scope.now op.now es.now b m norm)) }
+    ensures { IfOk result (λ b. Part code.old.blocks code.new.blocks (ApplyAt scope.now node value op.now es.now b m norm)) }
 {
     match es {
         [a] => match op {
@@ -156,7 +156,7 @@ fn put_operation(
     m: usize,
     norm: u64,
 ) -> Result<u64, NoMem>
-    ensures { IfOk result (λ b. Part code.old.blocks code.new.blocks (ApplyAt scope.now op.now es.now b m norm)) }
+    ensures { IfOk result (λ b. Part code.old.blocks code.new.blocks (ApplyAt scope.now node value op.now es.now b m norm)) }
 {
     let op = copy_op(alloc, op)?;
     let last = put_last(
@@ -182,7 +182,7 @@ fn put_not(
     m: usize,
     norm: u64,
 ) -> Result<u64, NoMem>
-    ensures { IfOk result (λ b. Part code.old.blocks code.new.blocks (NotAt scope.now a.now b m norm)) }
+    ensures { IfOk result (λ b. Part code.old.blocks code.new.blocks (NotAt scope.now node a.now b m norm)) }
 {
     let meet = put_meeting(alloc, code, scope, node, m, norm)?;
     let no = put_leaf(
@@ -217,7 +217,7 @@ fn put_logic(
     m: usize,
     norm: u64,
 ) -> Result<u64, NoMem>
-    ensures { IfOk result (λ begin. Part code.old.blocks code.new.blocks (LogicAt scope.now is_and a.now b.now begin m norm)) }
+    ensures { IfOk result (λ begin. Part code.old.blocks code.new.blocks (LogicAt scope.now node is_and a.now b.now begin m norm)) }
 {
     let meet = put_meeting(alloc, code, scope, node, m, norm)?;
     let right = put_expr(alloc, code, scope, b, m, meet)?;
@@ -258,7 +258,7 @@ pub fn put_test(
     yes: u64,
     no: u64,
 ) -> Result<u64, NoMem>
-    ensures { IfOk result (λ b. Part code.old.blocks code.new.blocks (TestAt scope.now e.now b m yes no)) }
+    ensures { IfOk result (λ b. Part code.old.blocks code.new.blocks (TestAt scope.now node e.now b m yes no)) }
 {
     match e {
         Expr::And(inner, a, b) => {
@@ -296,7 +296,7 @@ fn put_branches(
     yes: u64,
     no: u64,
 ) -> Result<u64, NoMem>
-    ensures { IfOk result (λ b. Part code.old.blocks code.new.blocks (AsksAt scope.now e.now b m (stands.plainly yes) (stands.plainly no))) }
+    ensures { IfOk result (λ b. Part code.old.blocks code.new.blocks (AsksAt scope.now node e.now b m (stands.plainly yes) (stands.plainly no))) }
 {
     let yes = Branch {
         to: yes,
@@ -321,7 +321,7 @@ fn put_branch(
     value: usize,
     branch: Branch,
 ) -> Result<Jump, NoMem>
-    ensures { IfOk result (λ jump. Part code.old.blocks code.new.blocks (WayAt scope.now e.now m value (branch_of branch) (jump_of jump))) }
+    ensures { IfOk result (λ jump. Part code.old.blocks code.new.blocks (WayAt scope.now node e.now m value (branch_of branch) (jump_of jump))) }
 {
     if branch.value {
         jump_and(alloc, branch.to, m, value)
@@ -347,7 +347,7 @@ fn put_truth(
     yes: Branch,
     no: Branch,
 ) -> Result<u64, NoMem>
-    ensures { IfOk result (λ b. Part code.old.blocks code.new.blocks (TruthAt scope.now e.now b m value (branch_of yes) (branch_of no))) }
+    ensures { IfOk result (λ b. Part code.old.blocks code.new.blocks (TruthAt scope.now node e.now b m value (branch_of yes) (branch_of no))) }
 {
     let truth = plus(value, 1)?;
     let all = plus(truth, 1)?;
@@ -378,7 +378,7 @@ fn put_whole(
     yes: Branch,
     no: Branch,
 ) -> Result<u64, NoMem>
-    ensures { IfOk result (λ b. Part code.old.blocks code.new.blocks (AsksAt scope.now e.now b m (branch_of yes) (branch_of no))) }
+    ensures { IfOk result (λ b. Part code.old.blocks code.new.blocks (AsksAt scope.now node e.now b m (branch_of yes) (branch_of no))) }
 {
     let truth = put_truth(alloc, code, scope, e, node, m, m, yes, no)?;
     put_expr(alloc, code, scope, e, m, truth)
@@ -396,7 +396,7 @@ fn put_simple(
     yes: Branch,
     no: Branch,
 ) -> Result<u64, NoMem>
-    ensures { IfOk result (λ b. Part code.old.blocks code.new.blocks (AsksAt scope.now e.now b m (branch_of yes) (branch_of no))) }
+    ensures { IfOk result (λ b. Part code.old.blocks code.new.blocks (AsksAt scope.now node e.now b m (branch_of yes) (branch_of no))) }
 {
     match e {
         Expr::Apply(inner, value, op, es) => match op {
@@ -429,7 +429,7 @@ fn put_sides(
     m: usize,
     norm: u64,
 ) -> Result<u64, NoMem>
-    ensures { IfOk result (λ b. Part code.old.blocks code.new.blocks (SidesAt scope.now (row.Compare op) es.now b m norm)) }
+    ensures { IfOk result (λ b. Part code.old.blocks code.new.blocks (SidesAt scope.now node value (row.Compare op) es.now b m norm)) }
 {
     let count = es.len();
     let args = range(alloc, m, count)?;
@@ -459,7 +459,7 @@ fn put_display(
     m: usize,
     norm: u64,
 ) -> Result<u64, NoMem>
-    ensures { IfOk result (λ b. Part code.old.blocks code.new.blocks (DisplayAt scope.now site pairs.now b m norm)) }
+    ensures { IfOk result (λ b. Part code.old.blocks code.new.blocks (DisplayAt scope.now node site pairs.now b m norm)) }
 {
     let whole = put_meeting(alloc, code, scope, node, m, norm)?;
     let next = put_pairs(alloc, code, scope, node, pairs, m, whole)?;
@@ -484,7 +484,7 @@ fn put_pairs(
     m: usize,
     norm: u64,
 ) -> Result<u64, NoMem>
-    ensures { IfOk result (λ b. Part code.old.blocks code.new.blocks (PairsAt scope.now pairs.now b m norm)) }
+    ensures { IfOk result (λ b. Part code.old.blocks code.new.blocks (PairsAt scope.now node pairs.now b m norm)) }
 {
     match pairs {
         [] => Ok(norm),
@@ -505,7 +505,7 @@ fn put_pair(
     m: usize,
     norm: u64,
 ) -> Result<u64, NoMem>
-    ensures { IfOk result (λ b. Part code.old.blocks code.new.blocks (PairAt scope.now pair.now b m norm)) }
+    ensures { IfOk result (λ b. Part code.old.blocks code.new.blocks (PairAt scope.now node pair.now b m norm)) }
 {
     let key = plus(m, 1)?;
     let value = plus(m, 2)?;
@@ -532,7 +532,7 @@ pub fn put_subject(
     m: usize,
     norm: u64,
 ) -> Result<u64, NoMem>
-    ensures { IfOk result (λ b. Part code.old.blocks code.new.blocks (SubjectAt scope.now subject.now b m norm)) }
+    ensures { IfOk result (λ b. Part code.old.blocks code.new.blocks (SubjectAt scope.now node subject.now b m norm)) }
 {
     match subject {
         Subject::Over(site, e) => {
@@ -578,7 +578,7 @@ fn put_zero(
     m: usize,
     norm: u64,
 ) -> Result<u64, NoMem>
-    ensures { IfOk result (λ b. Part code.old.blocks code.new.blocks (ActsAt scope.now b (row.Word (pos 0)) [] (m + 1) (on_first_and norm (m + 1) (m + 1)))) }
+    ensures { IfOk result (λ b. Part code.old.blocks code.new.blocks (ActsAt scope.now b node false (row.Word (pos 0)) [] (m + 1) (on_first_and norm (m + 1) (m + 1)))) }
 {
     let more = plus(m, 1)?;
     put_leaf(
@@ -617,7 +617,7 @@ fn put_gather(
     walk: Walk,
     advance: u64,
 ) -> Result<u64, NoMem>
-    ensures { IfOk result (λ b. Part code.old.blocks code.new.blocks (GatherAt scope.now item.now condition.now list walk.all advance b)) }
+    ensures { IfOk result (λ b. Part code.old.blocks code.new.blocks (GatherAt scope.now walk.node item.now condition.now list walk.all advance b)) }
 {
     let more = plus(walk.all, 1)?;
     let args = two(alloc, list, walk.all)?;
@@ -656,7 +656,7 @@ fn put_comprehension(
     m: usize,
     norm: u64,
 ) -> Result<u64, NoMem>
-    ensures { IfOk result (λ b. Part code.old.blocks code.new.blocks (ComprehensionAt scope.now site item.now target.now subject.now condition.now b m norm)) }
+    ensures { IfOk result (λ b. Part code.old.blocks code.new.blocks (ComprehensionAt scope.now node site item.now target.now subject.now condition.now b m norm)) }
 {
     let over = plus(m, 1)?;
     let walk = Walk {
@@ -762,7 +762,7 @@ fn put_item(
     keep: usize,
     norm: u64,
 ) -> Result<u64, NoMem>
-    ensures { IfOk result (λ b. Part code.old.blocks code.new.blocks (ItemAt scope.now a.now i.now source.now m keep b norm)) }
+    ensures { IfOk result (λ b. Part code.old.blocks code.new.blocks (ItemAt scope.now node a.now i.now source.now m keep b norm)) }
 {
     let index = plus(m, 1)?;
     let all = plus(m, 2)?;
@@ -787,7 +787,7 @@ fn put_parts(
     keep: usize,
     norm: u64,
 ) -> Result<u64, NoMem>
-    ensures { IfOk result (λ b. Part code.old.blocks code.new.blocks (PartsAt scope.now parts.now source.now m keep b norm)) }
+    ensures { IfOk result (λ b. Part code.old.blocks code.new.blocks (PartsAt scope.now node parts.now source.now m keep b norm)) }
 {
     let end = jump_first(alloc, norm, keep)?;
     let end = code.put_jump(alloc, m, end)?;
@@ -810,7 +810,7 @@ fn put_items(
     m: usize,
     norm: u64,
 ) -> Result<u64, NoMem>
-    ensures { IfOk result (λ b. Part code.old.blocks code.new.blocks (ItemsAt scope.now parts.now count place source.now m b norm)) }
+    ensures { IfOk result (λ b. Part code.old.blocks code.new.blocks (ItemsAt scope.now node parts.now count place source.now m b norm)) }
 {
     match parts {
         [] => Ok(norm),

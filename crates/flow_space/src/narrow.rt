@@ -363,7 +363,7 @@ pub fn put_narrowing(
     value: usize,
     to: u64,
 ) -> Result<Jump, NoMem>
-    ensures { IfOk result (λ jump. Part code.old.blocks code.new.blocks (NarrowedAt scope.now narrowing m value to (jump_of jump))) }
+    ensures { IfOk result (λ jump. Part code.old.blocks code.new.blocks (NarrowedAt scope.now node narrowing m value to (jump_of jump))) }
 {
     let count = plus(value, 1)?;
     let local = local_place(scope, narrowing.local)?;

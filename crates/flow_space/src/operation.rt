@@ -1,5 +1,5 @@
 // Single operations as blocks.
-ghost use Rattle.std.specs.Prelude.{◌≡◌, ◌≤◌, ◌+◌, ◌∷◌, [], IfOk};
+ghost use Rattle.std.specs.Prelude.{◌≡◌, true, ◌≤◌, ◌+◌, ◌∷◌, [], IfOk};
 ghost use Rattle.rpy_meaning.specs.declared.row.RowOp.TheVariants as row;
 ghost use Rattle.flow_stands.specs.Places.{range, first_and as on_first_and, Go};
 ghost use Rattle.flow_stands.specs.Stands as stands;
@@ -33,7 +33,7 @@ pub fn put_last(
     count: usize,
     norm: u64,
 ) -> Result<u64, NoMem>
-    ensures { IfOk result (λ b. Part code.old.blocks code.new.blocks (ActsAt scope.now b of.op (range m count) (m + count) (stands.onward of.op norm m (m + count)))) }
+    ensures { IfOk result (λ b. Part code.old.blocks code.new.blocks (ActsAt scope.now b of.node of.value of.op (range m count) (m + count) (stands.onward of.op norm m (m + count)))) }
 {
     let args = range(alloc, m, count)?;
     let last = plus(m, count)?;
@@ -50,7 +50,7 @@ pub fn put_leaf(
     m: usize,
     norm: u64,
 ) -> Result<u64, NoMem>
-    ensures { IfOk result (λ b. Part code.old.blocks code.new.blocks (ActsAt scope.now b of.op [] m (stands.onward of.op norm m m))) }
+    ensures { IfOk result (λ b. Part code.old.blocks code.new.blocks (ActsAt scope.now b of.node of.value of.op [] m (stands.onward of.op norm m m))) }
 {
     put_last(alloc, code, scope, of, m, 0, norm)
 }
@@ -65,7 +65,7 @@ pub fn put_copy(
     m: usize,
     norm: u64,
 ) -> Result<u64, NoMem>
-    ensures { IfOk result (λ b. Part code.old.blocks code.new.blocks (ActsAt scope.now b row.Copy (place ∷ []) m (on_first_and norm m m))) }
+    ensures { IfOk result (λ b. Part code.old.blocks code.new.blocks (ActsAt scope.now b node true row.Copy (place ∷ []) m (on_first_and norm m m))) }
 {
     let args = one(alloc, place)?;
     let jump = jump_and(alloc, norm, m, m)?;
@@ -82,7 +82,7 @@ pub fn put_meeting(
     m: usize,
     norm: u64,
 ) -> Result<u64, NoMem>
-    ensures { IfOk result (λ b. Part code.old.blocks code.new.blocks (MeetsAt scope.now b m norm)) }
+    ensures { IfOk result (λ b. Part code.old.blocks code.new.blocks (MeetsAt scope.now node b m norm)) }
 {
     put_last(
         alloc,

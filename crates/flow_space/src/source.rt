@@ -1,5 +1,5 @@
 // Where what a target takes stands: in a variable, or in the tuples that one holds.
-ghost use Rattle.std.specs.Prelude.{◌≡◌, ◌∷◌, ◌++◌, [], IfOk};
+ghost use Rattle.std.specs.Prelude.{◌≡◌, false, ◌∷◌, ◌++◌, [], IfOk};
 ghost use Rattle.rpy_meaning.specs.declared.row.RowOp.TheVariants as row;
 ghost use Rattle.flow_space.specs.Placed.{Part, ActsAt, UnpacksAt, ThereAt, TakenAt, NamedAt, StoredAt, TupleAt, taken_place, taken_count, last_jump, jump_of};
 
@@ -98,7 +98,7 @@ fn put_unpack(
     all: usize,
     jump: Jump,
 ) -> Result<u64, NoMem>
-    ensures { IfOk result (λ b. Part code.old.blocks code.new.blocks (ActsAt scope.now b (row.Unpack item.count item.place) (at ∷ []) all (jump_of jump))) }
+    ensures { IfOk result (λ b. Part code.old.blocks code.new.blocks (ActsAt scope.now b item.node false (row.Unpack item.count item.place) (at ∷ []) all (jump_of jump))) }
 {
     let args = one(alloc, at)?;
     let of = op_at(item.node, false, RowOp::Unpack(item.count, item.place));
@@ -188,7 +188,7 @@ pub fn put_name(
     keep: usize,
     norm: u64,
 ) -> Result<u64, NoMem>
-    ensures { IfOk result (λ b. Part code.old.blocks code.new.blocks (NamedAt scope.now local source.now m keep b norm)) }
+    ensures { IfOk result (λ b. Part code.old.blocks code.new.blocks (NamedAt scope.now node local source.now m keep b norm)) }
 {
     let all = count_taken(source, m)?;
     let args = one(alloc, place_taken(source, m))?;
@@ -217,7 +217,7 @@ pub fn put_store(
     keep: usize,
     norm: u64,
 ) -> Result<u64, NoMem>
-    ensures { IfOk result (λ b. Part code.old.blocks code.new.blocks (StoredAt scope.now op args source.now m keep b norm)) }
+    ensures { IfOk result (λ b. Part code.old.blocks code.new.blocks (StoredAt scope.now node op args source.now m keep b norm)) }
 {
     let jump = jump_first(alloc, norm, keep)?;
     let all = count_taken(source, m)?;
@@ -235,7 +235,7 @@ pub fn put_tuple(
     m: usize,
     norm: u64,
 ) -> Result<u64, NoMem>
-    ensures { IfOk result (λ b. Part code.old.blocks code.new.blocks (TupleAt scope.now source.now m b norm)) }
+    ensures { IfOk result (λ b. Part code.old.blocks code.new.blocks (TupleAt scope.now node source.now m b norm)) }
 {
     let all = count_taken(source, m)?;
     let args = one(alloc, place_taken(source, m))?;

@@ -1,8 +1,11 @@
 // Statements to blocks.
-ghost use Rattle.std.specs.Prelude.{◌≡◌, ◌+◌, ◌++◌, ◌∷◌, [], IfOk, OnOk, Option};
+ghost use Rattle.std.specs.Prelude.{◌≡◌, ◌+◌, false, List, ◌++◌, ◌∷◌, [], IfOk, OnOk, Option};
+ghost use Rattle.rpy_tree.specs.declared.program.Site.{Site};
 ghost use Rattle.rpy_meaning.specs.declared.row.RowOp.TheVariants as row;
 ghost use Rattle.flow_stands.specs.Places.{first as on_first, first_and as on_first_and, Go};
 ghost use Rattle.flow_stands.specs.Stands as stands;
+ghost use Rattle.flow_space.specs.Tree as tree;
+ghost use Rattle.flow_space.specs.Trees.{stmt_of};
 ghost use Rattle.flow_space.specs.Placed.{Part, ShapeAt, ActsAt, MarkAt, ReturnAt, DoAt, BindsAt, AssignAt, NewAt, AugmentNameAt, AugmentAttrAt, AugmentItemAt, AugmentAt, SimpleAt, StmtAt, BlockAt, IfAt, WhileAt, ForAt, TryAt, FinallyAt, LeftAt, RaisedAt, ClausesAt, aim_of, hands_of};
 
 use crate::NEVER;
@@ -80,7 +83,7 @@ fn put_mark(
     m: usize,
     norm: u64,
 ) -> Result<u64, NoMem>
-    ensures { IfOk result (λ b. Part code.old.blocks code.new.blocks (MarkAt scope.now b m norm)) }
+    ensures { IfOk result (λ b. Part code.old.blocks code.new.blocks (MarkAt scope.now node b m norm)) }
 {
     if scope.tried {
         let none: Seq<usize> = Seq::new(alloc);
@@ -92,7 +95,9 @@ fn put_mark(
 }
 
 /// The node of a statement.
-fn node_of(s: &Stmt) -> NodeId {
+fn node_of(s: &Stmt) -> NodeId
+    ensures { (sites : List Site) → result ≡ tree.node_of (stmt_of sites s.now) }
+{
     match s {
         Stmt::Pass(node) => *node,
         Stmt::Break(node) => *node,
@@ -191,7 +196,7 @@ fn put_new(
     m: usize,
     norm: u64,
 ) -> Result<u64, NoMem>
-    ensures { IfOk result (λ b. Part code.old.blocks code.new.blocks (NewAt scope.now op.now b m norm)) }
+    ensures { IfOk result (λ b. Part code.old.blocks code.new.blocks (NewAt scope.now node op.now b m norm)) }
 {
     let right = plus(m, 1)?;
     let all = plus(m, 2)?;
@@ -213,7 +218,7 @@ fn put_augment_name(
     m: usize,
     norm: u64,
 ) -> Result<u64, NoMem>
-    ensures { IfOk result (λ b. Part code.old.blocks code.new.blocks (AugmentNameAt scope.now local op.now e.now b m norm)) }
+    ensures { IfOk result (λ b. Part code.old.blocks code.new.blocks (AugmentNameAt scope.now node at local op.now e.now b m norm)) }
 {
     let more = plus(m, 1)?;
     let place = local_place(scope, local)?;
@@ -242,7 +247,7 @@ fn put_augment_attr(
     m: usize,
     norm: u64,
 ) -> Result<u64, NoMem>
-    ensures { IfOk result (λ b. Part code.old.blocks code.new.blocks (AugmentAttrAt scope.now a.now name.now op.now e.now b m norm)) }
+    ensures { IfOk result (λ b. Part code.old.blocks code.new.blocks (AugmentAttrAt scope.now node at a.now name.now op.now e.now b m norm)) }
 {
     let old = plus(m, 1)?;
     let right = plus(m, 2)?;
@@ -272,7 +277,7 @@ fn put_augment_item(
     m: usize,
     norm: u64,
 ) -> Result<u64, NoMem>
-    ensures { IfOk result (λ b. Part code.old.blocks code.new.blocks (AugmentItemAt scope.now a.now i.now op.now e.now b m norm)) }
+    ensures { IfOk result (λ b. Part code.old.blocks code.new.blocks (AugmentItemAt scope.now node at a.now i.now op.now e.now b m norm)) }
 {
     let index = plus(m, 1)?;
     let old = plus(m, 2)?;
@@ -302,7 +307,7 @@ fn put_augment(
     m: usize,
     norm: u64,
 ) -> Result<u64, NoMem>
-    ensures { IfOk result (λ b. Part code.old.blocks code.new.blocks (AugmentAt scope.now target.now op.now e.now b m norm)) }
+    ensures { IfOk result (λ b. Part code.old.blocks code.new.blocks (AugmentAt scope.now node target.now op.now e.now b m norm)) }
 {
     match target {
         Target::Name(at, local) => {
@@ -333,7 +338,7 @@ fn put_pay(
     m: usize,
     norm: u64,
 ) -> Result<u64, NoMem>
-    ensures { IfOk result (λ b. Part code.old.blocks code.new.blocks (ActsAt scope.now b row.Turn [] m (on_first norm m))) }
+    ensures { IfOk result (λ b. Part code.old.blocks code.new.blocks (ActsAt scope.now b node false row.Turn [] m (on_first norm m))) }
 {
     let none: Seq<usize> = Seq::new(alloc);
     let jump = jump_first(alloc, norm, m)?;
@@ -352,7 +357,7 @@ fn put_while(
     m: usize,
     t: Ways,
 ) -> Result<u64, NoMem>
-    ensures { IfOk result (λ b. Part code.old.blocks code.new.blocks (WhileAt scope.now program.now test.now body.now b m t)) }
+    ensures { IfOk result (λ b. Part code.old.blocks code.new.blocks (WhileAt scope.now program.now node test.now body.now b m t)) }
 {
     let head = code.put_head(alloc, m)?;
     let next = Aim {
@@ -383,7 +388,7 @@ fn put_for(
     m: usize,
     t: Ways,
 ) -> Result<u64, NoMem>
-    ensures { IfOk result (λ b. Part code.old.blocks code.new.blocks (ForAt scope.now program.now target.now subject.now body.now b m t)) }
+    ensures { IfOk result (λ b. Part code.old.blocks code.new.blocks (ForAt scope.now program.now node target.now subject.now body.now b m t)) }
 {
     let walk = Walk {
         node,
@@ -644,7 +649,7 @@ fn put_raised(
     m: usize,
     t: Ways,
 ) -> Result<Aim, NoMem>
-    ensures { IfOk result (λ begin. (begin.keep ≡ m) × Part code.old.blocks code.new.blocks (RaisedAt scope.now program.now last.now begin.to m t)) }
+    ensures { IfOk result (λ begin. (begin.keep ≡ m) × Part code.old.blocks code.new.blocks (RaisedAt scope.now program.now node last.now begin.to m t)) }
 {
     let more = plus(m, 1)?;
     let jump = jump_first(alloc, NEVER, 0)?;
@@ -668,7 +673,7 @@ fn put_finally(
     m: usize,
     t: Ways,
 ) -> Result<u64, NoMem>
-    ensures { IfOk result (λ b. Part code.old.blocks code.new.blocks (FinallyAt scope.now program.now body.now last.now b m t)) }
+    ensures { IfOk result (λ b. Part code.old.blocks code.new.blocks (FinallyAt scope.now program.now node body.now last.now b m t)) }
 {
     let norm = put_block(alloc, code, program, scope, last, m, t)?;
     let brk = put_left(alloc, code, program, scope, last, m, t, t.brk)?;
@@ -706,7 +711,7 @@ fn put_if(
     m: usize,
     t: Ways,
 ) -> Result<u64, NoMem>
-    ensures { IfOk result (λ b. Part code.old.blocks code.new.blocks (IfAt scope.now program.now test.now body.now other.now b m t)) }
+    ensures { IfOk result (λ b. Part code.old.blocks code.new.blocks (IfAt scope.now program.now node test.now body.now other.now b m t)) }
 {
     let no = put_block(alloc, code, program, scope, other, m, t)?;
     let yes = put_block(alloc, code, program, scope, body, m, t)?;

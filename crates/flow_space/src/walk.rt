@@ -1,5 +1,5 @@
 // The turns of a walk over a range, or over what has items.
-ghost use Rattle.std.specs.Prelude.{◌≡◌, ◌+◌, List, ◌∷◌, [], IfOk};
+ghost use Rattle.std.specs.Prelude.{◌≡◌, ◌+◌, false, List, ◌∷◌, [], IfOk};
 ghost use Rattle.rpy_tree.specs.declared.program.Site.{Site};
 ghost use Rattle.rpy_meaning.specs.declared.row.RowOp.TheVariants as row;
 ghost use Rattle.flow_stands.specs.Places.{first_and as on_first_and};
@@ -44,7 +44,7 @@ pub fn put_advance(
     walk: Walk,
     head: Head,
 ) -> Result<u64, NoMem>
-    ensures { IfOk result (λ b. Part code.old.blocks code.new.blocks (ActsAt scope.now b (row.Advance walk.step) (walk.over ∷ (walk.over + 1) ∷ []) walk.all (on_first_and head.number (walk.over + 1) walk.all))) }
+    ensures { IfOk result (λ b. Part code.old.blocks code.new.blocks (ActsAt scope.now b walk.node false (row.Advance walk.step) (walk.over ∷ (walk.over + 1) ∷ []) walk.all (on_first_and head.number (walk.over + 1) walk.all))) }
 {
     let at = plus(walk.over, 1)?;
     let args = two(alloc, walk.over, at)?;
@@ -63,7 +63,7 @@ pub fn put_turn(
     turn: u64,
     done: Jump,
 ) -> Result<u64, NoMem>
-    ensures { IfOk result (λ b. Part code.old.blocks code.new.blocks (TurnAt scope.now walk.step walk.over walk.all turn (jump_of done) b)) }
+    ensures { IfOk result (λ b. Part code.old.blocks code.new.blocks (TurnAt scope.now walk.node walk.step walk.over walk.all turn (jump_of done) b)) }
 {
     let more = plus(walk.all, 1)?;
     let at = plus(walk.over, 1)?;

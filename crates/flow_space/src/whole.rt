@@ -1,9 +1,9 @@
 // The graphs of a program.
-ghost use Rattle.std.specs.Prelude.{◌≡◌, ◌+◌, length, IfOk, OnOk};
+ghost use Rattle.std.specs.Prelude.{◌≡◌, ◌+◌, false, length, IfOk, OnOk};
 ghost use Rattle.flow_graph.specs.Whole.{CountFrom, Covers as CoversAll};
 ghost use Rattle.flow_stands.specs.Places.{Go, Plain, first as on_first, first_and as on_first_and};
 ghost use Rattle.rpy_meaning.specs.declared.row.RowOp.TheVariants as row;
-ghost use Rattle.flow_space.specs.Placed.{Part, ShapeAt, GraphAt, GraphsAt, FlowAt, StandFor, jump_of};
+ghost use Rattle.flow_space.specs.Placed.{Part, ShapeAt, MarkedAt, GraphAt, GraphsAt, NodesAt, FlowAt, StandFor, jump_of};
 
 use crate::code::{Aim, Code, Scope, jump_and, jump_first, no_covers, op_at};
 use crate::places::narrow;
@@ -20,7 +20,7 @@ use std::alloc::Global;
 // The end of the body gives None.
 fn put_end(alloc: Global, code: &mut Code, function: &Function, m: usize) -> Result<u64, NoMem>
     ensures at { IfOk result (λ b. b ≡ length code.old.blocks) }
-    ensures put { IfOk result (λ b. Part code.old.blocks code.new.blocks (ShapeAt b m (Plain row.None (on_first_and 1 0 m)))) }
+    ensures put { IfOk result (λ b. Part code.old.blocks code.new.blocks (MarkedAt b m function.now.node false (Plain row.None (on_first_and 1 0 m)))) }
 {
     let of = op_at(function.node, false, RowOp::None);
     let jump = jump_and(alloc, RETURN, 0, m)?;
@@ -124,10 +124,11 @@ fn graphs_of(alloc: Global, resolved: &Resolved) -> Result<Seq<Graph>, NoMem>
     Ok(graphs)
 }
 
-/// The flow graphs of a program with bound names: they stand for it.
+/// The flow graphs of a program with bound names: they stand for it, with its nodes.
 pub fn flow_of(alloc: Global, resolved: &Resolved) -> Result<Graphs, NoMem>
     ensures graphs { IfOk result (λ graphs. CountFrom 0 graphs.graphs) }
     ensures all { IfOk result (λ graphs. length graphs.graphs ≡ length resolved.now.functions) }
+    ensures nodes { IfOk result (λ graphs. NodesAt resolved.now graphs) }
     ensures stand { IfOk result (λ graphs. FlowAt resolved.now graphs) }
 {
     let graphs = graphs_of(alloc, resolved)?;

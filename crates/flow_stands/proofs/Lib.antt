@@ -1,6 +1,7 @@
 pub mod Worlds
 pub mod Answering
 pub mod Lists
+pub mod Watches
 pub mod Core
 pub mod Acts
 pub mod Calls

@@ -1,6 +1,6 @@
 -- What links pick, what blocks bind, and what roots weigh.
-use Rattle.std.proofs.Common.{◌≡◌, ℕ, zero, suc, ◌+◌, ◌≤◌, ◌≢◌, Bool, true, false, cond, List, [], ◌∷◌, ◌++◌, length, get_or, take, drop, Some, None, Option, refl, sym, ap, ◌∙◌, subst, arith, append_assoc, length-append}
-use Rattle.std.specs.Prelude.{map, slice_get, slice_set, replicate}
+use Rattle.std.proofs.Common.{◌≡◌, ℕ, zero, suc, ◌+◌, ◌≤◌, ◌≢◌, ◌<◌, Bool, true, false, cond, List, [], ◌∷◌, ◌++◌, length, get_or, take, drop, Some, None, Option, refl, sym, ap, ◌∙◌, subst, arith, append_assoc, length-append}
+use Rattle.std.specs.Prelude.{◌==◌, ◌||◌, map, slice_get, slice_set, replicate}
 use Rattle.std.proofs.lemmas.Bool.{eq-eqb, ne_eqb}
 use Rattle.std.proofs.Math.Seq.{get_or-append_seam, take-length}
 use Rattle.std.proofs.lemmas.List.{append-nil, length-take-le, take-append-drop, take-append-le, map-append, map-set, set-get_or}
@@ -8,7 +8,7 @@ use Rattle.std.proofs.lemmas.Option.{get_or_from_slice_get}
 use Rattle.rpy_tree.specs.Value.{Value}
 use Rattle.rpy_meaning.specs.Evaluation.{values_of}
 use Rattle.flow_meaning.specs.Machine.{Bound, look, and_value, values_of as operands_of, bind, passed, taken}
-use Rattle.flow_meaning.specs.Roots.{kept, and_some}
+use Rattle.flow_meaning.specs.Roots.{among, kept, and_some}
 use Rattle.flow_stands.specs.Places.{range, shift}
 use Rattle.flow_stands.proofs.Worlds.{total, total_append}
 
@@ -195,3 +195,68 @@ total_env wt ls held xs =
     ∙ total_append wt (values_of (ls ++ map Some held)) (values_of (map Some xs))
     ∙ ap (λ k. k + total wt (values_of (map Some xs))) (ap (total wt) (values_append ls (map Some held)) ∙ total_append wt (values_of ls) (values_of (map Some held)) ∙ ap (λ l. total wt (values_of ls) + total wt l) (values_some held))
     ∙ ap (λ l. total wt (values_of ls) + total wt held + total wt l) (values_some xs)
+
+-- ---- what is not read
+
+among_or : (a b : Bool) → a ≡ false → b ≡ false → (a || b) ≡ false
+among_or a b x y = ap (λ c. c || b) x ∙ y
+
+-- neither the first nor one of the others
+among_split : (i a : ℕ) (ps : List ℕ) → among i (a ∷ ps) ≡ false → ((a == i) ≡ false) × (among i ps ≡ false)
+among_split i a ps e = by (a == i) e
+  where
+    by : (b : Bool) → (b || among i ps) ≡ false → (b ≡ false) × (among i ps ≡ false)
+    by true z = absurd (cc z)
+    by false z = (refl, z)
+
+is_other : (a i : ℕ) → (a == i) ≡ false → a ≡ i → ⊥
+is_other a i no_match e = let yes_match = eq-eqb a i e in absurd (cc)
+
+pub among_shift : (base i : ℕ) (ps : List ℕ) → among i ps ≡ false → among (base + i) (shift base ps) ≡ false
+among_shift base i [] e = refl
+among_shift base i (a ∷ ps) e =
+    let z = among_split i a ps e in
+    among_or ((base + a) == (base + i)) (among (base + i) (shift base ps)) (ne_eqb (base + a) (base + i) (λ y. is_other a i z.0 (omega (arith, y)))) (among_shift base i ps z.1)
+
+pub among_append : (i : ℕ) (xs ys : List ℕ) → among i xs ≡ false → among i ys ≡ false → among i (xs ++ ys) ≡ false
+among_append i [] ys x y = y
+among_append i (a ∷ xs) ys x y = let z = among_split i a xs x in among_or (a == i) (among i (xs ++ ys)) z.0 (among_append i xs ys z.1 y)
+
+pub among_range : (a k i : ℕ) → a + k ≤ i → among i (range a k) ≡ false
+among_range a zero i le = refl
+among_range a (suc k) i le = among_or (a == i) (among i (range (a + 1) k)) (ne_eqb a i (λ e. absurd (omega (arith, le, e)))) (among_range (a + 1) k i (omega (arith, le)))
+
+pub among_set : (i q local : ℕ) (ps : List ℕ) → i < q → among i ps ≡ false → among i (slice_set ps local q) ≡ false
+among_set i q local [] lt x = refl
+among_set i q zero (a ∷ ps) lt x = among_or (q == i) (among i ps) (ne_eqb q i (λ e. absurd (omega (arith, lt, e)))) (among_split i a ps x).1
+among_set i q (suc local) (a ∷ ps) lt x = let z = among_split i a ps x in among_or (a == i) (among i (slice_set ps local q)) z.0 (among_set i q local ps lt z.1)
+
+pub among_last : (i q : ℕ) → i < q → among i (q ∷ []) ≡ false
+among_last i q lt = among_or (q == i) false (ne_eqb q i (λ e. absurd (omega (arith, lt, e)))) refl
+
+-- variables that are not used weigh nothing
+kept_further : (wt : Value → ℕ) (b : Bool) (v : Option Value) (l : List Value) (a : Env) (k : ℕ) → total wt l ≤ total wt (values_of a) + k → total wt (cond b (and_some v l) l) ≤ total wt (values_of (v ∷ a)) + k
+kept_further wt true None l a k h = h
+kept_further wt false None l a k h = h
+kept_further wt true (Some v) l a k h = omega (arith, h)
+kept_further wt false (Some v) l a k h = omega (arith, h)
+
+pub total_unused : (wt : Value → ℕ) (uses : ℕ → Bool) (base : ℕ) (a xs rest : Env) → ((j : ℕ) → base + length a ≤ j → j < base + length a + length xs → uses j ≡ false)
+    → total wt (kept uses (named base (a ++ (xs ++ rest)))) ≤ total wt (values_of a) + total wt (values_of rest)
+total_unused wt uses base [] [] rest h = omega (arith, total_kept wt uses base rest)
+total_unused wt uses base [] (x ∷ xs) rest h =
+    let e : uses base ≡ false = h base (omega arith) (omega arith) in
+    let ih = total_unused wt uses (base + 1) [] xs rest (λ j le lt. h j (omega (arith, le)) (omega (arith, lt))) in
+    subst (λ b. total wt (cond b (and_some x (kept uses (named (base + 1) (xs ++ rest)))) (kept uses (named (base + 1) (xs ++ rest)))) ≤ total wt (values_of []) + total wt (values_of rest)) (sym e) ih
+total_unused wt uses base (v ∷ a) xs rest h =
+    kept_further wt (uses base) v (kept uses (named (base + 1) (a ++ (xs ++ rest)))) a (total wt (values_of rest))
+    (total_unused wt uses (base + 1) a xs rest (λ j le lt. h j (omega (arith, le)) (omega (arith, lt))))
+
+pub total_locals : (wt : Value → ℕ) (ls : Env) (held : List Value) → total wt (values_of (ls ++ map Some held)) ≡ total wt (values_of ls) + total wt held
+total_locals wt ls held = ap (total wt) (values_append ls (map Some held)) ∙ total_append wt (values_of ls) (values_of (map Some held)) ∙ ap (λ l. total wt (values_of ls) + total wt l) (values_some held)
+
+pub total_more : (wt : Value → ℕ) (ls : Env) (v : Value) → total wt (values_of (ls ++ Some v ∷ [])) ≡ total wt (values_of ls) + wt v
+total_more wt ls v =
+    let z = ap (total wt) (values_append ls (Some v ∷ [])) in
+    let y = total_append wt (values_of ls) (values_of (Some v ∷ [])) in
+    omega (arith, z, y)

@@ -1,6 +1,6 @@
 -- The machine follows what parts of trees are made of.
-use Rattle.std.proofs.Common.{◌≡◌, ℕ, zero, suc, ◌+◌, ◌<◌, ◌≤◌, Bool, true, false, cond, List, [], ◌∷◌, ◌++◌, length, get_or, take, Some, None, Option, refl, sym, ap, ◌∙◌, subst, arith, append_assoc, length-append}
-use Rattle.std.specs.Prelude.{map, slice_get, slice_set, if◌then◌else◌}
+use Rattle.std.proofs.Common.{◌≡◌, ℕ, zero, suc, ◌+◌, ◌<◌, ◌≤◌, inl, Bool, true, false, cond, List, [], ◌∷◌, ◌++◌, length, get_or, take, Some, None, Option, refl, sym, ap, ◌∙◌, subst, arith, append_assoc, length-append}
+use Rattle.std.specs.Prelude.{not, map, slice_get, slice_set, if◌then◌else◌}
 use Rattle.std.proofs.lemmas.List.{append-nil, length-map, take-append-le}
 use Rattle.std.proofs.lemmas.Option.{get_or_from_slice_get}
 use Rattle.std.proofs.lemmas.List.{get_or_append_left}
@@ -13,18 +13,20 @@ use Rattle.rpy_meaning.specs.Tree.{Expr, Program}
 use Rattle.rpy_meaning.specs.World.{World, Answer, Gives, Throws, Enters, Bad, throw, bad, failure}
 use Rattle.rpy_meaning.specs.Classes.{is_below}
 use Rattle.rpy_meaning.specs.Operations.{op, builtin_classes, truth_in, raise_object, raise}
-use Rattle.rpy_meaning.specs.Evaluation.{State, Ending, Done, Raised, Failed, Running, Wrong, Eval, then_go}
-use Rattle.rpy_meaning.specs.Meaning.{Run, class_in, Sem, unwatched, operate}
+use Rattle.rpy_meaning.specs.Evaluation.{State, Ending, Done, Raised, Failed, Running, Wrong, Eval, then_go, pure}
+use Rattle.rpy_meaning.specs.Moments.{is_slight}
+use Rattle.rpy_meaning.specs.Meaning.{Run, class_in, Sem, Behind, operate_holding, operate}
 use Rattle.flow_graph.specs.declared.graph.Exit.TheVariants as exit
 use Rattle.flow_graph.specs.declared.graph.Graphs.{Graphs}
 use Rattle.flow_meaning.specs.Machine.{Frame, State as Spot, Calling, At, Returning, Throwing, answered, operates, chooses, truth_of, step}
 use Rattle.flow_meaning.specs.Roots.{waits_for}
-use Rattle.flow_stands.specs.Places.{range, Aim, Hand, Scope, Jump, first_and, hand_jumps, Go, Fork, Does, link, links, act}
+use Rattle.flow_stands.proofs.Watches.{Watching}
+use Rattle.flow_stands.specs.Places.{range, Aim, Hand, Scope, Jump, first, first_and, hand_jumps, Go, Fork, Does, link, links, act}
 use Rattle.flow_stands.specs.Stands.{Is, Acts, Reads, Stand}
 use Rattle.flow_stands.proofs.Worlds.{total, Weight, class_of, same, sound_on, Thrown}
-use Rattle.flow_stands.proofs.Lists.{Env, pick, named, look_named, operands_named, operand_none, pick_last, pick_first, pick_kept_and, pick_set, take_first, get_at}
-use Rattle.flow_stands.proofs.Core.{Place, place, env, env_push, IsBound, Fit, stored_value, Below, hand_place, Catches, Ends, Leads, leads_on, step_strays, enter, jump_to, enter_block, wrong_run, Runs, moved, hold, same_place}
-use Rattle.flow_stands.proofs.Acts.{goes_on, throws, told_sim, frame, used_here}
+use Rattle.flow_stands.proofs.Lists.{Env, pick, named, look_named, operands_named, operand_none, pick_last, pick_first, pick_kept_and, pick_set, take_first, get_at, among_append, among_range, among_last}
+use Rattle.flow_stands.proofs.Core.{Place, place, env, env_push, IsBound, Fit, stored_value, Below, hand_place, Catches, Ends, Leads, leads_on, Free, not_at, step_strays, enter, jump_to, enter_block, wrong_run, Runs, moved, hold, same_place}
+use Rattle.flow_stands.proofs.Acts.{Drops, goes_on, slight_free, throws, behind_is, behind_sim, told_sim, frame, used_here}
 use Rattle.flow_stands.proofs.Calls.{Good, called_sim}
 
 -- ---- what stands where
@@ -102,6 +104,13 @@ bound_at (b ∷ base) vs (suc k) le lt = bound_at base vs k (omega arith) (omega
 pub bound_read : (t : State) (i : ℕ) (v : Value) → slice_get t.locals i ≡ Some (Some v) → get_or t.locals i None ≡ Some v
 bound_read t i v e = get_or_from_slice_get t.locals i (Some v) None e
 
+-- what goes on behind an operation: the first variables, perhaps with its result
+pub result_goes_on : (m q to : ℕ) (o : RowOp) (xs st : List Value) → Drops m q o (first_and to m q) xs st
+result_goes_on m q to o xs st = inl (λ i le lt. among_append i (range 0 m) (q ∷ []) (among_range 0 m i (omega (arith, le))) (among_last i q lt))
+
+pub first_go_on : (m q to keep : ℕ) (o : RowOp) (xs st : List Value) → keep ≤ m → Drops m q o (first to keep) xs st
+first_go_on m q to keep o xs st less = inl (λ i le lt. among_range 0 keep i (omega (arith, less, le)))
+
 -- ---- endings
 
 pub assoc : {A B C : Type 0} (e : Ending A) (f : A → Eval B) (g : B → Eval C) → then_go (then_go e f) g ≡ then_go e (λ a s. then_go (f a s) g)
@@ -111,15 +120,15 @@ assoc (Failed name s) f g = refl
 assoc (Running rs s) f g = refl
 assoc Wrong f g = refl
 
-module _ (p : Program) (gs : Graphs) where
+module _ (p : Program) (gs : Graphs) (wa : Watching) where
   pub take_less : (n : ℕ) (t : State) (held vs : List Value) (k m : ℕ) → length t.locals ≡ n → n + length held ≡ m → k ≤ m → take k (env t (held ++ vs)) ≡ take k (env t held)
   take_less n t held vs k m long at le =
       ap (take k) (env_push t held vs) ∙ take-append-le k (env t held) (map Some vs) (omega (arith, wide n t long held, at, le))
 
-  hand_less : (hands : List Hand) (d : Aim) (a b : Env) (r c m : ℕ) → ((k : ℕ) → k ≤ m → take k a ≡ take k b) → d.keep ≤ m → Below m hands → hand_place p gs hands d a r c ≡ hand_place p gs hands d b r c
+  hand_less : (hands : List Hand) (d : Aim) (a b : Env) (r c m : ℕ) → ((k : ℕ) → k ≤ m → take k a ≡ take k b) → d.keep ≤ m → Below m hands → hand_place p gs wa hands d a r c ≡ hand_place p gs wa hands d b r c
   hand_less [] d a b r c m same le below = ap (λ l. place d.to (l ++ Some (Ref r) ∷ [])) (same d.keep le)
   hand_less (h ∷ hands) d a b r c m same le below =
-      ap (λ l. cond (is_below p.classes c h.class) (place h.aim.to (stored_value l h.local r)) (hand_place p gs hands d a r c)) (same h.aim.keep below.0)
+      ap (λ l. cond (is_below p.classes c h.class) (place h.aim.to (stored_value l h.local r)) (hand_place p gs wa hands d a r c)) (same h.aim.keep below.0)
       ∙ ap (cond (is_below p.classes c h.class) (place h.aim.to (stored_value (take h.aim.keep b) h.local r))) (hand_less hands d a b r c m same le below.1)
 
   pub below_more : (hands : List Hand) (m k : ℕ) → m ≤ k → Below m hands → Below k hands
@@ -127,7 +136,7 @@ module _ (p : Program) (gs : Graphs) where
   below_more (x ∷ hands) m k le h = (omega (arith, le, h.0), below_more hands m k le h.1)
 
   -- what is held besides is dropped on the way to a handler
-  pub catches_more : {n m : ℕ} {sc : Scope} {held : List Value} {R : ℕ → State → Place} (vs : List Value) (k : ℕ) → m + length vs ≡ k → Catches p gs n m sc held R → Catches p gs n k sc (held ++ vs) R
+  pub catches_more : {n m : ℕ} {sc : Scope} {held : List Value} {R : ℕ → State → Place} (vs : List Value) (k : ℕ) → m + length vs ≡ k → Catches p gs wa n m sc held R → Catches p gs wa n k sc (held ++ vs) R
   catches_more {n} {m} {sc} {held} {R} vs k at c = record {
     all = omega (arith, c.all, length-append held vs, at);
     default = omega (arith, c.default, at);
@@ -156,27 +165,27 @@ Reading e a t = (i : ℕ) → Reads e i → IsBound t.locals i
 abbrev pub ReadBy : Expr → Value → State → Type 0
 ReadBy e v t = (i : ℕ) → Reads e i → IsBound t.locals i
 
-module _ (p : Program) (gs : Graphs) (builtins : (k : ℕ) → k < builtin_classes → is_below p.classes k 0 ≡ true) (stand : Stand p gs) (prev : Sem) (top : ℕ) (good : Good p gs prev top) (f n : ℕ) (instead : Option Value) (frs : List Frame) where
-  abbrev pub Follow : {A : Type 0} → (Run → Type 0) → List Value → State → (A → State → Place) → (ℕ → State → Place) → (A → State → Type 0) → Ending A → Type 0
-  Follow P held s D R X e = Runs p gs f instead frs P held s D R X e
+module _ (p : Program) (gs : Graphs) (wa : Watching) (builtins : (k : ℕ) → k < builtin_classes → is_below p.classes k 0 ≡ true) (stand : Stand p gs) (prev : Sem) (top : ℕ) (good : Good p gs wa prev top) (f n : ℕ) (instead : Option Value) (frs : List Frame) where
+  abbrev pub Follow : {A : Type 0} → (Run → ℕ → Type 0) → List Value → State → (A → State → Place) → (ℕ → State → Place) → (A → State → Type 0) → Ending A → Type 0
+  Follow P held s D R X e = Runs p gs wa f instead frs P held s D R X e
 
-  abbrev pub go_in : Place → World → Run → Type 0
-  go_in = enter p gs f instead frs
+  abbrev pub go_in : Place → World → Run → ℕ → Type 0
+  go_in = enter p gs wa f instead frs
 
-  abbrev pub To : (Run → Type 0) → (Run → Type 0) → Type 0
-  To P Q = Leads p gs P Q
+  abbrev pub To : (Run → ℕ → Type 0) → (Run → ℕ → Type 0) → Type 0
+  To P Q = Leads p gs wa P Q
 
   abbrev pub Holding : ℕ → Scope → List Value → (ℕ → State → Place) → Type 0
-  Holding m sc held R = Catches p gs n m sc held R
+  Holding m sc held R = Catches p gs wa n m sc held R
 
   pub same_as : (at to : Place) (w : World) → at ≡ to → To (go_in at w) (go_in to w)
-  same_as at to w e = same_place p gs f instead frs at to w e
+  same_as at to w e = same_place p gs wa f instead frs at to w e
 
   -- a block that goes on at once
   pub jumps : (b m : ℕ) (j : Jump) (W : List Value) (s : State) (vs : Env) → Is p gs f n b m (Go j) → length (env s W) ≡ m → pick (env s W) j.places ≡ vs → To (go_in (place b (env s W)) s.world) (go_in (place j.to vs) s.world)
   jumps b m j W s vs is len e =
-      leads_on p gs (enter_block p gs f instead frs b m is.0 is.1 is.2 (Go j) (env s W) s.world is.3 len)
-      (leads_on p gs (jump_to p gs f instead frs (At f [] (exit.Goto (link is.0 j)) (named is.0 (env s W)) instead frs s.world) is.0 (env s W) j s.world refl)
+      leads_on p gs wa (enter_block p gs wa f instead frs b m is.0 is.1 is.2 (Go j) (env s W) s.world is.3 len)
+      (leads_on p gs wa (jump_to p gs wa f instead frs (At f [] (exit.Goto (link is.0 j)) (named is.0 (env s W)) instead frs s.world) is.0 (env s W) j s.world (refl, refl) refl)
       (same_as (place j.to (pick (env s W) j.places)) (place j.to vs) s.world (ap (place j.to) e)))
 
   module _ (m : ℕ) (sc : Scope) (held : List Value) (R : ℕ → State → Place) (c : Holding m sc held R) (s : State) (fit : Fit (suc top) n s) where
@@ -191,63 +200,77 @@ module _ (p : Program) (gs : Graphs) (builtins : (k : ℕ) → k < builtin_class
       picked' : pick (env s held ++ map Some xs) args ≡ map Some vs
       picked' = ap (λ l. pick l args) (sym vars_is) ∙ picked
 
-      entered_block : To (go_in (place b (env s W)) s.world) (Ends p gs (At f (act is.0 q is.1 is.2 o args sc.covers ∷ []) (exit.OnRaise (is.0 + q) (links is.0 (hand_jumps q sc.hands)) (Some (link is.0 (first_and sc.default.to sc.default.keep q))) (link is.0 norm)) (named is.0 (env s held ++ map Some xs)) instead frs s.world))
+      entered_block : To (go_in (place b (env s W)) s.world) (Ends p gs wa (At f (act is.0 q is.1 is.2 o args sc.covers ∷ []) (exit.OnRaise (is.0 + q) (links is.0 (hand_jumps q sc.hands)) (Some (link is.0 (first_and sc.default.to sc.default.keep q))) (link is.0 norm)) (named is.0 (env s held ++ map Some xs)) instead frs s.world))
       entered_block =
-          leads_on p gs (same_as (place b (env s W)) (place b (env s held ++ map Some xs)) s.world (ap (place b) vars_is))
-          (enter_block p gs f instead frs b q is.0 is.1 is.2 (Does o args sc.covers (hand_jumps q sc.hands) (first_and sc.default.to sc.default.keep q) norm) (env s held ++ map Some xs) s.world is.3 (sym at_len))
+          leads_on p gs wa (same_as (place b (env s W)) (place b (env s held ++ map Some xs)) s.world (ap (place b) vars_is))
+          (enter_block p gs wa f instead frs b q is.0 is.1 is.2 (Does o args sc.covers (hand_jumps q sc.hands) (first_and sc.default.to sc.default.keep q) norm) (env s held ++ map Some xs) s.world is.3 (sym at_len))
 
       does : (w : World) → step p gs (At f (act is.0 q is.1 is.2 o args sc.covers ∷ []) (exit.OnRaise (is.0 + q) (links is.0 (hand_jumps q sc.hands)) (Some (link is.0 (first_and sc.default.to sc.default.keep q))) (link is.0 norm)) (named is.0 (env s held ++ map Some xs)) instead frs w)
           ≡ answered p gs f (act is.0 q is.1 is.2 o args sc.covers) [] (exit.OnRaise (is.0 + q) (links is.0 (hand_jumps q sc.hands)) (Some (link is.0 (first_and sc.default.to sc.default.keep q))) (link is.0 norm)) (named is.0 (env s held ++ map Some xs)) instead frs w (op p sc.covers o vs w)
       does w = ap (λ us. operates p gs f (act is.0 q is.1 is.2 o args sc.covers) [] (exit.OnRaise (is.0 + q) (links is.0 (hand_jumps q sc.hands)) (Some (link is.0 (first_and sc.default.to sc.default.keep q))) (link is.0 norm)) (named is.0 (env s held ++ map Some xs)) instead frs w us) (operands_named is.0 (env s held ++ map Some xs) args vs picked')
 
-      -- one that gives a value
-      pub gives_on : (v : Value) (to : Env) → op p sc.covers o vs s.world ≡ Gives v s.world → pick (env s W ++ Some v ∷ []) norm.places ≡ to → To (go_in (place b (env s W)) s.world) (go_in (place norm.to to) s.world)
-      gives_on v to e land =
+      -- a slight one that gives a value
+      pub gives_on : is_slight o ≡ true → (v : Value) (to : Env) → op p sc.covers o vs s.world ≡ Gives v s.world → pick (env s W ++ Some v ∷ []) norm.places ≡ to → To (go_in (place b (env s W)) s.world) (go_in (place norm.to to) s.world)
+      gives_on slight v to e land =
           let its = act is.0 q is.1 is.2 o args sc.covers in
           let ex = exit.OnRaise (is.0 + q) (links is.0 (hand_jumps q sc.hands)) (Some (link is.0 (first_and sc.default.to sc.default.keep q))) (link is.0 norm) in
           let at = At f (its ∷ []) ex (named is.0 (env s held ++ map Some xs)) instead frs s.world in
           let z : step p gs at ≡ answered p gs f its [] ex (named is.0 (env s held ++ map Some xs)) instead frs s.world (Gives v s.world) = does s.world ∙ ap (answered p gs f its [] ex (named is.0 (env s held ++ map Some xs)) instead frs s.world) e in
-          leads_on p gs entered_block
-          (leads_on p gs (goes_on p gs builtins f instead frs n m sc held R c (suc top) s fit xs q is.0 is.1 is.2 o args norm vs at_len picked' at v s.world z)
+          leads_on p gs wa entered_block
+          (leads_on p gs wa
+          (goes_on p gs wa builtins f instead frs n m sc held R c (suc top) s fit xs q is.0 is.1 is.2 o args norm vs at_len picked' at v s.world
+          (slight_free p gs wa builtins f instead frs n m sc held R c (suc top) s fit xs q is.0 is.1 is.2 o args norm vs at_len picked' v s.world slight e) z)
           (same_as (place norm.to (pick ((env s held ++ map Some xs) ++ Some v ∷ []) norm.places)) (place norm.to to) s.world (ap (place norm.to) (ap (λ l. pick (l ++ Some v ∷ []) norm.places) (sym vars_is) ∙ land))))
 
       -- one that no operands are for
-      pub strays_on : op p sc.covers o vs s.world ≡ Bad → go_in (place b (env s W)) s.world (wrong_run p gs)
-      strays_on e =
-          let its = act is.0 q is.1 is.2 o args sc.covers in
-          let ex = exit.OnRaise (is.0 + q) (links is.0 (hand_jumps q sc.hands)) (Some (link is.0 (first_and sc.default.to sc.default.keep q))) (link is.0 norm) in
-          entered_block.by _ (step_strays p gs (At f (its ∷ []) ex (named is.0 (env s held ++ map Some xs)) instead frs s.world) (does s.world ∙ ap (answered p gs f its [] ex (named is.0 (env s held ++ map Some xs)) instead frs s.world) e))
-
-      -- one that throws
-      pub throws_on : (r : ℕ) → op p sc.covers o vs s.world ≡ Throws r s.world → To (go_in (place b (env s W)) s.world) (go_in (R r s) s.world)
-      throws_on r e =
+      pub strays_on : is_slight o ≡ true → op p sc.covers o vs s.world ≡ Bad → (moment : ℕ) → go_in (place b (env s W)) s.world (wrong_run p gs wa) moment
+      strays_on slight e moment =
           let its = act is.0 q is.1 is.2 o args sc.covers in
           let ex = exit.OnRaise (is.0 + q) (links is.0 (hand_jumps q sc.hands)) (Some (link is.0 (first_and sc.default.to sc.default.keep q))) (link is.0 norm) in
           let at = At f (its ∷ []) ex (named is.0 (env s held ++ map Some xs)) instead frs s.world in
-          leads_on p gs entered_block
-          (throws p gs builtins f instead frs n m sc held R c (suc top) s fit xs q is.0 is.1 is.2 o args norm vs at_len picked' at r s.world s.moments (does s.world ∙ ap (answered p gs f its [] ex (named is.0 (env s held ++ map Some xs)) instead frs s.world) e))
+          entered_block.by _ moment
+          (step_strays p gs wa at moment moment (not_at p gs wa at moment (ap not slight)) (does s.world ∙ ap (answered p gs f its [] ex (named is.0 (env s held ++ map Some xs)) instead frs s.world) e))
 
-      -- the tree does it, too
-      pub acts : (hold : List Value) (D : Value → State → Place) (X : Value → State → Type 0) → ((wt : Weight) → total wt.of xs ≤ total wt.of hold) → ((wt : Weight) → total wt.of xs ≤ total wt.of vs)
-          → ((v : Value) (w : World) (k : ℕ) → (place norm.to (pick (env s W ++ Some v ∷ []) norm.places) ≡ D v (record s { world = w; moments = k })) × X v (record s { world = w; moments = k }))
-          → Follow (go_in (place b (env s W)) s.world) held s D R X (operate p unwatched prev hold sc.covers o vs s)
-      acts hold D X small operands lands =
+      -- one that throws
+      pub throws_on : is_slight o ≡ true → (r : ℕ) → op p sc.covers o vs s.world ≡ Throws r s.world → To (go_in (place b (env s W)) s.world) (go_in (R r s) s.world)
+      throws_on slight r e =
           let its = act is.0 q is.1 is.2 o args sc.covers in
           let ex = exit.OnRaise (is.0 + q) (links is.0 (hand_jumps q sc.hands)) (Some (link is.0 (first_and sc.default.to sc.default.keep q))) (link is.0 norm) in
-          let fr = frame p gs builtins f instead frs n m sc held R c (suc top) s fit xs q is.0 is.1 is.2 o args norm vs at_len picked' in
+          let at = At f (its ∷ []) ex (named is.0 (env s held ++ map Some xs)) instead frs s.world in
+          leads_on p gs wa entered_block
+          (record {
+            by = λ run moment go.
+                (throws p gs wa builtins f instead frs n m sc held R c (suc top) s fit xs q is.0 is.1 is.2 o args norm vs at_len picked' at moment moment (not_at p gs wa at moment (ap not slight))
+                (behind_is p gs wa builtins f instead frs n m sc held R c (suc top) s fit xs q is.0 is.1 is.2 o args norm vs at_len picked' (Throws r s.world) s.world e) r s.world s.moments
+                (does s.world ∙ ap (answered p gs f its [] ex (named is.0 (env s held ++ map Some xs)) instead frs s.world) e)).by run go;
+          })
+
+      -- the tree does it, too
+      pub acts_holding : (st hold : List Value) (D : Value → State → Place) (X : Value → State → Type 0) → Drops m q o norm xs st → ((wt : Weight) → total wt.of xs ≤ total wt.of hold) → ((wt : Weight) → total wt.of xs ≤ total wt.of vs)
+          → ((v : Value) (w : World) (k : ℕ) → (place norm.to (pick (env s W ++ Some v ∷ []) norm.places) ≡ D v (record s { world = w; moments = k })) × X v (record s { world = w; moments = k }))
+          → Follow (go_in (place b (env s W)) s.world) held s D R X (operate_holding p wa.watch prev st hold sc.covers o vs s)
+      acts_holding st hold D X drops small operands lands =
+          let its = act is.0 q is.1 is.2 o args sc.covers in
+          let ex = exit.OnRaise (is.0 + q) (links is.0 (hand_jumps q sc.hands)) (Some (link is.0 (first_and sc.default.to sc.default.keep q))) (link is.0 norm) in
+          let fr = frame p gs wa builtins f instead frs n m sc held R c (suc top) s fit xs q is.0 is.1 is.2 o args norm vs at_len picked' in
           let place_is = λ (v : Value). let z : place norm.to (pick ((env s held ++ map Some xs) ++ Some v ∷ []) norm.places) ≡ place norm.to (pick (env s W ++ Some v ∷ []) norm.places) = ap (λ l. place norm.to (pick (l ++ Some v ∷ []) norm.places)) (sym vars_is) in z in
-          moved p gs f instead frs entered_block
-          (told_sim p gs builtins f instead frs n m sc held R c (suc top) s fit xs q is.0 is.1 is.2 o args norm vs at_len picked' prev hold D X small
-          (λ v w e. let l = lands v w s.moments in (place_is v ∙ l.0, l.1))
-          (λ g us other w e later passes.
-          called_sim p gs f instead frs fr held vs s D R X
+          moved p gs wa f instead frs entered_block
+          (told_sim p gs wa builtins f instead frs n m sc held R c (suc top) s fit xs q is.0 is.1 is.2 o args norm vs at_len picked' D X st drops prev hold small
+          (λ v w k e. let l = lands v w k in (place_is v ∙ l.0, l.1))
+          (λ g us other w j e later passes.
+          called_sim p gs wa f instead frs fr held vs s D R X (λ v u. then_go (wa.watch (Behind o) (v ∷ st) u) (λ a. pure v))
           (λ v w k.
-          leads_on p gs (goes_on p gs builtins f instead frs n m sc held R c (suc top) s fit xs q is.0 is.1 is.2 o args norm vs at_len picked' (Returning v (fr ∷ frs) w) v w refl)
-          (same_as _ _ w (place_is v ∙ (lands v w k).0)))
-          (λ r w k. throws p gs builtins f instead frs n m sc held R c (suc top) s fit xs q is.0 is.1 is.2 o args norm vs at_len picked' (Throwing r (fr ∷ frs) w) r w k refl)
-          (λ v w k. (lands v w k).1)
-          (λ wt. let z = used_here p gs builtins f instead frs n m sc held R c (suc top) s fit xs q is.0 is.1 is.2 o args norm vs at_len picked' wt (waits_for fr) in omega (arith, z, operands wt))
-          g us other passes prev top good (Calling g us other (fr ∷ frs) w) w (slice_get p.functions g) (stand g) (omega (arith, later.left, fit.low)) (sound_on later fit.sound) refl refl))
+          behind_sim p gs wa builtins f instead frs n m sc held R c (suc top) s fit xs q is.0 is.1 is.2 o args norm vs at_len picked' D X st drops (Returning v (fr ∷ frs) w) v w k k (not_at p gs wa (Returning v (fr ∷ frs) w) k refl) refl refl
+          (λ i. let l = lands v w i in (place_is v ∙ l.0, l.1)))
+          (λ r w k.
+          throws p gs wa builtins f instead frs n m sc held R c (suc top) s fit xs q is.0 is.1 is.2 o args norm vs at_len picked' (Throwing r (fr ∷ frs) w) k k (not_at p gs wa (Throwing r (fr ∷ frs) w) k refl) refl r w k refl)
+          (λ wt. let z = used_here p gs wa builtins f instead frs n m sc held R c (suc top) s fit xs q is.0 is.1 is.2 o args norm vs at_len picked' wt (waits_for fr) in omega (arith, z, operands wt))
+          g us other passes prev top good (Calling g us other (fr ∷ frs) w) w j (slice_get p.functions g) (stand g) (omega (arith, later.left, fit.low)) (sound_on later fit.sound) refl refl refl refl refl))
+
+      pub acts : (hold : List Value) (D : Value → State → Place) (X : Value → State → Type 0) → Drops m q o norm xs [] → ((wt : Weight) → total wt.of xs ≤ total wt.of hold) → ((wt : Weight) → total wt.of xs ≤ total wt.of vs)
+          → ((v : Value) (w : World) (k : ℕ) → (place norm.to (pick (env s W ++ Some v ∷ []) norm.places) ≡ D v (record s { world = w; moments = k })) × X v (record s { world = w; moments = k }))
+          → Follow (go_in (place b (env s W)) s.world) held s D R X (operate p wa.watch prev hold sc.covers o vs s)
+      acts hold D X drops small operands lands = acts_holding [] hold D X drops small operands lands
 
   -- ---- a raise
 
@@ -292,23 +315,23 @@ module _ (p : Program) (gs : Graphs) (builtins : (k : ℕ) → k < builtin_class
 
   pub raises_sim : (m : ℕ) (sc : Scope) (held : List Value) (R : ℕ → State → Place) → Holding m sc held R → (s : State) → Fit (suc top) n s
       → (W xs : List Value) → W ≡ held ++ xs → (b q : ℕ) (args : List ℕ) (norm : Jump) (vs : List Value) → Acts p gs f n sc b row.Raise args q norm → m + length xs ≡ q → pick (env s W) args ≡ map Some vs
-      → (hold : List Value) (D : Value → State → Place) (X : Value → State → Type 0) → ((wt : Weight) → total wt.of xs ≤ total wt.of hold)
-      → Follow (go_in (place b (env s W)) s.world) held s D R X (operate p unwatched prev hold sc.covers row.Raise vs s)
-  raises_sim m sc held R c s fit W xs are b q args norm vs is at_q picked hold D X small =
+      → (hold : List Value) (D : Value → State → Place) (X : Value → State → Type 0) → Drops m q row.Raise norm xs [] → ((wt : Weight) → total wt.of xs ≤ total wt.of hold)
+      → Follow (go_in (place b (env s W)) s.world) held s D R X (operate p wa.watch prev hold sc.covers row.Raise vs s)
+  raises_sim m sc held R c s fit W xs are b q args norm vs is at_q picked hold D X drops small =
       let len = at_len m sc held R c s fit W xs are b q row.Raise args norm vs is at_q picked in
       let pk = picked' m sc held R c s fit W xs are b q row.Raise args norm vs is at_q picked in
-      moved p gs f instead frs (entered_block m sc held R c s fit W xs are b q row.Raise args norm vs is at_q picked)
-      (told_sim p gs builtins f instead frs n m sc held R c (suc top) s fit xs q is.0 is.1 is.2 row.Raise args norm vs len pk prev hold D X small
-      (λ v w e. absurd (subst OnlyThrows e (raise_throws sc.covers vs s.world)))
-      (λ g us other w e later passes. absurd (subst OnlyThrows e (raise_throws sc.covers vs s.world))))
+      moved p gs wa f instead frs (entered_block m sc held R c s fit W xs are b q row.Raise args norm vs is at_q picked)
+      (told_sim p gs wa builtins f instead frs n m sc held R c (suc top) s fit xs q is.0 is.1 is.2 row.Raise args norm vs len pk D X [] drops prev hold small
+      (λ v w k e. absurd (subst OnlyThrows e (raise_throws sc.covers vs s.world)))
+      (λ g us other w j e later passes. absurd (subst OnlyThrows e (raise_throws sc.covers vs s.world))))
 
   -- a block of an operation whose operand is unbound
-  pub unbound_on : (m : ℕ) (sc : Scope) (W : List Value) (s : State) (b i : ℕ) (o : RowOp) (norm : Jump) → Acts p gs f n sc b o (i ∷ []) m norm → length (env s W) ≡ m → get_or (env s W) i None ≡ None → go_in (place b (env s W)) s.world (wrong_run p gs)
-  unbound_on m sc W s b i o norm is len e =
+  pub unbound_on : (m : ℕ) (sc : Scope) (W : List Value) (s : State) (b i : ℕ) (o : RowOp) (norm : Jump) → Acts p gs f n sc b o (i ∷ []) m norm → length (env s W) ≡ m → get_or (env s W) i None ≡ None → is_slight o ≡ true → (moment : ℕ) → go_in (place b (env s W)) s.world (wrong_run p gs wa) moment
+  unbound_on m sc W s b i o norm is len e slight moment =
       let its = act is.0 m is.1 is.2 o (i ∷ []) sc.covers in
       let ex = exit.OnRaise (is.0 + m) (links is.0 (hand_jumps m sc.hands)) (Some (link is.0 (first_and sc.default.to sc.default.keep m))) (link is.0 norm) in
-      (enter_block p gs f instead frs b m is.0 is.1 is.2 (Does o (i ∷ []) sc.covers (hand_jumps m sc.hands) (first_and sc.default.to sc.default.keep m) norm) (env s W) s.world is.3 len).by _
-      (step_strays p gs (At f (its ∷ []) ex (named is.0 (env s W)) instead frs s.world) (ap (operates p gs f its [] ex (named is.0 (env s W)) instead frs s.world) (operand_none is.0 (env s W) i e)))
+      (enter_block p gs wa f instead frs b m is.0 is.1 is.2 (Does o (i ∷ []) sc.covers (hand_jumps m sc.hands) (first_and sc.default.to sc.default.keep m) norm) (env s W) s.world is.3 len).by _ moment
+      (step_strays p gs wa (At f (its ∷ []) ex (named is.0 (env s W)) instead frs s.world) moment moment (not_at p gs wa (At f (its ∷ []) ex (named is.0 (env s W)) instead frs s.world) moment (ap not slight)) (ap (operates p gs f its [] ex (named is.0 (env s W)) instead frs s.world) (operand_none is.0 (env s W) i e)))
 
   -- ---- a fork
 
@@ -316,16 +339,16 @@ module _ (p : Program) (gs : Graphs) (builtins : (k : ℕ) → k < builtin_class
       → To (go_in (place b (env t W)) t.world) (go_in (place (cond go so other).to (pick (env t W) (cond go so other).places)) t.world)
   fork_on b q test so other W t x go is len at z =
       let spot = At f [] (exit.If (is.0 + test) (link is.0 so) (link is.0 other)) (named is.0 (env t W)) instead frs t.world in
-      leads_on p gs (enter_block p gs f instead frs b q is.0 is.1 is.2 (Fork test so other) (env t W) t.world is.3 len)
-      (forked go spot is.0 (ap (λ v. chooses gs f frs t.world instead (named is.0 (env t W)) (link is.0 so) (link is.0 other) (truth_of t.world v)) (look_named is.0 test (env t W) ∙ at) ∙ ap (chooses gs f frs t.world instead (named is.0 (env t W)) (link is.0 so) (link is.0 other)) z))
+      leads_on p gs wa (enter_block p gs wa f instead frs b q is.0 is.1 is.2 (Fork test so other) (env t W) t.world is.3 len)
+      (forked go spot (refl, refl) is.0 (ap (λ v. chooses gs f frs t.world instead (named is.0 (env t W)) (link is.0 so) (link is.0 other) (truth_of t.world v)) (look_named is.0 test (env t W) ∙ at) ∙ ap (chooses gs f frs t.world instead (named is.0 (env t W)) (link is.0 so) (link is.0 other)) z))
     where
-      forked : (go : Bool) (spot : Spot) (base : ℕ) → step p gs spot ≡ chooses gs f frs t.world instead (named base (env t W)) (link base so) (link base other) (Some go) → To (Ends p gs spot) (go_in (place (cond go so other).to (pick (env t W) (cond go so other).places)) t.world)
-      forked true spot base e = jump_to p gs f instead frs spot base (env t W) so t.world e
-      forked false spot base e = jump_to p gs f instead frs spot base (env t W) other t.world e
+      forked : (go : Bool) (spot : Spot) → Free p gs wa spot → (base : ℕ) → step p gs spot ≡ chooses gs f frs t.world instead (named base (env t W)) (link base so) (link base other) (Some go) → To (Ends p gs wa spot) (go_in (place (cond go so other).to (pick (env t W) (cond go so other).places)) t.world)
+      forked true spot free base e = jump_to p gs wa f instead frs spot base (env t W) so t.world free e
+      forked false spot free base e = jump_to p gs wa f instead frs spot base (env t W) other t.world free e
 
   pub fork_strays : (b q test : ℕ) (so other : Jump) (W : List Value) (t : State) (x : Value) → Is p gs f n b q (Fork test so other) → length (env t W) ≡ q → get_or (env t W) test None ≡ Some x → truth_in t.world x ≡ None
-      → go_in (place b (env t W)) t.world (wrong_run p gs)
-  fork_strays b q test so other W t x is len at z =
+      → (moment : ℕ) → go_in (place b (env t W)) t.world (wrong_run p gs wa) moment
+  fork_strays b q test so other W t x is len at z moment =
       let spot = At f [] (exit.If (is.0 + test) (link is.0 so) (link is.0 other)) (named is.0 (env t W)) instead frs t.world in
-      (enter_block p gs f instead frs b q is.0 is.1 is.2 (Fork test so other) (env t W) t.world is.3 len).by _
-      (step_strays p gs spot (ap (λ v. chooses gs f frs t.world instead (named is.0 (env t W)) (link is.0 so) (link is.0 other) (truth_of t.world v)) (look_named is.0 test (env t W) ∙ at) ∙ ap (chooses gs f frs t.world instead (named is.0 (env t W)) (link is.0 so) (link is.0 other)) z))
+      (enter_block p gs wa f instead frs b q is.0 is.1 is.2 (Fork test so other) (env t W) t.world is.3 len).by _ moment
+      (step_strays p gs wa spot moment moment (not_at p gs wa spot moment refl) (ap (λ v. chooses gs f frs t.world instead (named is.0 (env t W)) (link is.0 so) (link is.0 other) (truth_of t.world v)) (look_named is.0 test (env t W) ∙ at) ∙ ap (chooses gs f frs t.world instead (named is.0 (env t W)) (link is.0 so) (link is.0 other)) z))

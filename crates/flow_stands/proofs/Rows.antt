@@ -16,7 +16,7 @@
 --     def entry_point(argv):
 --         last(down(seven(0)))
 --         return 0
-use Rattle.std.proofs.Common.{◌≡◌, ℕ, zero, suc, List, [], ◌∷◌, true, false, inl, inr, Option, Some, None, refl, arith, codes}
+use Rattle.std.proofs.Common.{◌≡◌, ℕ, zero, suc, List, [], ◌∷◌, false, inl, inr, Option, Some, None, refl, arith, codes}
 use Rattle.std.specs.Prelude.{pos, replicate}
 use Rattle.std.specs.Fmt.{digits}
 use Rattle.std.specs.Int.{int_wrap}
@@ -218,8 +218,8 @@ down_stands = (
           first 14 2,
           (33, 0, false, refl),
           (30, 0, false, refl),
-          inr (13, 0, row.DropNone, 0 ∷ [], refl, omega arith, refl, inl (refl, λ x w. refl), (24, 0, false, refl), refl),
-          inr (14, 0, row.FalseNone, 0 ∷ [], refl, omega arith, refl, inl (refl, λ x w. refl), (27, 0, false, refl), refl),
+          inr (13, 0, row.DropNone, 0 ∷ [], refl, omega arith, refl, (refl, inl (refl, λ x w. refl)), (24, 0, false, refl), refl),
+          inr (14, 0, row.FalseNone, 0 ∷ [], refl, omega arith, refl, (refl, inl (refl, λ x w. refl)), (27, 0, false, refl), refl),
         ),
       ),
       (22, 0, false, refl),

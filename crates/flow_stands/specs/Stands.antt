@@ -11,6 +11,7 @@ use Rattle.rpy_meaning.specs.Tree.{Expr, Local, Constant, Apply, And, Or, Displa
 use Rattle.rpy_meaning.specs.World.{World, Gives}
 use Rattle.rpy_meaning.specs.Classes.{covers_within, no_covers}
 use Rattle.rpy_meaning.specs.Operations.{op, constant}
+use Rattle.rpy_meaning.specs.Moments.{is_slight}
 use Rattle.rpy_meaning.specs.Meaning.{target_count}
 use Rattle.flow_graph.specs.declared.graph.Graphs.{Graphs}
 use Rattle.flow_meaning.specs.Machine.{block_in}
@@ -44,6 +45,10 @@ count (more e es) = suc (count es)
 abbrev pub onward : RowOp → ℕ → ℕ → ℕ → Jump
 onward row.Raise to keep last = first never_block 0
 onward o to keep last = first_and to keep last
+
+abbrev pub IsComparison : RowOp → Type 0
+IsComparison (row.Compare f) = Unit {0}
+IsComparison other = ⊥
 
 abbrev pub is_local : Expr → ℕ → Type 0
 is_local (Local j) i = j ≡ i
@@ -110,12 +115,13 @@ module _ (p : Program) (gs : Graphs) (f n : ℕ) where
 
   -- ---- tests
 
-  -- in the branch a local is what an operation gives of it, which is the same; where it has two operands the second is one of those of a
-  -- comparison, which stand before the value
+  -- In the branch a local is what an operation gives of it, which is the same: one that hands a value on. Where it has two operands the
+  -- second is one of those of a comparison, which stand before the value.
   abbrev pub Narrows : Covers → RowOp → ℕ → List ℕ → ℕ → ℕ → Type 0
   Narrows c o i args m value =
-      ((args ≡ i ∷ []) × ((x : Value) (w : World) → op p c o (x ∷ []) w ≡ Gives x w))
-      ⊎ ((side : ℕ) × (args ≡ i ∷ side ∷ []) × (m ≤ side) × (side < value + 1) × ((x y : Value) (w : World) → op p c o (x ∷ y ∷ []) w ≡ Gives x w))
+      (is_slight o ≡ true)
+      × (((args ≡ i ∷ []) × ((x : Value) (w : World) → op p c o (x ∷ []) w ≡ Gives x w))
+      ⊎ ((side : ℕ) × (args ≡ i ∷ side ∷ []) × (m ≤ side) × (side < value + 1) × ((x y : Value) (w : World) → op p c o (x ∷ y ∷ []) w ≡ Gives x w)))
 
   abbrev pub Way : Scope → Expr → ℕ → ℕ → Branch → Jump → Type 0
   Way sc e m value branch jump =
@@ -182,9 +188,9 @@ module _ (p : Program) (gs : Graphs) (f n : ℕ) where
   abbrev pub ApplyAt : Scope → RowOp → ℕ → Place → (ℕ → ℕ → ℕ → ℕ → Type 0) → Place
   ApplyAt sc o c Es Test b m q = AppliedAt sc o c Es b m q ⊎ ((o ≡ row.Not) × NotAt sc Test b m q)
 
-  -- the operands of an operation with its result behind them
+  -- the operands of a comparison with its result behind them
   abbrev pub SidesAt : Scope → RowOp → ℕ → Place → ℕ → ℕ → ℕ → ℕ → Type 0
-  SidesAt sc o k Es b m c q = (c ≡ k) × ((l : ℕ) × Es b m l × Acts sc l o (range m c) (m + c) (first_and q (m + c) (m + c)))
+  SidesAt sc o k Es b m c q = (c ≡ k) × ((l : ℕ) × Es b m l × Acts sc l o (range m c) (m + c) (first_and q (m + c) (m + c)) × IsComparison o)
 
   abbrev pub AndAt : Scope → (ℕ → ℕ → Branch → Branch → Type 0) → Place → Place
   AndAt sc Left Right b m q = (meet right : ℕ) × Meets sc meet m q × Right right m meet × Left b m (plainly right) (with_value meet)

@@ -56,12 +56,12 @@ three_written place a b w = writing w.found (record {
   ops = ((w.body.ops ++ op.Binary (length w.body.types) binary.Eq a.x b.x ∷ []) ++ op.Unary (second w) unary.Not (Var (length w.body.types)) ∷ []) ++ op.Set place.variable (Var (second w)) ∷ [];
 })
 
-two_types : {A : Type 0} (xs : List A) (x y : A) → (xs ++ x ∷ []) ++ y ∷ [] ≡ xs ++ x ∷ y ∷ []
+pub two_types : {A : Type 0} (xs : List A) (x y : A) → (xs ++ x ∷ []) ++ y ∷ [] ≡ xs ++ x ∷ y ∷ []
 two_types [] x y = refl
 two_types (z ∷ xs) x y = ap (λ ys. z ∷ ys) (two_types xs x y)
 
 -- all are set, and nothing else
-did_three : {p : LlProgram} {args : List (List ℕ)} {s : State} {rest : List LlOp} {e : LlExit} {frames : List Frame} {core : Core} {w : World} (into n m : ℕ) (b : Bool) → n < length core.vars → m < length core.vars → n < m → into < n
+pub did_three : {p : LlProgram} {args : List (List ℕ)} {s : State} {rest : List LlOp} {e : LlExit} {frames : List Frame} {core : Core} {w : World} (into n m : ℕ) (b : Bool) → n < length core.vars → m < length core.vars → n < m → into < n
     → Leads p args 0 s [] (At rest e frames (after (after (after core n (Flag b)) m (Flag (not b))) into (Flag (not b)))) → Did p args s rest e frames core type.Bool into n w (MeantFlag (not b)) w
 did_three {core = core} into n m b r k i j l =
     let x : List Value = slice_set core.vars n (Flag b) in

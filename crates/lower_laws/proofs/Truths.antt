@@ -114,19 +114,19 @@ word_untrue_is_followed around place a w ha ht = record {
 
 -- ---- the number of a byte
 
-record ByteIs (x : Value) (v : Meant) : Type 0 where
-  number : ℕ
-  low : x ≡ Byte number
-  high : v ≡ Text (number ∷ [])
-  small : number < 256
+pub record ByteIs (x : Value) (v : Meant) : Type 0 where
+  pub number : ℕ
+  pub low : x ≡ Byte number
+  pub high : v ≡ Text (number ∷ [])
+  pub small : number < 256
 
 of_byte : {blocks : List (Option Block)} {statics : List Block} (x : Value) (v : Meant) → Stands blocks statics type.Char x v → ByteIs x v
 of_byte x v (byte b h) = record { number = b; low = refl; high = refl; small = h }
 
-byte_is : {blocks : List (Option Block)} {statics : List Block} {t : LlType} {x : Value} {v : Meant} → t ≡ type.Char → Stands blocks statics t x v → ByteIs x v
+pub byte_is : {blocks : List (Option Block)} {statics : List Block} {t : LlType} {x : Value} {v : Meant} → t ≡ type.Char → Stands blocks statics t x v → ByteIs x v
 byte_is {blocks = blocks} {statics = statics} {x = x} {v = v} h st = of_byte x v (subst (λ t. Stands blocks statics t x v) h st)
 
-byte_fits : (b : ℕ) → b < 256 → Fits (pos b)
+pub byte_fits : (b : ℕ) → b < 256 → Fits (pos b)
 byte_fits b h = omega (arith, ints, h)
 
 pub ord_is_followed : OnByte row.Ord type.Signed

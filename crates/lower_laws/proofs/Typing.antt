@@ -21,11 +21,12 @@ TypeIs kind.Flag t = t ≡ type.Bool
 TypeIs kind.Byte t = t ≡ type.Char
 TypeIs kind.Text t = t ≡ type.Ptr 0
 TypeIs kind.MaybeText t = t ≡ type.Ptr 0
+TypeIs kind.Nothing t = t ≡ type.Bool
 TypeIs _ t = Unit {0}
 
 of_element : (layout : Layout) (element : Element) → TypeIs (kind_of element) (type_of layout element)
 of_element layout e.Unreached = tt
-of_element layout e.NoneOnly = tt
+of_element layout e.NoneOnly = ap (type_of layout) (sym e.rolls-NoneOnly) ∙ fold-roll-Element LlType (type_step layout) Element-F.NoneOnly
 of_element layout e.KnownTrue = ap (type_of layout) (sym e.rolls-KnownTrue) ∙ fold-roll-Element LlType (type_step layout) Element-F.KnownTrue
 of_element layout e.KnownFalse = ap (type_of layout) (sym e.rolls-KnownFalse) ∙ fold-roll-Element LlType (type_step layout) Element-F.KnownFalse
 of_element layout e.Bool = ap (type_of layout) (sym e.rolls-Bool) ∙ fold-roll-Element LlType (type_step layout) Element-F.Bool
@@ -80,3 +81,9 @@ place_of_bytes layout element h = subst (λ k. TypeIs k (type_seen layout elemen
 
 pub place_of_strings : (layout : Layout) (element : Option Element) → kind_seen element ≡ kind.Text → type_seen layout element ≡ type.Ptr 0
 place_of_strings layout element h = subst (λ k. TypeIs k (type_seen layout element)) h (seen layout element)
+
+pub place_of_texts : (layout : Layout) (element : Option Element) → kind_seen element ≡ kind.MaybeText → type_seen layout element ≡ type.Ptr 0
+place_of_texts layout element h = subst (λ k. TypeIs k (type_seen layout element)) h (seen layout element)
+
+pub place_of_none : (layout : Layout) (element : Option Element) → kind_seen element ≡ kind.Nothing → type_seen layout element ≡ type.Bool
+place_of_none layout element h = subst (λ k. TypeIs k (type_seen layout element)) h (seen layout element)

@@ -1,2 +1,14 @@
+pub mod Asked
+pub mod Bridged
+pub mod Checked
+pub mod Copied
+pub mod Done
 pub mod Follows
 pub mod Helped
+pub mod Identity
+pub mod Printed
+pub mod Raised
+pub mod Raising
+pub mod Texted
+pub mod Tuples
+pub mod Values

@@ -15,7 +15,7 @@ use Rattle.meaning_runner.specs.declared.place.Place.{Place}
 use Rattle.meaning_runner.specs.declared.stop.Stop.{Stop}
 use Rattle.meaning_runner.specs.declared.stop.Stop.TheVariants as stop
 use Rattle.meaning_runner.specs.Endings.{Stops, Ends}
-use Rattle.meaning_runner.specs.Evaluates.{Turned, Over, On, turned, if_item, over_by, asked, truth, block, perform_bare, turn, each_item, for_loop, gather, gathered, while_turn, while_loop}
+use Rattle.meaning_runner.specs.Evaluates.{Turned, Over, On, turned, if_item, over_by, asked, truth, block, perform_bare, turn, each_item, for_loop, gather, gathered, while_turn, while_loop, on_walk}
 use Rattle.resolved_meaning.specs.Trees.{program_of, expr_of, target_of, block_of, condition_of}
 use Rattle.meaning_runner.proofs.Endings.{goes_then, stops_then}
 use Rattle.meaning_runner.proofs.Levels.{none_below, asked_below}
@@ -72,11 +72,11 @@ turns_go : (r : Resolved) (at : Place) (each : Value → Eval Flow) (rest : Walk
 turns_go r at each rest walk s =
     turn_goes
     (holding (walk_holds walk) (perform_bare r at row.Turn []))
-    (meaning.on_walk (program_of r) unwatched (asked r at) row.Item walk)
+    (on_walk r at row.Item walk)
     (λ v. holding (walk_holds walk) (each v))
-    (meaning.on_walk (program_of r) unwatched (asked r at) row.Advance walk)
+    (on_walk r at row.Advance walk)
     (λ place. rest (record walk { at = place }))
-    ((meaning.on_walk (program_of r) unwatched (asked r at) row.HasItem walk >>= is_so) s)
+    ((on_walk r at row.HasItem walk >>= is_so) s)
 
 -- ---- loops of statements
 

@@ -80,6 +80,10 @@ module _ (r : Resolved) (at : Place) where
   abbrev pub perform : RowOp → List Value → Eval Value
   perform o vs = operate vs o vs
 
+  -- an operation whose operands stay
+  abbrev pub perform_staying : RowOp → List Value → Eval Value
+  perform_staying o vs = meaning.operate_holding (program_of r) unwatched asked vs vs at.covers o vs
+
   -- an operation of a loop, for which nothing is covered
   abbrev pub perform_bare : RowOp → List Value → Eval Value
   perform_bare o vs = meaning.operate (program_of r) unwatched asked vs no_covers o vs
@@ -112,15 +116,18 @@ module _ (r : Resolved) (at : Place) where
   abbrev pub begin : Subject → Eval Walking
   begin subject = meaning.begin (program_of r) unwatched asked at.covers (subject_of r.sites subject)
 
+  abbrev pub on_walk : (Option ℤ → RowOp) → Walking → Eval Value
+  on_walk o walk = perform_bare (o walk.step) (walk_holds walk)
+
   abbrev pub next_item : Walking → Eval (Option Value)
   next_item walk = do
-    there ← meaning.on_walk (program_of r) unwatched asked row.HasItem walk >>= is_so
+    there ← on_walk row.HasItem walk >>= is_so
     if there
-        then (do holding (walk_holds walk) (perform_bare row.Turn []); v ← meaning.on_walk (program_of r) unwatched asked row.Item walk; pure (Some v))
+        then (do holding (walk_holds walk) (perform_bare row.Turn []); v ← on_walk row.Item walk; pure (Some v))
         else pure None
 
   abbrev pub turn : (Value → Eval Flow) → Walking → Eval Turned
-  turn each walk = next_item walk >>= if_item (meaning.on_walk (program_of r) unwatched asked row.Advance walk) (λ v. holding (walk_holds walk) (each v))
+  turn each walk = next_item walk >>= if_item (on_walk row.Advance walk) (λ v. holding (walk_holds walk) (each v))
 
   abbrev pub keeps : Option Expr → Eval Bool
   keeps test = meaning.keeps (program_of r) unwatched asked at.covers (condition_of r.sites test)

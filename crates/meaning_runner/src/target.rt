@@ -258,6 +258,22 @@ pub fn augment(
     }
 }
 
+// The old value is read, and the parts of the target stay.
+#[cycle(evaluate)]
+fn perform_staying(
+    program: &Resolved,
+    depth: u32,
+    state: &mut State,
+    place: Place,
+    op: &RowOp,
+    operands: &[Val],
+) -> Result<Val, Stop>
+    ensures { Ends (spec.perform_staying program.now place op.now operands.now (state_of state.old)) result (state_of state.new) }
+{
+    let depth = deeper(depth)?;
+    perform(program, depth, state, place, op, operands)
+}
+
 #[cycle(evaluate)]
 #[tactic(auto, using(crate::proofs::Endings::goes_then, crate::proofs::Endings::stops_then))]
 fn augment_name(
@@ -297,7 +313,7 @@ fn augment_attribute(
     let x = value(program, depth, state, place, at.0)?;
     let held = slice::from_ref(&x);
     let read = RowOp::Attr(at.1.copy(state.alloc)?);
-    let old = perform(program, depth, state, place, &read, held)?;
+    let old = perform_staying(program, depth, state, place, &read, held)?;
     let both = two(state.alloc, &x, &old)?;
     let v = value_holding(program, depth, state, place, both.as_slice(), e)?;
     let operands = two(state.alloc, &old, &v)?;
@@ -325,7 +341,7 @@ fn augment_item(
     let x = value(program, depth, state, place, at.0)?;
     let y = value_holding(program, depth, state, place, slice::from_ref(&x), at.1)?;
     let held = two(state.alloc, &x, &y)?;
-    let old = perform(
+    let old = perform_staying(
         program,
         depth,
         state,

@@ -3,4 +3,4 @@
 
 mod laws;
 
-pub use laws::copies_mean_nothing;
+pub use laws::{copies_are_no_moments, copies_mean_nothing};

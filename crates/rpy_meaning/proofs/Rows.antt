@@ -149,19 +149,35 @@ held_at_end : held_by looping (mean looping args 13) ≡ 0
 unfolding looping args int_wrap
 held_at_end = refl
 
--- each moment of `return [1, 2]`, up to the end, which is no moment of its own: before the entry, at each operation and its result
+-- each moment of `return [1, 2]`, up to the end: at the entry, before and behind the operation
 made : Program
 made = alone (Do (list (num 1 ∷ num 2 ∷ [])) ∷ Return (num 0) ∷ [])
 
 -- before the display is paid, the two words and the list of arguments are held
-held_before_list : held_by made (moment made args 9 5) ≡ 2
+held_before_list : held_by made (moment made args 9 1) ≡ 2
 unfolding made args
 held_before_list = refl
 
 -- after it the list is held that no local has
-held_after_list : held_by made (moment made args 9 6) ≡ 3
+held_after_list : held_by made (moment made args 9 2) ≡ 3
 unfolding made args
 held_after_list = refl
+
+-- for x in [1, 2]: pass, and [1, 2][0] += 1: the list that no local has is held behind each question that the loop asks of it, and behind
+-- the reading of the old item
+walked : Program
+walked = alone (For (Name 1) (Over 0 (list (num 1 ∷ num 2 ∷ []))) done ∷ Return (num 0) ∷ [])
+
+held_behind_question : held_by walked (moment walked args 9 6) ≡ 3
+unfolding walked args
+held_behind_question = refl
+
+added_to : Program
+added_to = alone (Augment (Item (list (num 1 ∷ num 2 ∷ [])) (num 0)) (row.Binary Add None) (num 1) ∷ Return (num 0) ∷ [])
+
+held_behind_old_item : held_by added_to (moment added_to args 9 4) ≡ 3
+unfolding added_to args
+held_behind_old_item = refl
 
 -- past the last moment stands the run's end
 held_past_the_end : held_by made (moment made args 9 100) ≡ 0

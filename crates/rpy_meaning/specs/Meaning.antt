@@ -32,12 +32,18 @@ pub data Task : Type 0 where
 abbrev pub Sem : Type 0
 Sem = Task → Eval Flow
 
--- what is done at each moment of a run, while these values are held
+-- the moments of a run: before an operation, behind one that gave a value, and at the entry of a call
+pub data Moment : Type 0 where
+  Before : RowOp → Moment
+  Behind : RowOp → Moment
+  Entry : Moment
+
+-- what is done at each moment, while these values are held
 abbrev pub Watch : Type 0
-Watch = List Value → Eval (Unit {0})
+Watch = Moment → List Value → Eval (Unit {0})
 
 abbrev pub unwatched : Watch
-unwatched held = pure tt
+unwatched at held = pure tt
 
 abbrev pub target_count : Targets → ℕ
 target_count no_targets = 0
@@ -60,7 +66,7 @@ module _ (p : Program) (watch : Watch) (prev : Sem) where
   abbrev pub entered : Function → List Value → Option Value → Option (List Value) → Eval Value
   entered function args instead None = wrong
   entered function args instead (Some vs) = do
-    watch args
+    watch Entry args
     pay entry_cost args
     λ s. leaving s.locals args instead (prev (Body function.body) (record s { locals = frame function vs }))
 
@@ -77,13 +83,16 @@ module _ (p : Program) (watch : Watch) (prev : Sem) where
   answered (Enters f args instead w) held = λ s. called (slice_get p.functions f) args instead (record s { world = w })
   answered Bad held = wrong
 
-  -- an operation, while these values are held
-  abbrev pub operate : List Value → Covers → RowOp → List Value → Eval Value
-  operate held c o vs = do
-    watch held
+  -- an operation, while these values are held, of which some stay behind it
+  abbrev pub operate_holding : List Value → List Value → Covers → RowOp → List Value → Eval Value
+  operate_holding stays held c o vs = do
+    watch (Before o) held
     v ← (λ s. answered (op p c o vs s.world) held s)
-    watch (v ∷ [])
+    watch (Behind o) (v ∷ stays)
     pure v
+
+  abbrev pub operate : List Value → Covers → RowOp → List Value → Eval Value
+  operate held c o vs = operate_holding [] held c o vs
 
   -- an operation holds its operands
   abbrev pub perform : Covers → RowOp → List Value → Eval Value
@@ -92,7 +101,7 @@ module _ (p : Program) (watch : Watch) (prev : Sem) where
   -- ---- walks
 
   abbrev pub on_walk : (Option ℤ → RowOp) → Walking → Eval Value
-  on_walk o walking = perform no_covers (o walking.step) (walk_holds walking)
+  on_walk o walking = operate_holding (walk_holds walking) (walk_holds walking) no_covers (o walking.step) (walk_holds walking)
 
   -- a turn for the next item, and then the rest of the walk
   abbrev pub turn : (Value → Eval Flow) → (Walking → Eval Flow) → Walking → Eval Flow
@@ -219,7 +228,7 @@ module _ (p : Program) (watch : Watch) (prev : Sem) where
     set_local i new
   augment c (Attribute a name) o e = do
     x ← value c a
-    old ← perform c (row.Attr name) (x ∷ [])
+    old ← operate_holding (x ∷ []) (x ∷ []) c (row.Attr name) (x ∷ [])
     v ← holding (x ∷ old ∷ []) (value c e)
     new ← holding (x ∷ []) (perform c o (old ∷ v ∷ []))
     perform c (row.StoreAttr name) (x ∷ new ∷ [])
@@ -227,7 +236,7 @@ module _ (p : Program) (watch : Watch) (prev : Sem) where
   augment c (Item a i) o e = do
     x ← value c a
     y ← holding (x ∷ []) (value c i)
-    old ← perform c (row.Index None) (x ∷ y ∷ [])
+    old ← operate_holding (x ∷ y ∷ []) (x ∷ y ∷ []) c (row.Index None) (x ∷ y ∷ [])
     v ← holding (x ∷ y ∷ old ∷ []) (value c e)
     new ← holding (x ∷ y ∷ []) (perform c o (old ∷ v ∷ []))
     perform c row.StoreIndex (x ∷ y ∷ new ∷ [])

@@ -6,6 +6,7 @@ ghost use Rattle.ll_code.specs.declared.program.LlOp.TheVariants as LlOp;
 ghost use Rattle.rtyper_data.specs.Seen.{writing, Leaves, Asks};
 ghost use Rattle.rtyper_class.specs.Instances as spec;
 ghost use Rattle.rtyper_class.specs.Seen.{the_world};
+ghost use Rattle.rtyper_class.specs.Smalls as smalls;
 
 use ann_element::Element;
 use class_desc::Initial;
@@ -362,7 +363,9 @@ pub fn class_graph(
     around: Around<'_>,
     small: Small,
     found: &mut Found,
-) -> Result<LlGraph, NoMem> {
+) -> Result<LlGraph, NoMem>
+    ensures { IfOk result (λ graph. Asks (smalls.class_graph (the_world around.entry) small found.old) graph found.new) }
+{
     match small {
         Small::New(class) => match around.layout.laid(class) {
             None => small_graph(alloc, around.layout, Small::Fail(false), found),

@@ -57,13 +57,6 @@ fn functions_in<'a>(element: &'a Element) -> Option<(&'a [FunId], bool)>
     }
 }
 
-fn is_none(operand: Operand<'_>) -> bool {
-    match operand.element {
-        Some(Element::NoneOnly) => true,
-        _ => false,
-    }
-}
-
 fn is_never(args: &[Operand<'_>]) -> bool
     ensures { result ≡ plain.is_never (the_operands args.now) }
 {
@@ -165,27 +158,113 @@ fn push_value_call(
     }
 }
 
+// A method of an instance is called, and any other is lowered as those of lists and strings are.
+#[tactic(auto, unfolding(crate::specs::Lowering::method_of))]
 fn push_method_of(
     alloc: Global,
     around: Around<'_>,
-    place: Place<'_>,
     op: &RowOp,
+    place: Place<'_>,
     name: &Text,
     args: &[Operand<'_>],
     found: &mut Found,
     body: &mut Body,
-) -> Result<(), NoMem> {
-    if let [a, ..] = args {
-        if let Some((class, or_none)) = instance_of(*a) {
-            return push_method(
-                alloc, around, place, name, class, or_none, args, found, body,
-            );
-        }
+) -> Result<(), NoMem>
+    ensures { OnOk result (Leaves (spec.method_of (the_world around.entry) op.now (the_place place.entry) name.now (the_operands args.now) (writing found.old body.old)) found.new body.new) }
+{
+    match args {
+        [] => lower_list_op(alloc, around, op, place, args, found, body),
+        [a, ..] => match instance_of(*a) {
+            Some((class, or_none)) => {
+                push_method(
+                    alloc, around, place, name, class, or_none, args, found, body,
+                )
+            }
+            None => lower_list_op(alloc, around, op, place, args, found, body),
+        },
     }
-    lower_list_op(alloc, around, op, place, args, found, body)
 }
 
-fn push_one(
+fn push_is_instance_on(
+    alloc: Global,
+    around: Around<'_>,
+    op: &RowOp,
+    place: Place<'_>,
+    of: ClassId,
+    a: Operand<'_>,
+    found: &mut Found,
+    body: &mut Body,
+) -> Result<(), NoMem>
+    ensures { OnOk result (Leaves (spec.is_instance_on (the_world around.entry) op.now (the_place place.entry) of (the_operand a.entry) (spec.instance_of (the_operand a.entry)) (writing found.old body.old)) found.new body.new) }
+{
+    match instance_of(a) {
+        Some((class, _)) => push_is_instance(alloc, around, place, of, a, class, found, body),
+        None => lower_list_op(alloc, around, op, place, &[a], found, body),
+    }
+}
+
+fn push_raise_on(
+    alloc: Global,
+    around: Around<'_>,
+    place: Place<'_>,
+    a: Operand<'_>,
+    found: &mut Found,
+    body: &mut Body,
+) -> Result<(), NoMem>
+    ensures { OnOk result (Leaves (spec.raise_on (the_world around.entry) (the_place place.entry) (the_operand a.entry) (spec.instance_of (the_operand a.entry)) (writing found.old body.old)) found.new body.new) }
+{
+    match instance_of(a) {
+        Some((_, or_none)) => push_raise(alloc, around, place, a, or_none, found, body),
+        None => push_failure(alloc, around, place, found, body),
+    }
+}
+
+#[tactic(auto, unfolding(crate::specs::Lowering::of_one))]
+fn push_of_one(
+    alloc: Global,
+    around: Around<'_>,
+    op: &RowOp,
+    place: Place<'_>,
+    a: Operand<'_>,
+    found: &mut Found,
+    body: &mut Body,
+) -> Result<(), NoMem>
+    ensures { OnOk result (Leaves (spec.of_one (the_world around.entry) op.now (the_place place.entry) (the_operand a.entry) (writing found.old body.old)) found.new body.new) }
+{
+    match op {
+        RowOp::Attr(name) => push_attribute(alloc, around, place, name, a, found, body),
+        RowOp::IsInstance(of) => {
+            push_is_instance_on(alloc, around, op, place, *of, a, found, body)
+        }
+        RowOp::Raise => push_raise_on(alloc, around, place, a, found, body),
+        _ => lower_list_op(alloc, around, op, place, &[a], found, body),
+    }
+}
+
+#[tactic(auto, unfolding(crate::specs::Lowering::of_two))]
+fn push_of_two(
+    alloc: Global,
+    around: Around<'_>,
+    op: &RowOp,
+    place: Place<'_>,
+    a: Operand<'_>,
+    b: Operand<'_>,
+    found: &mut Found,
+    body: &mut Body,
+) -> Result<(), NoMem>
+    ensures { OnOk result (Leaves (spec.of_two (the_world around.entry) op.now (the_place place.entry) (the_operand a.entry) (the_operand b.entry) (writing found.old body.old)) found.new body.new) }
+{
+    match op {
+        RowOp::StoreAttr(name) => {
+            push_set_attribute(alloc, around, place, name, a, b, found, body)
+        }
+        _ => lower_list_op(alloc, around, op, place, &[a, b], found, body),
+    }
+}
+
+// Of any other number.
+#[tactic(auto, unfolding(crate::specs::Lowering::other))]
+fn push_other(
     alloc: Global,
     around: Around<'_>,
     op: &RowOp,
@@ -193,23 +272,53 @@ fn push_one(
     args: &[Operand<'_>],
     found: &mut Found,
     body: &mut Body,
-) -> Result<(), NoMem> {
-    match (op, args) {
-        (RowOp::Attr(name), [a]) => push_attribute(alloc, around, place, name, *a, found, body),
-        (RowOp::StoreAttr(name), [a, b]) => {
-            push_set_attribute(alloc, around, place, name, *a, *b, found, body)
+) -> Result<(), NoMem>
+    ensures { OnOk result (Leaves (spec.other (the_world around.entry) op.now (the_place place.entry) (the_operands args.now) (writing found.old body.old)) found.new body.new) }
+{
+    lower_list_op(alloc, around, op, place, args, found, body)
+}
+
+#[tactic(auto, unfolding(crate::specs::Lowering::of_some))]
+fn push_of_some(
+    alloc: Global,
+    around: Around<'_>,
+    op: &RowOp,
+    place: Place<'_>,
+    args: &[Operand<'_>],
+    found: &mut Found,
+    body: &mut Body,
+) -> Result<(), NoMem>
+    ensures { OnOk result (Leaves (spec.of_some (the_world around.entry) op.now (the_place place.entry) (the_operands args.now) (writing found.old body.old)) found.new body.new) }
+{
+    match args {
+        [a] => push_of_one(alloc, around, op, place, *a, found, body),
+        [a, b] => push_of_two(alloc, around, op, place, *a, *b, found, body),
+        _ => push_other(alloc, around, op, place, args, found, body),
+    }
+}
+
+#[tactic(auto, unfolding(crate::specs::Lowering::lowered))]
+fn push_lowered(
+    alloc: Global,
+    around: Around<'_>,
+    op: &RowOp,
+    place: Place<'_>,
+    args: &[Operand<'_>],
+    found: &mut Found,
+    body: &mut Body,
+) -> Result<(), NoMem>
+    ensures { OnOk result (Leaves (spec.lowered (the_world around.entry) op.now (the_place place.entry) (the_operands args.now) (writing found.old body.old)) found.new body.new) }
+{
+    match op {
+        RowOp::New(class) => push_new(alloc, around, place, *class, args, found, body),
+        RowOp::CallOf(_, function) => {
+            push_call(alloc, around, place, *function, args, found, body)
         }
-        (RowOp::IsInstance(of), [a]) => match instance_of(*a) {
-            Some((class, _)) => {
-                push_is_instance(alloc, around, place, *of, *a, class, found, body)
-            }
-            None => lower_list_op(alloc, around, op, place, args, found, body),
-        },
-        (RowOp::Raise, [a]) => match instance_of(*a) {
-            Some((_, or_none)) => push_raise(alloc, around, place, *a, or_none, found, body),
-            None => push_failure(alloc, around, place, found, body),
-        },
-        _ => lower_list_op(alloc, around, op, place, args, found, body),
+        RowOp::CallValue => push_value_call(alloc, around, place, args, found, body),
+        RowOp::Method(name, _) => {
+            push_method_of(alloc, around, op, place, name, args, found, body)
+        }
+        _ => push_of_some(alloc, around, op, place, args, found, body),
     }
 }
 
@@ -222,19 +331,11 @@ pub fn lower_class_op(
     args: &[Operand<'_>],
     found: &mut Found,
     body: &mut Body,
-) -> Result<(), NoMem> {
+) -> Result<(), NoMem>
+    ensures { OnOk result (Leaves (spec.lower_class_op (the_world around.entry) op.now (the_place place.entry) (the_operands args.now) (writing found.old body.old)) found.new body.new) }
+{
     if is_never(args) {
         return lower_list_op(alloc, around, op, place, args, found, body);
     }
-    match op {
-        RowOp::New(class) => push_new(alloc, around, place, *class, args, found, body),
-        RowOp::CallOf(_, function) => {
-            push_call(alloc, around, place, *function, args, found, body)
-        }
-        RowOp::CallValue => push_value_call(alloc, around, place, args, found, body),
-        RowOp::Method(name, _) => {
-            push_method_of(alloc, around, place, op, name, args, found, body)
-        }
-        _ => push_one(alloc, around, op, place, args, found, body),
-    }
+    push_lowered(alloc, around, op, place, args, found, body)
 }

@@ -1,4 +1,8 @@
 // The graphs of lists.
+ghost use Rattle.std.specs.Prelude.{◌≡◌, IfOk};
+ghost use Rattle.rtyper_data.specs.Seen.{Asks};
+ghost use Rattle.rtyper_list.specs.Listing as spec;
+
 use crate::arguments::arguments;
 use crate::change::{append, extend, insert, remove, room};
 use crate::loops::{contains, copy_items, move_up, place, reverse, truth};
@@ -14,12 +18,10 @@ use std::alloc::Global;
 
 const INDEX_ERROR: ClassId = 6;
 
-fn made(
-    alloc: Global,
-    layout: &Layout,
-    listed: Listed,
-    found: &mut Found,
-) -> Result<LlGraph, NoMem> {
+// A list or a string that is made of others.
+fn made(alloc: Global, layout: &Layout, listed: Listed, found: &mut Found) -> Result<LlGraph, NoMem>
+    ensures { IfOk result (λ made. Asks (spec.made layout.now listed found.old) made found.new) }
+{
     match listed {
         Listed::Concat(l, m, r) => concat(
             alloc,
@@ -45,7 +47,9 @@ pub fn list_graph(
     layout: &Layout,
     listed: Listed,
     found: &mut Found,
-) -> Result<LlGraph, NoMem> {
+) -> Result<LlGraph, NoMem>
+    ensures { IfOk result (λ made. Asks (spec.list_graph layout.now listed found.old) made found.new) }
+{
     match listed {
         Listed::Place(l, raises) => {
             let outside = failing(alloc, 1, INDEX_ERROR, raises, found)?;

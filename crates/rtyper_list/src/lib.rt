@@ -3,11 +3,14 @@
 #![tactic(auto)]
 
 mod arguments;
-mod build;
 mod change;
+mod display;
 mod graph;
+mod item;
 mod loops;
 mod make;
+mod method;
+mod operand;
 mod operation;
 mod shape;
 mod splits;

@@ -1,720 +1,227 @@
-// The lowering of operations on lists.
-use crate::shape::{array, length, shape_of};
-use csub_tree::{CBinary, COperand};
-use ll_code::{LlOp, LlType, VarId};
-use rpy_base::{NoMem, Seq, Text};
+// The lowering of operations on lists. Where no operand is a list, an operation is lowered as others are.
+ghost use Rattle.std.specs.Prelude.{◌≡◌, ◌∷◌, [], IfOk, OnOk};
+ghost use Rattle.rtyper_data.specs.Lowering as plain;
+ghost use Rattle.rtyper_data.specs.Seen.{the_around, the_operand, the_operands, the_place, writing, Leaves};
+ghost use Rattle.rtyper_list.specs.Lowering as spec;
+
+use crate::display::{
+    push_but_last, push_comprehension, push_concat, push_display, push_repeat, push_slice,
+};
+use crate::item::{
+    push_delete, push_has_item, push_index, push_len, push_store, push_walk, push_walk_item,
+    push_within,
+};
+use crate::method::{push_append, push_extend, push_join, push_method, push_split};
+use crate::operand::{is_list, is_none};
+use rpy_base::NoMem;
 use rpy_meaning::RowOp;
 use rpy_tree::{BinOp, CmpOp};
-use rtyper_data::{
-    Around, Body, Found, Listed, Operand, Place, Small, by_small, give, give_binary, give_nothing,
-    given, lower_op, opposite_if, present, push_failure, small_number, variable_of, word,
-};
+use rtyper_data::{Around, Body, Found, Operand, Place, lower_op, push_failure};
 use rtyper_layout::{Kind, is_text_or_none, kind_seen};
 use std::alloc::Global;
 
-fn is_list(operand: Operand<'_>) -> bool {
-    match kind_seen(operand.element) {
-        Kind::List | Kind::MaybeList => true,
-        _ => false,
-    }
-}
-
-fn is_none(operand: Operand<'_>) -> bool {
-    kind_seen(operand.element) == Kind::Nothing
-}
-
-fn is_never(args: &[Operand<'_>]) -> bool {
+fn is_never(args: &[Operand<'_>]) -> bool
+    ensures { result ≡ plain.is_never (the_operands args.now) }
+{
     for operand in args {
-        if kind_seen(operand.element) == Kind::Never {
-            return true;
+        match kind_seen(operand.element) {
+            Kind::Never => return true,
+            _ => {}
         }
     }
     false
 }
 
-// The struct of a list.
-fn list_of(around: Around<'_>, operand: Operand<'_>) -> u64 {
-    match around.type_of(operand) {
-        LlType::Ptr(list) => list,
-        _ => 0,
+// ---- what needs another value and meets `None`
+
+fn first_is_none(args: &[Operand<'_>]) -> bool
+    ensures { result ≡ spec.first_is_none (the_operands args.now) }
+{
+    match args {
+        [] => false,
+        [a, ..] => is_none(*a),
     }
 }
 
-fn list_at(around: Around<'_>, place: Place<'_>) -> Option<u64> {
-    match around.type_at(place) {
-        LlType::Ptr(list) => {
-            if around.layout.is_list(list) {
-                Some(list)
-            } else {
-                None
-            }
+fn only_second_is_none(args: &[Operand<'_>]) -> bool
+    ensures { result ≡ spec.only_second_is_none (the_operands args.now) }
+{
+    match args {
+        [a, b] => is_none(*b) && !is_none(*a),
+        _ => false,
+    }
+}
+
+fn fails(op: &RowOp, args: &[Operand<'_>]) -> bool
+    ensures { result ≡ spec.fails op.now (the_operands args.now) }
+{
+    match op {
+        RowOp::StoreIndex | RowOp::DeleteIndex => first_is_none(args),
+        RowOp::Compare(CmpOp::Within) | RowOp::Compare(CmpOp::NotWithin) => {
+            only_second_is_none(args)
         }
-        _ => None,
+        _ => false,
     }
 }
 
-// The list itself; `None` fails.
-fn there(
-    alloc: Global,
-    around: Around<'_>,
-    a: Operand<'_>,
-    found: &mut Found,
-    body: &mut Body,
-) -> Result<COperand, NoMem> {
-    let or_none = kind_seen(a.element) == Kind::MaybeList;
-    present(alloc, around, a, or_none, found, body)
-}
+// ---- methods, also those of strings that take or make lists
 
-fn there_in(
-    alloc: Global,
-    around: Around<'_>,
-    a: Operand<'_>,
-    found: &mut Found,
-    body: &mut Body,
-) -> Result<VarId, NoMem> {
-    let kind = around.type_of(a);
-    let x = there(alloc, around, a, found, body)?;
-    variable_of(x, kind, body)
-}
-
-// A call of a graph without a result.
-fn push_done<const N: usize>(
-    alloc: Global,
-    listed: Listed,
-    xs: [COperand; N],
-    found: &mut Found,
-    body: &mut Body,
-) -> Result<(), NoMem> {
-    let number = small_number(Small::Listed(listed), found)?;
-    let xs = rtyper_data::operands(alloc, xs)?;
-    body.ops.push(LlOp::Call(None, number, xs))
-}
-
-// The place takes what a graph gives.
-fn give_listed<const N: usize>(
-    alloc: Global,
-    around: Around<'_>,
-    place: Place<'_>,
-    listed: Listed,
-    gives: LlType,
-    xs: [COperand; N],
-    found: &mut Found,
-    body: &mut Body,
-) -> Result<(), NoMem> {
-    let x = by_small(alloc, Small::Listed(listed), gives, xs, found, body)?;
-    give(alloc, around, place, x, gives, found, body)
-}
-
-// ---- lists that are made
-
-fn push_items(list: u64, array: VarId, items: &[COperand], body: &mut Body) -> Result<(), NoMem> {
-    for i in 0..items.len() {
-        let at = match i64::try_from(i) {
-            Ok(at) => at,
-            Err(_) => return Err(NoMem),
-        };
-        body.ops.push(LlOp::SetItem(list.saturating_add(1), array, word(at), items[i]))?;
-    }
-    Ok(())
-}
-
-fn push_display(
-    alloc: Global,
-    around: Around<'_>,
-    place: Place<'_>,
-    args: &[Operand<'_>],
-    found: &mut Found,
-    body: &mut Body,
-) -> Result<(), NoMem> {
-    let count = match i64::try_from(args.len()) {
-        Ok(count) => count,
-        Err(_) => return Err(NoMem),
-    };
-    body.ops.push(LlOp::Step(word(count.saturating_add(1))))?;
-    let Some(list) = list_at(around, place) else {
-        return give_nothing(around, place, body);
-    };
-    let shape = shape_of(around.layout, list);
-    let mut items = Seq::new(alloc);
-    for operand in args {
-        items.push(given(alloc, around, *operand, shape.item, found, body)?)?;
-    }
-    let kind = LlType::Ptr(list);
-    let small = Small::Listed(Listed::Make(list));
-    let made = by_small(alloc, small, kind, [word(count)], found, body)?;
-    let made = variable_of(made, kind, body)?;
-    let into = body.fresh(LlType::Ptr(shape.array))?;
-    body.ops.push(array(into, shape, made))?;
-    push_items(list, into, items.as_slice(), body)?;
-    body.ops
-        .push(LlOp::Set(place.variable, COperand::Var(made)))
-}
-
-fn push_concat(
-    alloc: Global,
-    around: Around<'_>,
-    place: Place<'_>,
-    a: Operand<'_>,
-    b: Operand<'_>,
-    found: &mut Found,
-    body: &mut Body,
-) -> Result<(), NoMem> {
-    let Some(r) = list_at(around, place) else {
-        return push_failure(alloc, around, place, found, body);
-    };
-    let x = there(alloc, around, a, found, body)?;
-    let y = there(alloc, around, b, found, body)?;
-    let listed = Listed::Concat(list_of(around, a), list_of(around, b), r);
-    give_listed(
-        alloc,
-        around,
-        place,
-        listed,
-        LlType::Ptr(r),
-        [x, y],
-        found,
-        body,
-    )
-}
-
-fn push_repeat(
-    alloc: Global,
-    around: Around<'_>,
-    place: Place<'_>,
-    a: Operand<'_>,
-    b: Operand<'_>,
-    found: &mut Found,
-    body: &mut Body,
-) -> Result<(), NoMem> {
-    let Some(r) = list_at(around, place) else {
-        return push_failure(alloc, around, place, found, body);
-    };
-    let x = there(alloc, around, a, found, body)?;
-    let listed = Listed::Repeat(list_of(around, a), r);
-    give_listed(
-        alloc,
-        around,
-        place,
-        listed,
-        LlType::Ptr(r),
-        [x, b.x],
-        found,
-        body,
-    )
-}
-
-fn push_slice(
-    alloc: Global,
-    around: Around<'_>,
-    place: Place<'_>,
-    low: bool,
-    high: bool,
-    args: &[Operand<'_>],
-    found: &mut Found,
-    body: &mut Body,
-) -> Result<(), NoMem> {
-    let (Some(r), [a, bounds @ ..]) = (list_at(around, place), args) else {
-        return push_failure(alloc, around, place, found, body);
-    };
-    let (from, to) = match (low, high, bounds) {
-        (true, true, [b, c, ..]) => (b.x, c.x),
-        (true, false, [b, ..]) => (b.x, word(i64::MAX)),
-        (false, true, [b, ..]) => (word(0), b.x),
-        _ => (word(0), word(i64::MAX)),
-    };
-    let x = there(alloc, around, *a, found, body)?;
-    let listed = Listed::Slice(list_of(around, *a), r);
-    give_listed(
-        alloc,
-        around,
-        place,
-        listed,
-        LlType::Ptr(r),
-        [x, from, to],
-        found,
-        body,
-    )
-}
-
-fn push_but_last(
-    alloc: Global,
-    around: Around<'_>,
-    place: Place<'_>,
-    a: Operand<'_>,
-    found: &mut Found,
-    body: &mut Body,
-) -> Result<(), NoMem> {
-    let Some(r) = list_at(around, place) else {
-        return push_failure(alloc, around, place, found, body);
-    };
-    let x = there(alloc, around, a, found, body)?;
-    let listed = Listed::ButLast(list_of(around, a), r);
-    give_listed(
-        alloc,
-        around,
-        place,
-        listed,
-        LlType::Ptr(r),
-        [x],
-        found,
-        body,
-    )
-}
-
-fn push_comprehension(
-    alloc: Global,
-    around: Around<'_>,
-    place: Place<'_>,
-    found: &mut Found,
-    body: &mut Body,
-) -> Result<(), NoMem> {
-    body.ops.push(LlOp::Step(word(1)))?;
-    match list_at(around, place) {
-        None => give_nothing(around, place, body),
-        Some(r) => {
-            let listed = Listed::Make(r);
-            give_listed(
-                alloc,
-                around,
-                place,
-                listed,
-                LlType::Ptr(r),
-                [word(0)],
-                found,
-                body,
-            )
-        }
+fn first_is_list(args: &[Operand<'_>]) -> bool
+    ensures { result ≡ spec.first_is_list (the_operands args.now) }
+{
+    match args {
+        [] => false,
+        [a, ..] => is_list(*a),
     }
 }
 
-// ---- items
-
-// The place that an index names.
-fn placed(
-    alloc: Global,
-    list: u64,
-    x: VarId,
-    index: COperand,
-    found: &mut Found,
-    body: &mut Body,
-) -> Result<COperand, NoMem> {
-    let small = Small::Listed(Listed::Place(list, found.covered.index));
-    by_small(
-        alloc,
-        small,
-        LlType::Signed,
-        [COperand::Var(x), index],
-        found,
-        body,
-    )
+fn joins(a: Operand<'_>, b: Operand<'_>) -> bool
+    ensures { result ≡ spec.joins (the_operand a.entry) (the_operand b.entry) }
+{
+    is_list(b) && is_text_or_none(kind_seen(a.element)) && !is_none(a)
 }
 
-// The item at a place that is there.
-fn read_item(
-    around: Around<'_>,
-    list: u64,
-    x: VarId,
-    at: COperand,
-    body: &mut Body,
-) -> Result<COperand, NoMem> {
-    let shape = shape_of(around.layout, list);
-    let items = body.fresh(LlType::Ptr(shape.array))?;
-    body.ops.push(array(items, shape, x))?;
-    let item = body.fresh(shape.item)?;
-    body.ops.push(LlOp::GetItem(item, shape.array, items, at))?;
-    Ok(COperand::Var(item))
-}
-
-fn push_index(
-    alloc: Global,
-    around: Around<'_>,
-    place: Place<'_>,
-    a: Operand<'_>,
-    b: Operand<'_>,
-    found: &mut Found,
-    body: &mut Body,
-) -> Result<(), NoMem> {
-    let list = list_of(around, a);
-    let x = there_in(alloc, around, a, found, body)?;
-    let at = placed(alloc, list, x, b.x, found, body)?;
-    let item = read_item(around, list, x, at, body)?;
-    let kind = shape_of(around.layout, list).item;
-    give(alloc, around, place, item, kind, found, body)
-}
-
-fn push_store(
-    alloc: Global,
-    around: Around<'_>,
-    place: Place<'_>,
-    a: Operand<'_>,
-    b: Operand<'_>,
-    c: Operand<'_>,
-    found: &mut Found,
-    body: &mut Body,
-) -> Result<(), NoMem> {
-    let list = list_of(around, a);
-    let shape = shape_of(around.layout, list);
-    let x = there_in(alloc, around, a, found, body)?;
-    let at = placed(alloc, list, x, b.x, found, body)?;
-    let value = given(alloc, around, c, shape.item, found, body)?;
-    let items = body.fresh(LlType::Ptr(shape.array))?;
-    body.ops.push(array(items, shape, x))?;
-    body.ops.push(LlOp::SetItem(shape.array, items, at, value))?;
-    give(alloc, around, place, c.x, around.type_of(c), found, body)
-}
-
-fn push_delete(
-    alloc: Global,
-    around: Around<'_>,
-    place: Place<'_>,
-    a: Operand<'_>,
-    b: Operand<'_>,
-    found: &mut Found,
-    body: &mut Body,
-) -> Result<(), NoMem> {
-    let list = list_of(around, a);
-    let x = there_in(alloc, around, a, found, body)?;
-    let at = placed(alloc, list, x, b.x, found, body)?;
-    push_done(
-        alloc,
-        Listed::Remove(list),
-        [COperand::Var(x), at],
-        found,
-        body,
-    )?;
-    give_nothing(around, place, body)
-}
-
-fn push_pop(
-    alloc: Global,
-    around: Around<'_>,
-    place: Place<'_>,
-    a: Operand<'_>,
-    index: COperand,
-    found: &mut Found,
-    body: &mut Body,
-) -> Result<(), NoMem> {
-    let list = list_of(around, a);
-    let x = there_in(alloc, around, a, found, body)?;
-    let at = placed(alloc, list, x, index, found, body)?;
-    let item = read_item(around, list, x, at, body)?;
-    push_done(
-        alloc,
-        Listed::Remove(list),
-        [COperand::Var(x), at],
-        found,
-        body,
-    )?;
-    let kind = shape_of(around.layout, list).item;
-    give(alloc, around, place, item, kind, found, body)
-}
-
-// ---- walks: the list, and a place
-
-fn push_has_item(
-    alloc: Global,
-    around: Around<'_>,
-    place: Place<'_>,
-    a: Operand<'_>,
-    b: Operand<'_>,
-    found: &mut Found,
-    body: &mut Body,
-) -> Result<(), NoMem> {
-    let shape = shape_of(around.layout, list_of(around, a));
-    let x = variable_of(a.x, around.type_of(a), body)?;
-    let end = body.fresh(LlType::Signed)?;
-    body.ops.push(length(end, shape, x))?;
-    let less = CBinary::Lt;
-    let flag = LlType::Bool;
-    give_binary(
-        alloc,
-        around,
-        place,
-        less,
-        flag,
-        b.x,
-        COperand::Var(end),
-        found,
-        body,
-    )
-}
-
-fn push_walk_item(
-    alloc: Global,
-    around: Around<'_>,
-    place: Place<'_>,
-    a: Operand<'_>,
-    b: Operand<'_>,
-    found: &mut Found,
-    body: &mut Body,
-) -> Result<(), NoMem> {
-    let list = list_of(around, a);
-    let x = variable_of(a.x, around.type_of(a), body)?;
-    let item = read_item(around, list, x, b.x, body)?;
-    let kind = shape_of(around.layout, list).item;
-    give(alloc, around, place, item, kind, found, body)
-}
-
-fn push_len(
-    alloc: Global,
-    around: Around<'_>,
-    place: Place<'_>,
-    a: Operand<'_>,
-    found: &mut Found,
-    body: &mut Body,
-) -> Result<(), NoMem> {
-    let shape = shape_of(around.layout, list_of(around, a));
-    let x = there_in(alloc, around, a, found, body)?;
-    let end = body.fresh(LlType::Signed)?;
-    body.ops.push(length(end, shape, x))?;
-    give(
-        alloc,
-        around,
-        place,
-        COperand::Var(end),
-        LlType::Signed,
-        found,
-        body,
-    )
-}
-
-fn push_within(
-    alloc: Global,
-    around: Around<'_>,
-    place: Place<'_>,
-    reversed: bool,
-    a: Operand<'_>,
-    b: Operand<'_>,
-    found: &mut Found,
-    body: &mut Body,
-) -> Result<(), NoMem> {
-    let list = list_of(around, b);
-    let kind = around.type_of(a);
-    let y = there(alloc, around, b, found, body)?;
-    let small = Small::Listed(Listed::Contains(kind, list));
-    let is_in = by_small(alloc, small, LlType::Bool, [a.x, y], found, body)?;
-    let x = opposite_if(reversed, is_in, body)?;
-    give(alloc, around, place, x, LlType::Bool, found, body)
-}
-
-// ---- lists that change
-
-fn push_append(
-    alloc: Global,
-    around: Around<'_>,
-    place: Place<'_>,
-    a: Operand<'_>,
-    b: Operand<'_>,
-    found: &mut Found,
-    body: &mut Body,
-) -> Result<(), NoMem> {
-    let list = list_of(around, a);
-    let item = shape_of(around.layout, list).item;
-    let x = there(alloc, around, a, found, body)?;
-    let y = given(alloc, around, b, item, found, body)?;
-    push_done(alloc, Listed::Append(list), [x, y], found, body)?;
-    give_nothing(around, place, body)
-}
-
-fn push_insert(
-    alloc: Global,
-    around: Around<'_>,
-    place: Place<'_>,
-    a: Operand<'_>,
-    b: Operand<'_>,
-    c: Operand<'_>,
-    found: &mut Found,
-    body: &mut Body,
-) -> Result<(), NoMem> {
-    let list = list_of(around, a);
-    let item = shape_of(around.layout, list).item;
-    let x = there(alloc, around, a, found, body)?;
-    let y = given(alloc, around, c, item, found, body)?;
-    push_done(alloc, Listed::Insert(list), [x, b.x, y], found, body)?;
-    give_nothing(around, place, body)
-}
-
-// `extend`, and `+=`, which gives the list.
-fn push_extend(
-    alloc: Global,
-    around: Around<'_>,
-    place: Place<'_>,
-    a: Operand<'_>,
-    b: Operand<'_>,
-    gives: bool,
-    found: &mut Found,
-    body: &mut Body,
-) -> Result<(), NoMem> {
-    let x = there(alloc, around, a, found, body)?;
-    if !is_list(b) {
-        return push_failure(alloc, around, place, found, body);
-    }
-    let y = there(alloc, around, b, found, body)?;
-    let listed = Listed::Extend(list_of(around, a), list_of(around, b));
-    push_done(alloc, listed, [x, y], found, body)?;
-    if gives {
-        give(alloc, around, place, x, around.type_of(a), found, body)
-    } else {
-        give_nothing(around, place, body)
+fn is_byte(a: Operand<'_>) -> bool
+    ensures { result ≡ spec.is_byte (the_operand a.entry) }
+{
+    match kind_seen(a.element) {
+        Kind::Byte => true,
+        _ => false,
     }
 }
 
-fn push_method(
+fn splits(a: Operand<'_>, b: Operand<'_>) -> bool
+    ensures { result ≡ spec.splits (the_operand a.entry) (the_operand b.entry) }
+{
+    is_byte(b) && !is_none(a) && !is_list(a)
+}
+
+#[tactic(auto, unfolding(crate::specs::Lowering::method_of_list))]
+fn push_method_of_list(
     alloc: Global,
     around: Around<'_>,
+    op: &RowOp,
     place: Place<'_>,
     name: &[u8],
     args: &[Operand<'_>],
     found: &mut Found,
     body: &mut Body,
-) -> Result<(), NoMem> {
-    match (name, args) {
-        (b"append", [a, b]) => push_append(alloc, around, place, *a, *b, found, body),
-        (b"insert", [a, b, c]) => push_insert(alloc, around, place, *a, *b, *c, found, body),
-        (b"extend", [a, b]) => push_extend(alloc, around, place, *a, *b, false, found, body),
-        (b"pop", [a]) => push_pop(alloc, around, place, *a, word(-1), found, body),
-        (b"pop", [a, b]) => push_pop(alloc, around, place, *a, b.x, found, body),
-        (b"reverse", [a]) => {
-            let x = there(alloc, around, *a, found, body)?;
-            push_done(
-                alloc,
-                Listed::Reverse(list_of(around, *a)),
-                [x],
-                found,
-                body,
-            )?;
-            give_nothing(around, place, body)
-        }
-        _ => Ok(()),
+) -> Result<(), NoMem>
+    ensures { OnOk result (Leaves (spec.method_of_list (the_around around.entry) op.now (the_place place.entry) name.now (the_operands args.now) (writing found.old body.old)) found.new body.new) }
+{
+    if first_is_list(args) {
+        push_method(alloc, around, place, name, args, found, body)
+    } else {
+        lower_op(alloc, around, op, place, args, found, body)
     }
 }
 
-// ---- strings and lists
-
-fn push_join(
+#[tactic(auto, unfolding(crate::specs::Lowering::joined))]
+fn push_joined(
     alloc: Global,
     around: Around<'_>,
+    op: &RowOp,
     place: Place<'_>,
     a: Operand<'_>,
     b: Operand<'_>,
     found: &mut Found,
     body: &mut Body,
-) -> Result<(), NoMem> {
-    let text = LlType::Ptr(0);
-    let x = given(alloc, around, a, text, found, body)?;
-    let y = there(alloc, around, b, found, body)?;
-    let listed = Listed::Join(list_of(around, b));
-    give_listed(alloc, around, place, listed, text, [x, y], found, body)
+) -> Result<(), NoMem>
+    ensures { OnOk result (Leaves (spec.joined (the_around around.entry) op.now (the_place place.entry) (the_operand a.entry) (the_operand b.entry) (writing found.old body.old)) found.new body.new) }
+{
+    if joins(a, b) {
+        push_join(alloc, around, place, a, b, found, body)
+    } else {
+        lower_op(alloc, around, op, place, &[a, b], found, body)
+    }
 }
 
-fn push_split(
+#[tactic(auto, unfolding(crate::specs::Lowering::split_by))]
+fn push_split_by(
     alloc: Global,
     around: Around<'_>,
+    op: &RowOp,
     place: Place<'_>,
     a: Operand<'_>,
     b: Operand<'_>,
     found: &mut Found,
     body: &mut Body,
-) -> Result<(), NoMem> {
-    let Some(r) = list_at(around, place) else {
-        return push_failure(alloc, around, place, found, body);
-    };
-    let or_none = kind_seen(a.element) == Kind::MaybeText;
-    let x = present(alloc, around, a, or_none, found, body)?;
-    let operand = Operand {
-        x,
-        element: a.element,
-    };
-    let x = given(alloc, around, operand, LlType::Ptr(0), found, body)?;
-    give_listed(
-        alloc,
-        around,
-        place,
-        Listed::Split(r),
-        LlType::Ptr(r),
-        [x, b.x],
-        found,
-        body,
-    )
+) -> Result<(), NoMem>
+    ensures { OnOk result (Leaves (spec.split_by (the_around around.entry) op.now (the_place place.entry) (the_operand a.entry) (the_operand b.entry) (writing found.old body.old)) found.new body.new) }
+{
+    if splits(a, b) {
+        push_split(alloc, around, place, a, b.x, found, body)
+    } else {
+        lower_op(alloc, around, op, place, &[a, b], found, body)
+    }
 }
 
-// ---- which operation
+#[tactic(auto, unfolding(crate::specs::Lowering::method_of_two))]
+fn push_method_of_two(
+    alloc: Global,
+    around: Around<'_>,
+    op: &RowOp,
+    place: Place<'_>,
+    name: &[u8],
+    a: Operand<'_>,
+    b: Operand<'_>,
+    found: &mut Found,
+    body: &mut Body,
+) -> Result<(), NoMem>
+    ensures { OnOk result (Leaves (spec.method_of_two (the_around around.entry) op.now (the_place place.entry) name.now (the_operand a.entry) (the_operand b.entry) (writing found.old body.old)) found.new body.new) }
+{
+    if name == b"join".as_slice() {
+        push_joined(alloc, around, op, place, a, b, found, body)
+    } else if name == b"split".as_slice() {
+        push_split_by(alloc, around, op, place, a, b, found, body)
+    } else {
+        push_method_of_list(alloc, around, op, place, name, &[a, b], found, body)
+    }
+}
 
+#[tactic(auto, unfolding(crate::specs::Lowering::method_of))]
 fn push_method_of(
     alloc: Global,
     around: Around<'_>,
     op: &RowOp,
     place: Place<'_>,
-    name: &Text,
+    name: &[u8],
     args: &[Operand<'_>],
     found: &mut Found,
     body: &mut Body,
-) -> Result<(), NoMem> {
-    match (name.bytes(), args) {
-        (b"join", [a, b]) => {
-            if is_list(*b) && is_text_or_none(kind_seen(a.element)) && !is_none(*a) {
-                return push_join(alloc, around, place, *a, *b, found, body);
-            }
-            lower_op(alloc, around, op, place, args, found, body)
-        }
-        (b"split", [a, b]) => {
-            if kind_seen(b.element) == Kind::Byte && !is_none(*a) && !is_list(*a) {
-                return push_split(alloc, around, place, *a, *b, found, body);
-            }
-            lower_op(alloc, around, op, place, args, found, body)
-        }
-        (_, [a, ..]) => {
-            if is_list(*a) {
-                return push_method(alloc, around, place, name.bytes(), args, found, body);
-            }
-            lower_op(alloc, around, op, place, args, found, body)
-        }
-        _ => lower_op(alloc, around, op, place, args, found, body),
+) -> Result<(), NoMem>
+    ensures { OnOk result (Leaves (spec.method_of (the_around around.entry) op.now (the_place place.entry) name.now (the_operands args.now) (writing found.old body.old)) found.new body.new) }
+{
+    match args {
+        [a, b] => push_method_of_two(alloc, around, op, place, name, *a, *b, found, body),
+        _ => push_method_of_list(alloc, around, op, place, name, args, found, body),
     }
 }
 
-// Operations whose first operand is a list.
-fn push_first(
+// ---- operations whose first operand is a list
+
+#[tactic(auto, unfolding(crate::specs::Lowering::first_of_one))]
+fn push_first_of_one(
     alloc: Global,
     around: Around<'_>,
     op: &RowOp,
     place: Place<'_>,
-    args: &[Operand<'_>],
+    a: Operand<'_>,
     found: &mut Found,
     body: &mut Body,
-) -> Result<(), NoMem> {
-    match (op, args) {
-        (RowOp::Index(_), [a, b]) => push_index(alloc, around, place, *a, *b, found, body),
-        (RowOp::StoreIndex, [a, b, c]) => {
-            push_store(alloc, around, place, *a, *b, *c, found, body)
-        }
-        (RowOp::DeleteIndex, [a, b]) => push_delete(alloc, around, place, *a, *b, found, body),
-        (RowOp::Len, [a]) => push_len(alloc, around, place, *a, found, body),
-        (RowOp::Slice(_, low, high), _) => {
-            push_slice(alloc, around, place, *low, *high, args, found, body)
-        }
-        (RowOp::AllButLast(_), [a]) => push_but_last(alloc, around, place, *a, found, body),
-        (RowOp::Binary(BinOp::Add, _), [a, b]) => {
-            push_sum(alloc, around, place, *a, *b, found, body)
-        }
-        (RowOp::Binary(BinOp::Mul, _), [a, b]) => {
-            push_repeat(alloc, around, place, *a, *b, found, body)
-        }
-        (RowOp::AddTo, [a, b]) => push_extend(alloc, around, place, *a, *b, true, found, body),
-        (RowOp::AddItem, [a, b]) => push_append(alloc, around, place, *a, *b, found, body),
-        (RowOp::Walk(_), [a]) => {
-            let x = there(alloc, around, *a, found, body)?;
-            give(alloc, around, place, x, around.type_of(*a), found, body)
-        }
-        (RowOp::HasItem(None), [a, b]) => {
-            push_has_item(alloc, around, place, *a, *b, found, body)
-        }
-        (RowOp::Item(None), [a, b]) => push_walk_item(alloc, around, place, *a, *b, found, body),
-        _ => push_second(alloc, around, op, place, args, found, body),
+) -> Result<(), NoMem>
+    ensures { OnOk result (Leaves (spec.first_of_one (the_around around.entry) op.now (the_place place.entry) (the_operand a.entry) (writing found.old body.old)) found.new body.new) }
+{
+    match op {
+        RowOp::Len => push_len(alloc, around, place, a, found, body),
+        RowOp::AllButLast(_) => push_but_last(alloc, around, place, a, found, body),
+        RowOp::Walk(_) => push_walk(alloc, around, place, a, found, body),
+        _ => lower_op(alloc, around, op, place, &[a], found, body),
     }
 }
 
 // A sum of a list and `None` fails.
+#[tactic(auto, unfolding(crate::specs::Lowering::sum))]
 fn push_sum(
     alloc: Global,
     around: Around<'_>,
@@ -723,15 +230,201 @@ fn push_sum(
     b: Operand<'_>,
     found: &mut Found,
     body: &mut Body,
-) -> Result<(), NoMem> {
-    if is_list(a) && is_list(b) {
-        return push_concat(alloc, around, place, a, b, found, body);
+) -> Result<(), NoMem>
+    ensures { OnOk result (Leaves (spec.sum (the_around around.entry) (the_place place.entry) (the_operand a.entry) (the_operand b.entry) (writing found.old body.old)) found.new body.new) }
+{
+    let are_lists = is_list(a) && is_list(b);
+    if are_lists {
+        push_concat(alloc, around, place, a, b, found, body)
+    } else {
+        push_failure(alloc, around, place, found, body)
     }
-    push_failure(alloc, around, place, found, body)
 }
 
-// Operations whose second operand is a list.
-fn push_second(
+// ---- operations whose second operand is a list
+
+#[tactic(auto, unfolding(crate::specs::Lowering::within_or))]
+fn push_within_or(
+    alloc: Global,
+    around: Around<'_>,
+    op: &RowOp,
+    place: Place<'_>,
+    reversed: bool,
+    a: Operand<'_>,
+    b: Operand<'_>,
+    found: &mut Found,
+    body: &mut Body,
+) -> Result<(), NoMem>
+    ensures { OnOk result (Leaves (spec.within_or (the_around around.entry) op.now (the_place place.entry) reversed (the_operand a.entry) (the_operand b.entry) (writing found.old body.old)) found.new body.new) }
+{
+    if is_list(b) {
+        push_within(alloc, around, place, reversed, a, b, found, body)
+    } else {
+        lower_op(alloc, around, op, place, &[a, b], found, body)
+    }
+}
+
+#[tactic(auto, unfolding(crate::specs::Lowering::sum_or))]
+fn push_sum_or(
+    alloc: Global,
+    around: Around<'_>,
+    op: &RowOp,
+    place: Place<'_>,
+    a: Operand<'_>,
+    b: Operand<'_>,
+    found: &mut Found,
+    body: &mut Body,
+) -> Result<(), NoMem>
+    ensures { OnOk result (Leaves (spec.sum_or (the_around around.entry) op.now (the_place place.entry) (the_operand a.entry) (the_operand b.entry) (writing found.old body.old)) found.new body.new) }
+{
+    let fails = is_list(b) && is_none(a);
+    if fails {
+        push_failure(alloc, around, place, found, body)
+    } else {
+        lower_op(alloc, around, op, place, &[a, b], found, body)
+    }
+}
+
+#[tactic(auto, unfolding(crate::specs::Lowering::second_of_two))]
+fn push_second_of_two(
+    alloc: Global,
+    around: Around<'_>,
+    op: &RowOp,
+    place: Place<'_>,
+    a: Operand<'_>,
+    b: Operand<'_>,
+    found: &mut Found,
+    body: &mut Body,
+) -> Result<(), NoMem>
+    ensures { OnOk result (Leaves (spec.second_of_two (the_around around.entry) op.now (the_place place.entry) (the_operand a.entry) (the_operand b.entry) (writing found.old body.old)) found.new body.new) }
+{
+    match op {
+        RowOp::Compare(CmpOp::Within) => {
+            push_within_or(alloc, around, op, place, false, a, b, found, body)
+        }
+        RowOp::Compare(CmpOp::NotWithin) => {
+            push_within_or(alloc, around, op, place, true, a, b, found, body)
+        }
+        RowOp::Binary(BinOp::Add, _) | RowOp::AddTo => {
+            push_sum_or(alloc, around, op, place, a, b, found, body)
+        }
+        _ => lower_op(alloc, around, op, place, &[a, b], found, body),
+    }
+}
+
+#[tactic(auto, unfolding(crate::specs::Lowering::first_of_two))]
+fn push_first_of_two(
+    alloc: Global,
+    around: Around<'_>,
+    op: &RowOp,
+    place: Place<'_>,
+    a: Operand<'_>,
+    b: Operand<'_>,
+    found: &mut Found,
+    body: &mut Body,
+) -> Result<(), NoMem>
+    ensures { OnOk result (Leaves (spec.first_of_two (the_around around.entry) op.now (the_place place.entry) (the_operand a.entry) (the_operand b.entry) (writing found.old body.old)) found.new body.new) }
+{
+    match op {
+        RowOp::Index(_) => push_index(alloc, around, place, a, b.x, found, body),
+        RowOp::DeleteIndex => push_delete(alloc, around, place, a, b.x, found, body),
+        RowOp::Binary(BinOp::Add, _) => push_sum(alloc, around, place, a, b, found, body),
+        RowOp::Binary(BinOp::Mul, _) => push_repeat(alloc, around, place, a, b.x, found, body),
+        RowOp::AddTo => push_extend(alloc, around, place, a, b, true, found, body),
+        RowOp::AddItem => push_append(alloc, around, place, a, b, found, body),
+        RowOp::HasItem(None) => push_has_item(alloc, around, place, a, b.x, found, body),
+        RowOp::Item(None) => push_walk_item(alloc, around, place, a, b.x, found, body),
+        _ => push_second_of_two(alloc, around, op, place, a, b, found, body),
+    }
+}
+
+#[tactic(auto, unfolding(crate::specs::Lowering::of_two))]
+fn push_of_two(
+    alloc: Global,
+    around: Around<'_>,
+    op: &RowOp,
+    place: Place<'_>,
+    a: Operand<'_>,
+    b: Operand<'_>,
+    found: &mut Found,
+    body: &mut Body,
+) -> Result<(), NoMem>
+    ensures { OnOk result (Leaves (spec.of_two (the_around around.entry) op.now (the_place place.entry) (the_operand a.entry) (the_operand b.entry) (writing found.old body.old)) found.new body.new) }
+{
+    if is_list(a) {
+        push_first_of_two(alloc, around, op, place, a, b, found, body)
+    } else {
+        push_second_of_two(alloc, around, op, place, a, b, found, body)
+    }
+}
+
+#[tactic(auto, unfolding(crate::specs::Lowering::of_one))]
+fn push_of_one(
+    alloc: Global,
+    around: Around<'_>,
+    op: &RowOp,
+    place: Place<'_>,
+    a: Operand<'_>,
+    found: &mut Found,
+    body: &mut Body,
+) -> Result<(), NoMem>
+    ensures { OnOk result (Leaves (spec.of_one (the_around around.entry) op.now (the_place place.entry) (the_operand a.entry) (writing found.old body.old)) found.new body.new) }
+{
+    if is_list(a) {
+        push_first_of_one(alloc, around, op, place, a, found, body)
+    } else {
+        lower_op(alloc, around, op, place, &[a], found, body)
+    }
+}
+
+// ---- of three operands
+
+#[tactic(auto, unfolding(crate::specs::Lowering::first_of_three))]
+fn push_first_of_three(
+    alloc: Global,
+    around: Around<'_>,
+    op: &RowOp,
+    place: Place<'_>,
+    a: Operand<'_>,
+    b: Operand<'_>,
+    c: Operand<'_>,
+    found: &mut Found,
+    body: &mut Body,
+) -> Result<(), NoMem>
+    ensures { OnOk result (Leaves (spec.first_of_three (the_around around.entry) op.now (the_place place.entry) (the_operand a.entry) (the_operand b.entry) (the_operand c.entry) (writing found.old body.old)) found.new body.new) }
+{
+    match op {
+        RowOp::StoreIndex => push_store(alloc, around, place, a, b.x, c, found, body),
+        _ => lower_op(alloc, around, op, place, &[a, b, c], found, body),
+    }
+}
+
+#[tactic(auto, unfolding(crate::specs::Lowering::of_three))]
+fn push_of_three(
+    alloc: Global,
+    around: Around<'_>,
+    op: &RowOp,
+    place: Place<'_>,
+    a: Operand<'_>,
+    b: Operand<'_>,
+    c: Operand<'_>,
+    found: &mut Found,
+    body: &mut Body,
+) -> Result<(), NoMem>
+    ensures { OnOk result (Leaves (spec.of_three (the_around around.entry) op.now (the_place place.entry) (the_operand a.entry) (the_operand b.entry) (the_operand c.entry) (writing found.old body.old)) found.new body.new) }
+{
+    if is_list(a) {
+        push_first_of_three(alloc, around, op, place, a, b, c, found, body)
+    } else {
+        lower_op(alloc, around, op, place, &[a, b, c], found, body)
+    }
+}
+
+// ---- all operations
+
+// Of any other number.
+#[tactic(auto, unfolding(crate::specs::Lowering::other))]
+fn push_other(
     alloc: Global,
     around: Around<'_>,
     op: &RowOp,
@@ -739,45 +432,75 @@ fn push_second(
     args: &[Operand<'_>],
     found: &mut Found,
     body: &mut Body,
-) -> Result<(), NoMem> {
-    match (op, args) {
-        (RowOp::Compare(CmpOp::Within), [a, b]) => {
-            if is_list(*b) {
-                return push_within(alloc, around, place, false, *a, *b, found, body);
-            }
-            lower_op(alloc, around, op, place, args, found, body)
-        }
-        (RowOp::Compare(CmpOp::NotWithin), [a, b]) => {
-            if is_list(*b) {
-                return push_within(alloc, around, place, true, *a, *b, found, body);
-            }
-            lower_op(alloc, around, op, place, args, found, body)
-        }
-        (RowOp::Binary(BinOp::Add, _), [a, b]) | (RowOp::AddTo, [a, b]) => {
-            if is_list(*b) && is_none(*a) {
-                return push_failure(alloc, around, place, found, body);
-            }
-            lower_op(alloc, around, op, place, args, found, body)
-        }
-        _ => lower_op(alloc, around, op, place, args, found, body),
-    }
+) -> Result<(), NoMem>
+    ensures { OnOk result (Leaves (spec.other (the_around around.entry) op.now (the_place place.entry) (the_operands args.now) (writing found.old body.old)) found.new body.new) }
+{
+    lower_op(alloc, around, op, place, args, found, body)
 }
 
-fn first_is_list(args: &[Operand<'_>]) -> bool {
+#[tactic(auto, unfolding(crate::specs::Lowering::of_some))]
+fn push_of_some(
+    alloc: Global,
+    around: Around<'_>,
+    op: &RowOp,
+    place: Place<'_>,
+    args: &[Operand<'_>],
+    found: &mut Found,
+    body: &mut Body,
+) -> Result<(), NoMem>
+    ensures { OnOk result (Leaves (spec.of_some (the_around around.entry) op.now (the_place place.entry) (the_operands args.now) (writing found.old body.old)) found.new body.new) }
+{
     match args {
-        [] => false,
-        [a, ..] => is_list(*a),
+        [a] => push_of_one(alloc, around, op, place, *a, found, body),
+        [a, b] => push_of_two(alloc, around, op, place, *a, *b, found, body),
+        [a, b, c] => push_of_three(alloc, around, op, place, *a, *b, *c, found, body),
+        _ => push_other(alloc, around, op, place, args, found, body),
     }
 }
 
-// What needs another value and meets `None`.
-fn fails(op: &RowOp, args: &[Operand<'_>]) -> bool {
-    match (op, args) {
-        (RowOp::StoreIndex, [a, ..]) | (RowOp::DeleteIndex, [a, ..]) => is_none(*a),
-        (RowOp::Compare(CmpOp::Within), [a, b]) | (RowOp::Compare(CmpOp::NotWithin), [a, b]) => {
-            is_none(*b) && !is_none(*a)
+#[tactic(auto, unfolding(crate::specs::Lowering::slice_or))]
+fn push_slice_or(
+    alloc: Global,
+    around: Around<'_>,
+    op: &RowOp,
+    place: Place<'_>,
+    low: bool,
+    high: bool,
+    args: &[Operand<'_>],
+    found: &mut Found,
+    body: &mut Body,
+) -> Result<(), NoMem>
+    ensures { OnOk result (Leaves (spec.slice_or (the_around around.entry) op.now (the_place place.entry) low high (the_operands args.now) (writing found.old body.old)) found.new body.new) }
+{
+    if first_is_list(args) {
+        push_slice(alloc, around, place, low, high, args, found, body)
+    } else {
+        lower_op(alloc, around, op, place, args, found, body)
+    }
+}
+
+#[tactic(auto, unfolding(crate::specs::Lowering::lowered))]
+fn push_lowered(
+    alloc: Global,
+    around: Around<'_>,
+    op: &RowOp,
+    place: Place<'_>,
+    args: &[Operand<'_>],
+    found: &mut Found,
+    body: &mut Body,
+) -> Result<(), NoMem>
+    ensures { OnOk result (Leaves (spec.lowered (the_around around.entry) op.now (the_place place.entry) (the_operands args.now) (writing found.old body.old)) found.new body.new) }
+{
+    match op {
+        RowOp::List(_) => push_display(alloc, around, place, args, found, body),
+        RowOp::Comprehension(_) => push_comprehension(alloc, around, place, found, body),
+        RowOp::Method(name, _) => {
+            push_method_of(alloc, around, op, place, name.bytes(), args, found, body)
         }
-        _ => false,
+        RowOp::Slice(_, low, high) => {
+            push_slice_or(alloc, around, op, place, *low, *high, args, found, body)
+        }
+        _ => push_of_some(alloc, around, op, place, args, found, body),
     }
 }
 
@@ -790,24 +513,14 @@ pub fn lower_list_op(
     args: &[Operand<'_>],
     found: &mut Found,
     body: &mut Body,
-) -> Result<(), NoMem> {
+) -> Result<(), NoMem>
+    ensures { OnOk result (Leaves (spec.lower_list_op (the_around around.entry) op.now (the_place place.entry) (the_operands args.now) (writing found.old body.old)) found.new body.new) }
+{
     if is_never(args) {
         return lower_op(alloc, around, op, place, args, found, body);
     }
     if fails(op, args) {
         return push_failure(alloc, around, place, found, body);
     }
-    match op {
-        RowOp::List(_) => push_display(alloc, around, place, args, found, body),
-        RowOp::Comprehension(_) => push_comprehension(alloc, around, place, found, body),
-        RowOp::Method(name, _) => {
-            push_method_of(alloc, around, op, place, name, args, found, body)
-        }
-        _ => {
-            if first_is_list(args) {
-                return push_first(alloc, around, op, place, args, found, body);
-            }
-            push_second(alloc, around, op, place, args, found, body)
-        }
-    }
+    push_lowered(alloc, around, op, place, args, found, body)
 }

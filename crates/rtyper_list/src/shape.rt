@@ -1,12 +1,19 @@
 // The structs of a list, and what the graphs of lists are made of.
-use crate::build::operands;
-use csub_tree::COperand;
-use ll_code::{LlExit, LlOp, LlType, VarId};
+ghost use Rattle.std.specs.Prelude.{◌≡◌, IfOk};
+ghost use Rattle.rtyper_data.specs.Seen.{Asks};
+ghost use Rattle.rtyper_list.specs.Shapes as spec;
+
+use csub_tree::{CConst, COperand};
+use ll_code::{LlBlock, LlExit, LlOp, LlType, VarId};
+use ll_helpers::build::none;
 use rpy_base::NoMem;
 use rtyper_data::{Found, Listed, Small, small_number};
-pub use rtyper_data::{graph_written, kinds};
 use rtyper_layout::Layout;
 use std::alloc::Global;
+
+pub const ZERO: COperand = COperand::Const(CConst::Word(0));
+
+pub const ONE: COperand = COperand::Const(CConst::Word(1));
 
 /// The struct of a list, that of its array, which follows it, and the type of its items.
 #[derive(Clone, Copy)]
@@ -16,7 +23,9 @@ pub struct Shape {
     pub item: LlType,
 }
 
-pub fn shape_of(layout: &Layout, list: u64) -> Shape {
+pub fn shape_of(layout: &Layout, list: u64) -> Shape
+    ensures { result ≡ spec.shape_of layout.now list }
+{
     let array = list.saturating_add(1);
     Shape {
         list,
@@ -26,7 +35,9 @@ pub fn shape_of(layout: &Layout, list: u64) -> Shape {
 }
 
 /// The type of the items of a struct.
-pub fn item_of(layout: &Layout, array: u64) -> LlType {
+pub fn item_of(layout: &Layout, array: u64) -> LlType
+    ensures { result ≡ spec.item_of layout.now array }
+{
     match layout.structs.get(array as usize) {
         None => LlType::Bool,
         Some(each) => match each.items {
@@ -38,30 +49,35 @@ pub fn item_of(layout: &Layout, array: u64) -> LlType {
 
 // ---- operations
 
-pub fn length(into: VarId, shape: Shape, list: VarId) -> LlOp {
+pub fn length(into: VarId, shape: Shape, list: VarId) -> LlOp
+    ensures { result ≡ spec.length_read into shape list }
+{
     LlOp::GetField(into, shape.list, list, 0)
 }
 
-pub fn array(into: VarId, shape: Shape, list: VarId) -> LlOp {
+pub fn array(into: VarId, shape: Shape, list: VarId) -> LlOp
+    ensures { result ≡ spec.array_read into shape list }
+{
     LlOp::GetField(into, shape.list, list, 1)
 }
 
-pub fn set_length(shape: Shape, list: VarId, x: COperand) -> LlOp {
+pub fn set_length(shape: Shape, list: VarId, x: COperand) -> LlOp
+    ensures { result ≡ spec.length_set shape list x }
+{
     LlOp::SetField(shape.list, list, 0, x)
 }
 
-/// A call of a graph of lists.
-pub fn call<const N: usize>(
-    alloc: Global,
-    into: Option<VarId>,
-    listed: Listed,
-    xs: [COperand; N],
-    found: &mut Found,
-) -> Result<LlOp, NoMem> {
-    let number = small_number(Small::Listed(listed), found)?;
-    Ok(LlOp::Call(into, number, operands(alloc, xs)?))
+/// The number of a graph of lists.
+pub fn number_of(listed: Listed, found: &mut Found) -> Result<u64, NoMem>
+    ensures { IfOk result (λ number. Asks (spec.number_of listed found.old) number found.new) }
+{
+    small_number(Small::Listed(listed), found)
 }
 
-pub fn give(v: VarId) -> LlExit {
-    LlExit::Return(Some(COperand::Var(v)))
+/// A block that gives its one variable.
+#[tactic(auto, unfolding(crate::specs::Shapes::gives))]
+pub fn gives(alloc: Global, v: VarId) -> Result<LlBlock, NoMem>
+    ensures { IfOk result (λ made. made ≡ spec.gives v) }
+{
+    none(alloc, [v], LlExit::Return(Some(COperand::Var(v))))
 }

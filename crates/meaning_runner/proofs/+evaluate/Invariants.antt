@@ -123,6 +123,9 @@ decreases-target::augment l = l.depth
 abbrev pub decreases-target::augment_name : goal.decreases-target::augment_name
 decreases-target::augment_name l = l.depth
 
+abbrev pub decreases-target::perform_staying : goal.decreases-target::perform_staying
+decreases-target::perform_staying l = l.depth
+
 abbrev pub decreases-target::augment_attribute : goal.decreases-target::augment_attribute
 decreases-target::augment_attribute l = l.depth
 

@@ -18,4 +18,4 @@ returns c =
       narrows (program_of r) gs f c.args.scope.now.locals c.args.scope.now.covers c.args.narrowing.kind c.args.narrowing.local c.in_ok-args.args c.args.m c.args.value args,
       h,
       ap jump_of e,
-    )) act) (rw c.in_ok-count.ensures at c.jump_first.ensures)
+    )) (λ r x g w k. (k.0, k.1)) act) (rw c.in_ok-count.ensures at c.jump_first.ensures)
