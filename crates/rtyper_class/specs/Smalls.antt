@@ -6,7 +6,7 @@ use Rattle.rtyper_data.specs.declared.found.Found.{Found}
 use Rattle.rtyper_data.specs.declared.small.Small.{Small}
 use Rattle.rtyper_data.specs.declared.small.Small.TheVariants as small
 use Rattle.rtyper_data.specs.Smalls.{small_graph}
-use Rattle.rtyper_list.specs.Listing.{list_graph}
+use Rattle.list_helpers.specs.Listing.{list_graph}
 use Rattle.rtyper_class.specs.Instances.{new_instance, attribute, is_instance, raise}
 use Rattle.rtyper_class.specs.Seen.{World, laid}
 

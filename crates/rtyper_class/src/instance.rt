@@ -11,6 +11,7 @@ ghost use Rattle.rtyper_class.specs.Smalls as smalls;
 use ann_element::Element;
 use class_desc::Initial;
 use csub_tree::{CBinary, CConst, COperand, CUnary};
+use list_helpers::list_graph;
 use ll_code::{LlExit, LlGraph, LlOp, LlType, VarId};
 use rpy_base::{NoMem, Seq, Text};
 use rpy_tree::ClassId;
@@ -19,7 +20,6 @@ use rtyper_data::{
     default_operand, failing, flag, link, small_graph, variables, word,
 };
 use rtyper_layout::{Laid, attribute_place, field_type, repr};
-use rtyper_list::list_graph;
 use std::alloc::Global;
 
 // ---- new instances

@@ -15,8 +15,8 @@ use Rattle.rtyper_data.specs.Numbers.{word}
 use Rattle.rtyper_data.specs.Placing.{says_nothing}
 use Rattle.rtyper_data.specs.Seen.{Around, Operand, Place, with_op, Writing, writing, push, set}
 use Rattle.rtyper_data.specs.Tuples.{with_first}
-use Rattle.rtyper_list.specs.declared.shape.Shape.{Shape}
-use Rattle.rtyper_list.specs.Shapes.{shape_of, taking}
+use Rattle.list_shape.specs.declared.shape.Shape.{Shape}
+use Rattle.list_shape.specs.Shapes.{shape_of, taking}
 use Rattle.rtyper_list.specs.Operands.{list_of, list_at, there, variable_in, give_listed, array_in}
 
 -- ---- displays

@@ -15,8 +15,8 @@ use Rattle.rtyper_data.specs.Numbers.{give_binary}
 use Rattle.rtyper_data.specs.Placing.{says_nothing}
 use Rattle.rtyper_data.specs.Seen.{Around, Operand, Place, type_of, with_op, Writing, writing}
 use Rattle.rtyper_data.specs.Tuples.{variable_of}
-use Rattle.rtyper_list.specs.declared.shape.Shape.{Shape}
-use Rattle.rtyper_list.specs.Shapes.{shape_of, length_read, new_by, taking}
+use Rattle.list_shape.specs.declared.shape.Shape.{Shape}
+use Rattle.list_shape.specs.Shapes.{shape_of, length_read, new_by, taking}
 use Rattle.rtyper_list.specs.Operands.{list_of, there, there_in, done_by, array_in, read_item}
 
 abbrev pub shape_in : Around → Operand → Shape

@@ -1,12 +1,5 @@
-pub mod Arguments
-pub mod Changing
 pub mod Displays
 pub mod Items
-pub mod Listing
-pub mod Loops
 pub mod Lowering
-pub mod Making
 pub mod Methods
 pub mod Operands
-pub mod Shapes
-pub mod Splitting

@@ -12,7 +12,7 @@ use Rattle.rtyper_data.specs.Numbers.{word}
 use Rattle.rtyper_data.specs.Placing.{says_nothing}
 use Rattle.rtyper_data.specs.Seen.{Around, Operand, Place, type_of, kind_of, Writing}
 use Rattle.std.specs.Prelude.{Option, Some, None}
-use Rattle.rtyper_list.specs.Shapes.{taking}
+use Rattle.list_shape.specs.Shapes.{taking}
 use Rattle.rtyper_list.specs.Operands.{is_list, list_of, list_at, there, done_by, give_listed}
 use Rattle.rtyper_list.specs.Items.{shape_in, pop}
 

@@ -15,8 +15,8 @@ use Rattle.rtyper_data.specs.declared.small.Small.TheVariants.{Listed}
 use Rattle.rtyper_data.specs.Converting.{by_small, give_made, present}
 use Rattle.rtyper_data.specs.Seen.{Around, Operand, Place, type_of, type_at, kind_of, fresh, with_op, Writing, writing}
 use Rattle.rtyper_data.specs.Tuples.{variable_of}
-use Rattle.rtyper_list.specs.declared.shape.Shape.{Shape}
-use Rattle.rtyper_list.specs.Shapes.{shape_of, array_read, new_by, number_of}
+use Rattle.list_shape.specs.declared.shape.Shape.{Shape}
+use Rattle.list_shape.specs.Shapes.{shape_of, array_read, new_by, number_of}
 
 abbrev pub of_list : Kind → Bool
 of_list kind.List = true

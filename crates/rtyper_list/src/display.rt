@@ -4,8 +4,8 @@ ghost use Rattle.rtyper_data.specs.Seen.{the_around, the_operand, the_operands, 
 ghost use Rattle.rtyper_list.specs.Displays as spec;
 
 use crate::operand::{array_in, count_word, give_listed, list_at, list_of, there};
-use crate::shape::{Shape, shape_of};
 use csub_tree::COperand;
+use list_shape::{Shape, shape_of};
 use ll_code::{LlOp, LlType, VarId};
 use rpy_base::{NoMem, Seq};
 use rtyper_data::{

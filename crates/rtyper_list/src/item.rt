@@ -4,8 +4,8 @@ ghost use Rattle.rtyper_data.specs.Seen.{the_around, the_operand, the_place, wri
 ghost use Rattle.rtyper_list.specs.Items as spec;
 
 use crate::operand::{array_in, list_of, push_done, read_item, there, there_in};
-use crate::shape::{Shape, length, shape_of};
 use csub_tree::{CBinary, COperand};
+use list_shape::{Shape, length, shape_of};
 use ll_code::{LlOp, LlType, VarId};
 use rpy_base::NoMem;
 use rtyper_data::{

@@ -4,8 +4,8 @@ ghost use Rattle.rtyper_data.specs.Numbers as numbers;
 ghost use Rattle.rtyper_data.specs.Seen.{the_around, the_operand, the_place, writing, Leaves, Gives, Writes};
 ghost use Rattle.rtyper_list.specs.Operands as spec;
 
-use crate::shape::{Shape, array, number_of};
 use csub_tree::COperand;
+use list_shape::{Shape, array, number_of};
 use ll_code::{LlOp, LlType, VarId};
 use rpy_base::NoMem;
 use rtyper_data::{

@@ -13,8 +13,8 @@ use Rattle.ll_code.specs.declared.program.LlGraph.{LlGraph}
 use Rattle.ll_helpers.specs.Build.{word, to, fork, block_of, graph_of, fails}
 use Rattle.rtyper_data.specs.declared.found.Found.{Found}
 use Rattle.rtyper_data.specs.declared.small.Listed.TheVariants.{Make, Copy, Slice}
-use Rattle.rtyper_list.specs.declared.shape.Shape.{Shape}
-use Rattle.rtyper_list.specs.Shapes.{length_read, array_read, length_set, number_of, taking, gives}
+use Rattle.list_shape.specs.declared.shape.Shape.{Shape}
+use Rattle.list_shape.specs.Shapes.{length_read, array_read, length_set, number_of, taking, gives}
 
 -- what a graph of three variables passes on
 abbrev pub three : List COperand

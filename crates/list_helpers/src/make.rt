@@ -1,11 +1,11 @@
 // Lists that are made: all is paid before.
 ghost use Rattle.std.specs.Prelude.{◌≡◌, ◌++◌, IfOk, OnOk};
 ghost use Rattle.rtyper_data.specs.Seen.{Asks};
-ghost use Rattle.rtyper_list.specs.Making as spec;
+ghost use Rattle.list_helpers.specs.Making as spec;
 
-use crate::shape::{ONE, Shape, ZERO, array, gives, length, number_of, set_length};
 use csub_tree::COperand::Var;
 use csub_tree::{CBinary, COperand};
+use list_shape::{ONE, Shape, ZERO, array, gives, length, number_of, set_length};
 use ll_code::{LlBlock, LlExit, LlGraph, LlOp, LlType};
 use ll_helpers::build::{
     block, blocks_of, call_of, fails, fork, go, graph, operations, types_of, variables, word,

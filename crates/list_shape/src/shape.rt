@@ -1,7 +1,7 @@
 // The structs of a list, and what the graphs of lists are made of.
 ghost use Rattle.std.specs.Prelude.{◌≡◌, IfOk};
 ghost use Rattle.rtyper_data.specs.Seen.{Asks};
-ghost use Rattle.rtyper_list.specs.Shapes as spec;
+ghost use Rattle.list_shape.specs.Shapes as spec;
 
 use csub_tree::{CConst, COperand};
 use ll_code::{LlBlock, LlExit, LlOp, LlType, VarId};

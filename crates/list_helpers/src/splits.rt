@@ -1,12 +1,12 @@
 // Strings out of lists, and lists out of strings. All is paid before the first block is made.
 ghost use Rattle.std.specs.Prelude.{◌≡◌, IfOk};
 ghost use Rattle.rtyper_data.specs.Seen.{writing, Asks, Gives};
-ghost use Rattle.rtyper_list.specs.Splitting as spec;
+ghost use Rattle.list_helpers.specs.Splitting as spec;
 
 use crate::make::THREE;
-use crate::shape::{ONE, Shape, ZERO, array, gives, length, number_of};
 use csub_tree::COperand::Var;
 use csub_tree::{CBinary, CCell, CConst, COperand, CUnary};
+use list_shape::{ONE, Shape, ZERO, array, gives, length, number_of};
 use ll_code::{LlBlock, LlExit, LlGraph, LlOp, LlType, VarId};
 use ll_helpers::Helper;
 use ll_helpers::build::{

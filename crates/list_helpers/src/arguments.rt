@@ -1,11 +1,11 @@
 // The list of the program's arguments.
 ghost use Rattle.std.specs.Prelude.{◌≡◌, ◌++◌, IfOk, OnOk};
 ghost use Rattle.rtyper_data.specs.Seen.{Asks};
-ghost use Rattle.rtyper_list.specs.Arguments as spec;
+ghost use Rattle.list_helpers.specs.Arguments as spec;
 
-use crate::shape::{ONE, Shape, ZERO, array, gives, number_of};
 use csub_tree::COperand::Var;
 use csub_tree::{CBinary, CUnary};
+use list_shape::{ONE, Shape, ZERO, array, gives, number_of};
 use ll_code::{LlBlock, LlExit, LlGraph, LlOp, LlType, VarId};
 use ll_helpers::build::{
     block, blocks_of, call_of, fork, go, graph, operations, types_of, variables,

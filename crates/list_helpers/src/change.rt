@@ -1,12 +1,12 @@
 // Lists that change in their place.
 ghost use Rattle.std.specs.Prelude.{◌≡◌, IfOk};
 ghost use Rattle.rtyper_data.specs.Seen.{Asks};
-ghost use Rattle.rtyper_list.specs.Changing as spec;
+ghost use Rattle.list_helpers.specs.Changing as spec;
 
 use crate::make::THREE;
-use crate::shape::{ONE, Shape, ZERO, array, length, number_of, set_length};
 use csub_tree::CBinary;
 use csub_tree::COperand::Var;
+use list_shape::{ONE, Shape, ZERO, array, length, number_of, set_length};
 use ll_code::{LlBlock, LlExit, LlGraph, LlOp, LlType};
 use ll_helpers::build::{
     block, blocks_of, call_of, done, fails, fork, graph, operations, types_of, variables, word,

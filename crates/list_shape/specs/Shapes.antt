@@ -18,7 +18,7 @@ use Rattle.rtyper_data.specs.declared.small.Listed.{Listed as Graph}
 use Rattle.rtyper_data.specs.declared.small.Small.TheVariants.{Listed}
 use Rattle.rtyper_data.specs.Finding.{small_number}
 use Rattle.rtyper_data.specs.Seen.{fresh, with_op}
-use Rattle.rtyper_list.specs.declared.shape.Shape.{Shape}
+use Rattle.list_shape.specs.declared.shape.Shape.{Shape}
 
 abbrev pub item_in : Option LlStruct → LlType
 item_in None = Bool

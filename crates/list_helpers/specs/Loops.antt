@@ -19,8 +19,8 @@ use Rattle.rtyper_data.specs.Converting.{value_as}
 use Rattle.rtyper_data.specs.Graphs.{body_of}
 use Rattle.rtyper_data.specs.Seen.{with_op, Writing, writing, push}
 use Rattle.rtyper_data.specs.Tuples.{variable_of}
-use Rattle.rtyper_list.specs.declared.shape.Shape.{Shape}
-use Rattle.rtyper_list.specs.Shapes.{item_of, length_read, array_read, new_by, gives}
+use Rattle.list_shape.specs.declared.shape.Shape.{Shape}
+use Rattle.list_shape.specs.Shapes.{item_of, length_read, array_read, new_by, gives}
 
 -- ---- items from one array into another: the array and a place in each, and how many
 

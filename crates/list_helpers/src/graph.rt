@@ -1,14 +1,14 @@
 // The graphs of lists.
 ghost use Rattle.std.specs.Prelude.{◌≡◌, IfOk};
 ghost use Rattle.rtyper_data.specs.Seen.{Asks};
-ghost use Rattle.rtyper_list.specs.Listing as spec;
+ghost use Rattle.list_helpers.specs.Listing as spec;
 
 use crate::arguments::arguments;
 use crate::change::{append, extend, insert, remove, room};
 use crate::loops::{contains, copy_items, move_up, place, reverse, truth};
 use crate::make::{but_last, concat, make, repeat, slice};
-use crate::shape::shape_of;
 use crate::splits::{join, part, split};
+use list_shape::shape_of;
 use ll_code::LlGraph;
 use rpy_base::NoMem;
 use rpy_tree::ClassId;

@@ -1,11 +1,11 @@
 // The loops over arrays. None of them pays a step.
 ghost use Rattle.std.specs.Prelude.{◌≡◌, IfOk, OnOk};
 ghost use Rattle.rtyper_data.specs.Seen.{writing, Asks, Gives, Leaves};
-ghost use Rattle.rtyper_list.specs.Loops as spec;
+ghost use Rattle.list_helpers.specs.Loops as spec;
 
-use crate::shape::{ONE, Shape, ZERO, array, gives, item_of, length};
 use csub_tree::COperand::Var;
 use csub_tree::{CBinary, COperand};
+use list_shape::{ONE, Shape, ZERO, array, gives, item_of, length};
 use ll_code::{LlBlock, LlExit, LlGraph, LlOp, LlType, VarId};
 use ll_helpers::build::{
     answer, block, blocks_of, done, flag, fork, go, graph, none, null, operations, types_of,

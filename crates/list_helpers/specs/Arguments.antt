@@ -13,8 +13,8 @@ use Rattle.ll_code.specs.declared.program.LlGraph.{LlGraph}
 use Rattle.ll_helpers.specs.Build.{word, to, fork, block_of, graph_of}
 use Rattle.rtyper_data.specs.declared.found.Found.{Found}
 use Rattle.rtyper_data.specs.declared.small.Listed.TheVariants.{Make}
-use Rattle.rtyper_list.specs.declared.shape.Shape.{Shape}
-use Rattle.rtyper_list.specs.Shapes.{array_read, number_of, taking, gives}
+use Rattle.list_shape.specs.declared.shape.Shape.{Shape}
+use Rattle.list_shape.specs.Shapes.{array_read, number_of, taking, gives}
 
 -- 0 the list, 1 its array, 2 the number of arguments, 3 which one, 4 a test, 5 its length, 6 its string, 7 to 10 a byte of it
 

@@ -26,9 +26,9 @@ use Rattle.rtyper_data.specs.Finding.{helper_number, static_of}
 use Rattle.rtyper_data.specs.Graphs.{body_of}
 use Rattle.rtyper_data.specs.Seen.{fresh, with_op, Writing, writing, push}
 use Rattle.rtyper_data.specs.Tuples.{variable_of}
-use Rattle.rtyper_list.specs.declared.shape.Shape.{Shape}
-use Rattle.rtyper_list.specs.Making.{three}
-use Rattle.rtyper_list.specs.Shapes.{length_read, array_read, new_by, number_of, taking, gives}
+use Rattle.list_shape.specs.declared.shape.Shape.{Shape}
+use Rattle.list_helpers.specs.Making.{three}
+use Rattle.list_shape.specs.Shapes.{length_read, array_read, new_by, number_of, taking, gives}
 
 -- ---- a part of a string, which costs nothing: short ones are statics
 

@@ -12,9 +12,9 @@ use Rattle.ll_helpers.specs.Build.{word, fork, block_of, graph_of, fails, done}
 use Rattle.rtyper_data.specs.declared.found.Found.{Found}
 use Rattle.rtyper_data.specs.declared.small.Listed.TheVariants.{Copy, MoveUp, Room}
 use Rattle.rtyper_data.specs.Converting.{default_operand}
-use Rattle.rtyper_list.specs.declared.shape.Shape.{Shape}
-use Rattle.rtyper_list.specs.Shapes.{length_read, array_read, length_set, number_of, taking}
-use Rattle.rtyper_list.specs.Making.{three}
+use Rattle.list_shape.specs.declared.shape.Shape.{Shape}
+use Rattle.list_shape.specs.Shapes.{length_read, array_read, length_set, number_of, taking}
+use Rattle.list_helpers.specs.Making.{three}
 
 -- ---- the item at a place is taken out, and the later ones move down; the place behind the last holds nothing
 

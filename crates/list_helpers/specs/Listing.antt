@@ -5,12 +5,12 @@ use Rattle.rtyper_data.specs.declared.found.Found.{Found}
 use Rattle.rtyper_data.specs.declared.small.Listed.{Listed}
 use Rattle.rtyper_data.specs.declared.small.Listed.TheVariants as listed
 use Rattle.rtyper_data.specs.Graphs.{of_block, failing}
-use Rattle.rtyper_list.specs.Shapes.{shape_of}
-use Rattle.rtyper_list.specs.Loops.{copy_items, move_up, reverse, contains, place, truth}
-use Rattle.rtyper_list.specs.Making.{make, concat, repeat, slice, but_last}
-use Rattle.rtyper_list.specs.Changing.{remove, room, append, insert, extend}
-use Rattle.rtyper_list.specs.Splitting.{part, join, split}
-use Rattle.rtyper_list.specs.Arguments.{arguments}
+use Rattle.list_shape.specs.Shapes.{shape_of}
+use Rattle.list_helpers.specs.Loops.{copy_items, move_up, reverse, contains, place, truth}
+use Rattle.list_helpers.specs.Making.{make, concat, repeat, slice, but_last}
+use Rattle.list_helpers.specs.Changing.{remove, room, append, insert, extend}
+use Rattle.list_helpers.specs.Splitting.{part, join, split}
+use Rattle.list_helpers.specs.Arguments.{arguments}
 
 -- a list or a string that is made of others
 abbrev pub made : Layout → Listed → Found → LlGraph × Found
