@@ -10,7 +10,7 @@ use Rattle.ll_code.specs.declared.program.LlOp.TheVariants.{Unary, Binary, SetFi
 use Rattle.ll_code.specs.declared.program.LlExit.TheVariants.{Goto, Return}
 use Rattle.ll_code.specs.declared.program.LlBlock.{LlBlock}
 use Rattle.ll_code.specs.declared.program.LlGraph.{LlGraph}
-use Rattle.ll_helpers.specs.Build.{word, to, fork, block_of, graph_of}
+use Rattle.ll_build.specs.Build.{word, to, fork, block_of, graph_of}
 use Rattle.rtyper_data.specs.declared.found.Found.{Found}
 use Rattle.rtyper_data.specs.declared.small.Listed.TheVariants.{Make}
 use Rattle.list_shape.specs.declared.shape.Shape.{Shape}

@@ -8,7 +8,7 @@ use Rattle.ll_code.specs.declared.program.LlOp.TheVariants.{Binary, GetField, Se
 use Rattle.ll_code.specs.declared.program.LlExit.TheVariants.{Return}
 use Rattle.ll_code.specs.declared.program.LlBlock.{LlBlock}
 use Rattle.ll_code.specs.declared.program.LlGraph.{LlGraph}
-use Rattle.ll_helpers.specs.Build.{word, fork, block_of, graph_of, fails, done}
+use Rattle.ll_build.specs.Build.{word, fork, block_of, graph_of, fails, done}
 use Rattle.rtyper_data.specs.declared.found.Found.{Found}
 use Rattle.rtyper_data.specs.declared.small.Listed.TheVariants.{Copy, MoveUp, Room}
 use Rattle.rtyper_data.specs.Converting.{default_operand}

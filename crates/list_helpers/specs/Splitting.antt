@@ -15,8 +15,8 @@ use Rattle.ll_code.specs.declared.program.LlOp.TheVariants.{Unary, Binary, GetFi
 use Rattle.ll_code.specs.declared.program.LlExit.TheVariants.{Goto, Return}
 use Rattle.ll_code.specs.declared.program.LlBlock.{LlBlock}
 use Rattle.ll_code.specs.declared.program.LlGraph.{LlGraph}
-use Rattle.ll_helpers.specs.declared.needs.Helper.TheVariants.{StrOfChar}
-use Rattle.ll_helpers.specs.Build.{word, to, fork, block_of, graph_of, answer}
+use Rattle.ll_build.specs.declared.needs.Helper.TheVariants.{StrOfChar}
+use Rattle.ll_build.specs.Build.{word, to, fork, block_of, graph_of, answer}
 use Rattle.rtyper_layout.specs.declared.layout.Layout.{Layout}
 use Rattle.rtyper_data.specs.declared.body.Body.{Body}
 use Rattle.rtyper_data.specs.declared.found.Found.{Found}

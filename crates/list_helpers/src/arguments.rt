@@ -6,10 +6,10 @@ ghost use Rattle.list_helpers.specs.Arguments as spec;
 use csub_tree::COperand::Var;
 use csub_tree::{CBinary, CUnary};
 use list_shape::{ONE, Shape, ZERO, array, gives, number_of};
-use ll_code::{LlBlock, LlExit, LlGraph, LlOp, LlType, VarId};
-use ll_helpers::build::{
+use ll_build::build::{
     block, blocks_of, call_of, fork, go, graph, operations, types_of, variables,
 };
+use ll_code::{LlBlock, LlExit, LlGraph, LlOp, LlType, VarId};
 use rpy_base::{NoMem, Seq};
 use rtyper_data::{Found, Listed};
 use std::alloc::Global;

@@ -7,10 +7,10 @@ use crate::make::THREE;
 use csub_tree::CBinary;
 use csub_tree::COperand::Var;
 use list_shape::{ONE, Shape, ZERO, array, length, number_of, set_length};
-use ll_code::{LlBlock, LlExit, LlGraph, LlOp, LlType};
-use ll_helpers::build::{
+use ll_build::build::{
     block, blocks_of, call_of, done, fails, fork, graph, operations, types_of, variables, word,
 };
+use ll_code::{LlBlock, LlExit, LlGraph, LlOp, LlType};
 use rpy_base::{NoMem, Seq};
 use rtyper_data::{Found, Listed, default_operand};
 use std::alloc::Global;

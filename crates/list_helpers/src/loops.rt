@@ -6,11 +6,11 @@ ghost use Rattle.list_helpers.specs.Loops as spec;
 use csub_tree::COperand::Var;
 use csub_tree::{CBinary, COperand};
 use list_shape::{ONE, Shape, ZERO, array, gives, item_of, length};
-use ll_code::{LlBlock, LlExit, LlGraph, LlOp, LlType, VarId};
-use ll_helpers::build::{
+use ll_build::build::{
     answer, block, blocks_of, done, flag, fork, go, graph, none, null, operations, types_of,
     variables,
 };
+use ll_code::{LlBlock, LlExit, LlGraph, LlOp, LlType, VarId};
 use rpy_base::{NoMem, Seq};
 use rtyper_data::{Body, Found, equal, value_as, variable_of};
 use rtyper_layout::Layout;

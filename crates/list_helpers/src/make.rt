@@ -6,10 +6,10 @@ ghost use Rattle.list_helpers.specs.Making as spec;
 use csub_tree::COperand::Var;
 use csub_tree::{CBinary, COperand};
 use list_shape::{ONE, Shape, ZERO, array, gives, length, number_of, set_length};
-use ll_code::{LlBlock, LlExit, LlGraph, LlOp, LlType};
-use ll_helpers::build::{
+use ll_build::build::{
     block, blocks_of, call_of, fails, fork, go, graph, operations, types_of, variables, word,
 };
+use ll_code::{LlBlock, LlExit, LlGraph, LlOp, LlType};
 use rpy_base::{NoMem, Seq};
 use rtyper_data::{Found, Listed};
 use std::alloc::Global;

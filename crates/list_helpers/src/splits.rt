@@ -7,11 +7,11 @@ use crate::make::THREE;
 use csub_tree::COperand::Var;
 use csub_tree::{CBinary, CCell, CConst, COperand, CUnary};
 use list_shape::{ONE, Shape, ZERO, array, gives, length, number_of};
-use ll_code::{LlBlock, LlExit, LlGraph, LlOp, LlType, VarId};
-use ll_helpers::Helper;
-use ll_helpers::build::{
+use ll_build::Helper;
+use ll_build::build::{
     answer, block, blocks_of, call_of, fork, go, graph, operations, types_of, variables, word,
 };
+use ll_code::{LlBlock, LlExit, LlGraph, LlOp, LlType, VarId};
 use rpy_base::{NoMem, Seq};
 use rtyper_data::{Body, Found, Listed, helper_number, static_of, value_as, variable_of};
 use rtyper_layout::Layout;

@@ -9,7 +9,7 @@ use Rattle.ll_code.specs.declared.program.LlOp.{LlOp}
 use Rattle.ll_code.specs.declared.program.LlOp.TheVariants.{GetField, SetField}
 use Rattle.ll_code.specs.declared.program.LlExit.TheVariants.{Return}
 use Rattle.ll_code.specs.declared.program.LlBlock.{LlBlock}
-use Rattle.ll_helpers.specs.Build.{block_of}
+use Rattle.ll_build.specs.Build.{block_of}
 use Rattle.rtyper_layout.specs.declared.layout.Layout.{Layout}
 use Rattle.rtyper_layout.specs.Types.{word}
 use Rattle.rtyper_data.specs.declared.body.Body.{Body}

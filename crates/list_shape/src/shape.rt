@@ -4,8 +4,8 @@ ghost use Rattle.rtyper_data.specs.Seen.{Asks};
 ghost use Rattle.list_shape.specs.Shapes as spec;
 
 use csub_tree::{CConst, COperand};
+use ll_build::build::none;
 use ll_code::{LlBlock, LlExit, LlOp, LlType, VarId};
-use ll_helpers::build::none;
 use rpy_base::NoMem;
 use rtyper_data::{Found, Listed, Small, small_number};
 use rtyper_layout::Layout;

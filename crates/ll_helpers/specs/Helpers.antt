@@ -7,18 +7,18 @@ use Rattle.csub_tree.specs.declared.tree.CStatic.{CStatic}
 use Rattle.ll_code.specs.declared.program.LlGraph.{LlGraph}
 use Rattle.ll_code.specs.declared.program.LlProgram.{LlProgram}
 use Rattle.ll_helpers.specs.Loops.{alike_bytes, copy_bytes, count_digits, find_bytes, less_bytes, put_bytes, repeat_bytes, skip_backwards, skip_forwards, write_digits}
-use Rattle.ll_helpers.specs.Needs.{all_shared, is_used, numbers_of, uses_texts}
+use Rattle.ll_build.specs.Needs.{all_shared, is_used, numbers_of, uses_texts}
 use Rattle.ll_helpers.specs.Print.{print_word, print_bool, print_digits}
 use Rattle.ll_helpers.specs.Statics.{texts}
 use Rattle.ll_helpers.specs.StringsAsk.{print_str, str_contains, str_ends_with, str_equal, str_find, str_has_item, str_index, str_item, str_len, str_less, str_starts_with, str_truth, str_walk, str_write}
 use Rattle.ll_helpers.specs.StringsMake.{str_add, str_but_last, str_mul, str_of_bool, str_of_char, str_of_word, str_slice, str_strip, string_part}
 use Rattle.ll_helpers.specs.Words.{is_alpha, is_digit, is_space, range_down, range_up, word_chr, word_div, word_max, word_min, word_mod, word_shl, word_shr}
-use Rattle.ll_helpers.specs.declared.needs.Helper.{Helper}
-use Rattle.ll_helpers.specs.declared.needs.Helper.TheVariants.{PrintWord, PrintBool, WordDiv, WordMod, WordShl, WordShr, WordChr, WordMin, WordMax, RangeUp, RangeDown, IsDigit, IsAlpha, IsSpace, PrintStr, StrWrite, StrOfChar, StrOfWord, StrOfBool, StrAdd, StrMul, StrIndex, StrSlice, StrButLast, StrLen, StrTruth, StrEqual, StrLess, StrContains, StrFind, StrStartsWith, StrEndsWith, StrStrip, StrWalk, StrHasItem, StrItem}
-use Rattle.ll_helpers.specs.declared.needs.Need.{Need}
-use Rattle.ll_helpers.specs.declared.needs.Numbers.{Numbers}
-use Rattle.ll_helpers.specs.declared.needs.Shared.{Shared}
-use Rattle.ll_helpers.specs.declared.needs.Shared.TheVariants as shared
+use Rattle.ll_build.specs.declared.needs.Helper.{Helper}
+use Rattle.ll_build.specs.declared.needs.Helper.TheVariants.{PrintWord, PrintBool, WordDiv, WordMod, WordShl, WordShr, WordChr, WordMin, WordMax, RangeUp, RangeDown, IsDigit, IsAlpha, IsSpace, PrintStr, StrWrite, StrOfChar, StrOfWord, StrOfBool, StrAdd, StrMul, StrIndex, StrSlice, StrButLast, StrLen, StrTruth, StrEqual, StrLess, StrContains, StrFind, StrStartsWith, StrEndsWith, StrStrip, StrWalk, StrHasItem, StrItem}
+use Rattle.ll_build.specs.declared.needs.Need.{Need}
+use Rattle.ll_build.specs.declared.needs.Numbers.{Numbers}
+use Rattle.ll_build.specs.declared.needs.Shared.{Shared}
+use Rattle.ll_build.specs.declared.needs.Shared.TheVariants as shared
 
 -- the graph of a helper, where the graphs that it calls have these numbers
 abbrev pub graph_for : Numbers → Helper → LlGraph

@@ -1,7 +1,5 @@
-pub mod Build
 pub mod Helpers
 pub mod Loops
-pub mod Needs
 pub mod Print
 pub mod Statics
 pub mod StringsAsk

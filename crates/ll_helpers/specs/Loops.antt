@@ -8,7 +8,7 @@ use Rattle.ll_code.specs.declared.program.LlOp.TheVariants.{Unary, Binary, GetFi
 use Rattle.ll_code.specs.declared.program.LlExit.TheVariants.{Goto, Return}
 use Rattle.ll_code.specs.declared.program.LlBlock.{LlBlock}
 use Rattle.ll_code.specs.declared.program.LlGraph.{LlGraph}
-use Rattle.ll_helpers.specs.Build.{word, flag, to, fork, block_of, graph_of, done, answer}
+use Rattle.ll_build.specs.Build.{word, flag, to, fork, block_of, graph_of, done, answer}
 
 -- the length, and the first place
 abbrev pub put_bytes_start : LlBlock

@@ -11,7 +11,7 @@ use Rattle.ll_code.specs.declared.program.LlOp.TheVariants.{Binary, Call, Put}
 use Rattle.ll_code.specs.declared.program.LlExit.TheVariants.{Goto, Return}
 use Rattle.ll_code.specs.declared.program.LlBlock.{LlBlock}
 use Rattle.ll_code.specs.declared.program.LlGraph.{LlGraph}
-use Rattle.ll_helpers.specs.Build.{word, to, fork, block_of, graph_of}
+use Rattle.ll_build.specs.Build.{word, to, fork, block_of, graph_of}
 
 -- a graph of one parameter without a result
 abbrev pub printer : List ℕ → List LlType → List LlBlock → LlGraph

@@ -7,7 +7,7 @@ use Rattle.ll_code.specs.declared.program.LlOp.TheVariants.{Binary, GetField, Ge
 use Rattle.ll_code.specs.declared.program.LlExit.TheVariants.{Return}
 use Rattle.ll_code.specs.declared.program.LlBlock.{LlBlock}
 use Rattle.ll_code.specs.declared.program.LlGraph.{LlGraph}
-use Rattle.ll_helpers.specs.Build.{word, flag, null, fork, block_of, graph_of, ask, fails, answer}
+use Rattle.ll_build.specs.Build.{word, flag, null, fork, block_of, graph_of, ask, fails, answer}
 
 abbrev pub print_str_ask_text : LlBlock
 print_str_ask_text = ask (0 ∷ []) (Var 0 ∷ []) 0 1 1 2

@@ -8,7 +8,7 @@ use Rattle.ll_code.specs.declared.program.LlOp.TheVariants.{Set, Unary, Binary, 
 use Rattle.ll_code.specs.declared.program.LlExit.TheVariants.{Goto, Return}
 use Rattle.ll_code.specs.declared.program.LlBlock.{LlBlock}
 use Rattle.ll_code.specs.declared.program.LlGraph.{LlGraph}
-use Rattle.ll_helpers.specs.Build.{word, byte, static_text, static_table, to, fork, block_of, graph_of, ask, fails, answer}
+use Rattle.ll_build.specs.Build.{word, byte, static_text, static_table, to, fork, block_of, graph_of, ask, fails, answer}
 
 -- pays, and asks whether the string is one that is never made
 abbrev pub string_part_pays : LlBlock

@@ -7,7 +7,7 @@ use Rattle.ll_code.specs.declared.program.LlType.TheVariants.{Signed, Char, Bool
 use Rattle.ll_code.specs.declared.program.LlOp.TheVariants.{Unary, Binary}
 use Rattle.ll_code.specs.declared.program.LlExit.TheVariants.{Return, Fail}
 use Rattle.ll_code.specs.declared.program.LlGraph.{LlGraph}
-use Rattle.ll_helpers.specs.Build.{word, flag, fork, block_of, graph_of}
+use Rattle.ll_build.specs.Build.{word, flag, fork, block_of, graph_of}
 
 -- the floor of a quotient; a zero divisor fails
 abbrev pub word_div : LlGraph

@@ -2,11 +2,11 @@
 ghost use Rattle.std.specs.Prelude.{◌≡◌, ◌++◌, IfOk, OnOk};
 ghost use Rattle.ll_helpers.specs.Loops as spec;
 
-use crate::build::{
+use csub_tree::{CBinary, CUnary};
+use ll_build::build::{
     answer, block, blocks_of, call_of, done, flag, fork, go, graph, none, operations, types_of,
     var, variables, word,
 };
-use csub_tree::{CBinary, CUnary};
 use ll_code::{LlBlock, LlExit, LlGraph, LlOp, LlType};
 use rpy_base::{NoMem, Seq};
 use std::alloc::Global;

@@ -2,10 +2,10 @@
 ghost use Rattle.std.specs.Prelude.{◌≡◌, IfOk};
 ghost use Rattle.ll_helpers.specs.Print as spec;
 
-use crate::build::{
+use csub_tree::{CBinary, COperand};
+use ll_build::build::{
     binary, block, call, fork, graph, link, none, one, put, three, two, types_of, variables, word,
 };
-use csub_tree::{CBinary, COperand};
 use ll_code::{LlBlock, LlExit, LlGraph, LlOp, LlType};
 use rpy_base::{NoMem, Seq};
 use std::alloc::Global;

@@ -2,11 +2,11 @@
 ghost use Rattle.std.specs.Prelude.{◌≡◌, ◌++◌, IfOk, OnOk};
 ghost use Rattle.ll_helpers.specs.StringsAsk as spec;
 
-use crate::build::{
+use csub_tree::CBinary;
+use ll_build::build::{
     answer, ask, block, blocks_of, call_of, fails, flag, fork, graph, none, null, operations,
     types_of, var, variables, word,
 };
-use csub_tree::CBinary;
 use ll_code::{LlBlock, LlExit, LlGraph, LlOp, LlType};
 use rpy_base::{NoMem, Seq};
 use std::alloc::Global;

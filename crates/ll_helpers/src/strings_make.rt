@@ -2,11 +2,11 @@
 ghost use Rattle.std.specs.Prelude.{◌≡◌, ◌++◌, IfOk, OnOk};
 ghost use Rattle.ll_helpers.specs.StringsMake as spec;
 
-use crate::build::{
+use csub_tree::{CBinary, CUnary};
+use ll_build::build::{
     answer, ask, block, blocks_of, byte, call_of, fails, fork, go, graph, none, operations,
     static_table, static_text, types_of, var, variables, word,
 };
-use csub_tree::{CBinary, CUnary};
 use ll_code::{LlBlock, LlExit, LlGraph, LlOp, LlType};
 use rpy_base::{NoMem, Seq};
 use std::alloc::Global;

@@ -6,7 +6,6 @@ use crate::loops::{
     alike_bytes, copy_bytes, count_digits, find_bytes, less_bytes, put_bytes, repeat_bytes,
     skip_backwards, skip_forwards, write_digits,
 };
-use crate::needs::{Helper, Need, Numbers, Shared, all_shared, is_used, numbers_of, uses_texts};
 use crate::print::{print_bool, print_digits, print_word};
 use crate::statics::texts;
 use crate::strings_ask::{
@@ -21,6 +20,7 @@ use crate::words::{
     is_alpha, is_digit, is_space, range_down, range_up, word_chr, word_div, word_max, word_min,
     word_mod, word_shl, word_shr,
 };
+use ll_build::{Helper, Need, Numbers, Shared, all_shared, is_used, numbers_of, uses_texts};
 use ll_code::{LlGraph, LlProgram, LlStage, LlStatic, LlStruct, LlType};
 use rpy_base::{NoMem, Seq};
 use std::alloc::Global;

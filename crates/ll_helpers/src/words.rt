@@ -2,10 +2,10 @@
 ghost use Rattle.std.specs.Prelude.{◌≡◌, IfOk};
 ghost use Rattle.ll_helpers.specs.Words as spec;
 
-use crate::build::{
+use csub_tree::{CBinary, CUnary};
+use ll_build::build::{
     block, flag, fork, graph, none, one, three, two, types_of, var, variables, word,
 };
-use csub_tree::{CBinary, CUnary};
 use ll_code::{LlExit, LlGraph, LlOp, LlType};
 use rpy_base::{NoMem, Seq};
 use std::alloc::Global;

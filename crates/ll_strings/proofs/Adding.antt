@@ -29,8 +29,8 @@ use Rattle.ll_texts.proofs.Numbers.{less_true, less_false, adds}
 use Rattle.ll_texts.proofs.Following.{failed}
 use Rattle.ll_helpers.specs.Loops.{copy_bytes}
 use Rattle.ll_helpers.specs.StringsMake.{string_part, str_add, str_add_makes}
-use Rattle.ll_helpers.specs.declared.needs.Helper.TheVariants as helper
-use Rattle.ll_helpers.specs.declared.needs.Shared.TheVariants as shared
+use Rattle.ll_build.specs.declared.needs.Helper.TheVariants as helper
+use Rattle.ll_build.specs.declared.needs.Shared.TheVariants as shared
 use Rattle.ll_strings.specs.Laws.{IsTwo}
 use Rattle.ll_strings.proofs.Copying.{copies}
 use Rattle.ll_strings.proofs.Parts.{part_is, bytes_both}

@@ -21,7 +21,7 @@ use Rattle.ll_texts.specs.Follows.{Follows}
 use Rattle.ll_texts.proofs.Reading.{is_set, is_there, gets_length, gets_byte}
 use Rattle.ll_texts.proofs.Following.{gave, failed}
 use Rattle.ll_texts.proofs.Numbers.{fits_count, less_true, less_false}
-use Rattle.ll_helpers.specs.declared.needs.Helper.TheVariants as helper
+use Rattle.ll_build.specs.declared.needs.Helper.TheVariants as helper
 use Rattle.ll_strings.specs.Laws.{Is, IsTwo}
 use Rattle.ll_strings.proofs.Parts.{gets_single}
 

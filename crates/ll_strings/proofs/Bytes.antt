@@ -12,7 +12,7 @@ use Rattle.ll_leads.proofs.Ways.{Comes, on, many, enter, gives}
 use Rattle.ll_texts.specs.Stands.{flag, byte}
 use Rattle.ll_texts.proofs.Following.{gave}
 use Rattle.ll_helpers.specs.Words.{is_space}
-use Rattle.ll_helpers.specs.declared.needs.Helper.TheVariants as helper
+use Rattle.ll_build.specs.declared.needs.Helper.TheVariants as helper
 use Rattle.ll_strings.specs.Laws.{Is}
 use Rattle.ll_strings.proofs.Equal.{same_numbers}
 

@@ -8,14 +8,14 @@ use Rattle.ll_code.specs.declared.program.LlGraph.{LlGraph}
 use Rattle.ll_live.specs.Live.{handler_variable}
 use Rattle.ll_laws.proofs.Values.{and_left, and_right}
 use Rattle.ll_helpers.specs.Helpers.{graph_for, helper_graph, shared_graph, shared_graphs, helper_graphs}
-use Rattle.ll_helpers.specs.Needs.{is_used, all_shared, numbers_of}
+use Rattle.ll_build.specs.Needs.{is_used, all_shared, numbers_of}
 use Rattle.ll_helpers.specs.StringsMake.{str_add_makes}
-use Rattle.ll_helpers.specs.declared.needs.Helper.{Helper}
-use Rattle.ll_helpers.specs.declared.needs.Helper.TheVariants as helper
-use Rattle.ll_helpers.specs.declared.needs.Need.{Need}
-use Rattle.ll_helpers.specs.declared.needs.Numbers.{Numbers}
-use Rattle.ll_helpers.specs.declared.needs.Shared.{Shared}
-use Rattle.ll_helpers.specs.declared.needs.Shared.TheVariants as shared
+use Rattle.ll_build.specs.declared.needs.Helper.{Helper}
+use Rattle.ll_build.specs.declared.needs.Helper.TheVariants as helper
+use Rattle.ll_build.specs.declared.needs.Need.{Need}
+use Rattle.ll_build.specs.declared.needs.Numbers.{Numbers}
+use Rattle.ll_build.specs.declared.needs.Shared.{Shared}
+use Rattle.ll_build.specs.declared.needs.Shared.TheVariants as shared
 use Rattle.ll_strings.specs.Laws.{CatchesNothing}
 
 abbrev no_handler : LlExit → Bool

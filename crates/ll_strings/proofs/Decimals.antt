@@ -27,11 +27,11 @@ use Rattle.ll_texts.specs.Follows.{Follows, Gave}
 use Rattle.ll_texts.proofs.Writing.{part_block, writes_length, writes_byte}
 use Rattle.ll_texts.proofs.Numbers.{less_true, less_false, adds, subs}
 use Rattle.ll_helpers.specs.Loops.{count_digits, count_digits_test, write_digits, write_digits_test}
-use Rattle.ll_helpers.specs.declared.needs.Helper.TheVariants as helper
-use Rattle.ll_helpers.specs.declared.needs.Shared.TheVariants as shared
-use Rattle.ll_helpers.specs.Build.{word as constant}
+use Rattle.ll_build.specs.declared.needs.Helper.TheVariants as helper
+use Rattle.ll_build.specs.declared.needs.Shared.TheVariants as shared
+use Rattle.ll_build.specs.Build.{word as constant}
 use Rattle.ll_helpers.specs.StringsMake.{str_of_word_positive, str_of_word_negative}
-use Rattle.ll_helpers.specs.declared.needs.Numbers.{Numbers}
+use Rattle.ll_build.specs.declared.needs.Numbers.{Numbers}
 use Rattle.ll_strings.specs.Laws.{HasHelper, Is}
 use Rattle.ll_strings.proofs.Adding.{bytes_append}
 use Rattle.ll_strings.proofs.Parts.{bytes_both, gets_single}

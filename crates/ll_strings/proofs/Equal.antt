@@ -15,7 +15,7 @@ use Rattle.ll_code.specs.declared.program.LlOp.TheVariants as op
 use Rattle.ll_code.specs.declared.program.LlProgram.{LlProgram}
 use Rattle.csub_tree.specs.declared.tree.CBinary.TheVariants.{Eq}
 use Rattle.csub_tree.specs.declared.tree.COperand.TheVariants.{Var}
-use Rattle.ll_helpers.specs.Build.{fork}
+use Rattle.ll_build.specs.Build.{fork}
 use Rattle.ll_leads.specs.Path.{Leads}
 use Rattle.ll_leads.proofs.Ways.{Comes, on, many, enter, gives, call}
 use Rattle.ll_texts.specs.Texts.{IsText, HasText}
@@ -25,8 +25,8 @@ use Rattle.ll_texts.proofs.Reading.{is_set, is_there, gets_length, gets_byte, ge
 use Rattle.ll_texts.proofs.Numbers.{less_true, less_false, adds, subs}
 use Rattle.ll_texts.proofs.Following.{gave}
 use Rattle.ll_helpers.specs.Loops.{alike_bytes, alike_bytes_test}
-use Rattle.ll_helpers.specs.declared.needs.Helper.TheVariants as helper
-use Rattle.ll_helpers.specs.declared.needs.Shared.TheVariants as shared
+use Rattle.ll_build.specs.declared.needs.Helper.TheVariants as helper
+use Rattle.ll_build.specs.declared.needs.Shared.TheVariants as shared
 use Rattle.ll_strings.specs.Laws.{IsTwo}
 
 pub same_numbers : (n m : ℕ) (c : Bool) → nat_eq n m ≡ c → int_eq (pos n) (pos m) ≡ c

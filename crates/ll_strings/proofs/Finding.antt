@@ -27,8 +27,8 @@ use Rattle.ll_texts.proofs.Reading.{is_set, is_there, gets_length}
 use Rattle.ll_texts.proofs.Numbers.{fits_count, adds, subs}
 use Rattle.ll_texts.proofs.Following.{gave, failed}
 use Rattle.ll_helpers.specs.Loops.{alike_bytes, find_bytes, find_bytes_test}
-use Rattle.ll_helpers.specs.declared.needs.Helper.TheVariants as helper
-use Rattle.ll_helpers.specs.declared.needs.Shared.TheVariants as shared
+use Rattle.ll_build.specs.declared.needs.Helper.TheVariants as helper
+use Rattle.ll_build.specs.declared.needs.Shared.TheVariants as shared
 use Rattle.ll_strings.specs.Laws.{IsTwo}
 use Rattle.ll_strings.proofs.Equal.{compares, other_length}
 

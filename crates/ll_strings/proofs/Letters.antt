@@ -14,7 +14,7 @@ use Rattle.ll_leads.proofs.Ways.{on, many, enter, gives}
 use Rattle.ll_texts.specs.Stands.{flag, byte}
 use Rattle.ll_texts.specs.Follows.{Gave}
 use Rattle.ll_texts.proofs.Following.{gave}
-use Rattle.ll_helpers.specs.declared.needs.Helper.TheVariants as helper
+use Rattle.ll_build.specs.declared.needs.Helper.TheVariants as helper
 use Rattle.ll_strings.specs.Laws.{Is}
 
 -- with the bit by which the two cases differ

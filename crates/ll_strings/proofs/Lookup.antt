@@ -6,11 +6,11 @@ use Rattle.csub_tree.specs.State.{Core}
 use Rattle.ll_code.specs.declared.program.LlGraph.{LlGraph}
 use Rattle.ll_code.specs.declared.program.LlProgram.{LlProgram}
 use Rattle.ll_helpers.specs.Helpers.{graph_for, helper_graph, shared_graph, if_used, shared_graphs, helper_graphs}
-use Rattle.ll_helpers.specs.Needs.{uses, names_texts, is_used, all_shared, rank, stands_before, one_more, number_from, numbers_of}
-use Rattle.ll_helpers.specs.declared.needs.Need.{Need}
-use Rattle.ll_helpers.specs.declared.needs.Numbers.{Numbers}
-use Rattle.ll_helpers.specs.declared.needs.Shared.{Shared}
-use Rattle.ll_helpers.specs.declared.needs.Shared.TheVariants as shared
+use Rattle.ll_build.specs.Needs.{uses, names_texts, is_used, all_shared, rank, stands_before, one_more, number_from, numbers_of}
+use Rattle.ll_build.specs.declared.needs.Need.{Need}
+use Rattle.ll_build.specs.declared.needs.Numbers.{Numbers}
+use Rattle.ll_build.specs.declared.needs.Shared.{Shared}
+use Rattle.ll_build.specs.declared.needs.Shared.TheVariants as shared
 use Rattle.ll_texts.specs.Texts.{HasText, HasStatics}
 use Rattle.ll_strings.specs.Laws.{number_in, HasHelper}
 

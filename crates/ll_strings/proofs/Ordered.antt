@@ -16,8 +16,8 @@ use Rattle.ll_texts.proofs.Reading.{is_set, gets_length, gets_byte, get_mid}
 use Rattle.ll_texts.proofs.Numbers.{less_true, less_false, adds}
 use Rattle.ll_texts.proofs.Following.{gave}
 use Rattle.ll_helpers.specs.Loops.{less_bytes, less_bytes_second}
-use Rattle.ll_helpers.specs.declared.needs.Helper.TheVariants as helper
-use Rattle.ll_helpers.specs.declared.needs.Shared.TheVariants as shared
+use Rattle.ll_build.specs.declared.needs.Helper.TheVariants as helper
+use Rattle.ll_build.specs.declared.needs.Shared.TheVariants as shared
 use Rattle.ll_strings.specs.Laws.{IsTwo}
 use Rattle.ll_strings.proofs.Equal.{same_numbers}
 

@@ -18,8 +18,8 @@ use Rattle.ll_texts.specs.Stands.{word, nothing}
 use Rattle.ll_texts.specs.Follows.{Gave}
 use Rattle.ll_texts.proofs.Numbers.{less_true, less_false, wrap_count}
 use Rattle.ll_helpers.specs.Print.{print_digits}
-use Rattle.ll_helpers.specs.declared.needs.Helper.TheVariants as helper
-use Rattle.ll_helpers.specs.declared.needs.Shared.TheVariants as shared
+use Rattle.ll_build.specs.declared.needs.Helper.TheVariants as helper
+use Rattle.ll_build.specs.declared.needs.Shared.TheVariants as shared
 use Rattle.ll_strings.specs.Laws.{Shows}
 use Rattle.ll_strings.proofs.Equal.{same_numbers}
 use Rattle.ll_strings.proofs.Putting.{puts, after, gave_put}

@@ -29,8 +29,8 @@ use Rattle.ll_texts.specs.Follows.{Gave}
 use Rattle.ll_texts.proofs.Reading.{is_set, is_there, gets_length, gets_byte, get_mid}
 use Rattle.ll_texts.proofs.Numbers.{fits_count, less_true, less_false, adds}
 use Rattle.ll_helpers.specs.Loops.{put_bytes, put_bytes_test}
-use Rattle.ll_helpers.specs.declared.needs.Helper.TheVariants as helper
-use Rattle.ll_helpers.specs.declared.needs.Shared.TheVariants as shared
+use Rattle.ll_build.specs.declared.needs.Helper.TheVariants as helper
+use Rattle.ll_build.specs.declared.needs.Shared.TheVariants as shared
 use Rattle.ll_strings.specs.Laws.{Does, Shows}
 use Rattle.ll_strings.proofs.Parts.{bytes_second}
 

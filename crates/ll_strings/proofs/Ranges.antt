@@ -21,7 +21,7 @@ use Rattle.ll_texts.specs.Stands.{word}
 use Rattle.ll_texts.specs.Follows.{Follows, Gave}
 use Rattle.ll_texts.proofs.Following.{gave, failed}
 use Rattle.ll_texts.proofs.Numbers.{fits_count}
-use Rattle.ll_helpers.specs.declared.needs.Helper.TheVariants as helper
+use Rattle.ll_build.specs.declared.needs.Helper.TheVariants as helper
 use Rattle.ll_strings.specs.Laws.{IsTwo, DoesThree, rising, falling}
 
 -- ---- rests

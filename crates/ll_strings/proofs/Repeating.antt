@@ -29,8 +29,8 @@ use Rattle.ll_texts.proofs.Numbers.{less_true, less_false, adds, wrap_count}
 use Rattle.ll_texts.proofs.Following.{failed}
 use Rattle.ll_helpers.specs.Loops.{copy_bytes, repeat_bytes, repeat_bytes_test}
 use Rattle.ll_helpers.specs.StringsMake.{str_mul_pays, str_mul_makes, str_mul_lengths}
-use Rattle.ll_helpers.specs.declared.needs.Helper.TheVariants as helper
-use Rattle.ll_helpers.specs.declared.needs.Shared.TheVariants as shared
+use Rattle.ll_build.specs.declared.needs.Helper.TheVariants as helper
+use Rattle.ll_build.specs.declared.needs.Shared.TheVariants as shared
 use Rattle.ll_strings.specs.Laws.{IsTwo}
 use Rattle.ll_strings.proofs.Adding.{bytes_append}
 use Rattle.ll_strings.proofs.Copying.{copies}

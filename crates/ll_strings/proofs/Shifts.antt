@@ -20,7 +20,7 @@ use Rattle.ll_texts.specs.Stands.{word}
 use Rattle.ll_texts.specs.Follows.{Follows}
 use Rattle.ll_texts.proofs.Following.{gave, failed}
 use Rattle.ll_texts.proofs.Numbers.{less_false, fits_count}
-use Rattle.ll_helpers.specs.declared.needs.Helper.TheVariants as helper
+use Rattle.ll_build.specs.declared.needs.Helper.TheVariants as helper
 use Rattle.ll_strings.specs.Laws.{IsTwo}
 
 -- a shift to the right is a word

@@ -19,8 +19,8 @@ use Rattle.ll_texts.proofs.Reading.{is_set, is_there, gets_length}
 use Rattle.ll_texts.proofs.Numbers.{less_true, less_false, subs, fits_count}
 use Rattle.ll_texts.proofs.Following.{failed}
 use Rattle.ll_helpers.specs.StringsMake.{str_slice_counts, str_slice_cuts}
-use Rattle.ll_helpers.specs.declared.needs.Helper.TheVariants as helper
-use Rattle.ll_helpers.specs.declared.needs.Shared.TheVariants as shared
+use Rattle.ll_build.specs.declared.needs.Helper.TheVariants as helper
+use Rattle.ll_build.specs.declared.needs.Shared.TheVariants as shared
 use Rattle.ll_strings.specs.Laws.{Is, IsThree, any_end, SlicesUpTo, SlicesFrom, SlicesAll}
 use Rattle.ll_strings.proofs.Parts.{part_at}
 use Rattle.ll_strings.proofs.Results.{hands}

@@ -17,8 +17,8 @@ use Rattle.ll_texts.proofs.Numbers.{less_true, less_false, adds, subs}
 use Rattle.ll_texts.proofs.Following.{failed}
 use Rattle.ll_helpers.specs.Loops.{skip_forwards, skip_forwards_test, skip_backwards, skip_backwards_test}
 use Rattle.ll_helpers.specs.Words.{is_space}
-use Rattle.ll_helpers.specs.declared.needs.Helper.TheVariants as helper
-use Rattle.ll_helpers.specs.declared.needs.Shared.TheVariants as shared
+use Rattle.ll_build.specs.declared.needs.Helper.TheVariants as helper
+use Rattle.ll_build.specs.declared.needs.Shared.TheVariants as shared
 use Rattle.ll_strings.specs.Laws.{Is}
 use Rattle.ll_strings.proofs.Bytes.{tells_blank}
 use Rattle.ll_strings.proofs.Parts.{part_at}

@@ -10,10 +10,10 @@ use Rattle.ll_code.specs.declared.program.LlGraph.{LlGraph}
 use Rattle.ll_code.specs.declared.program.LlProgram.{LlProgram}
 use Rattle.ll_helpers.specs.Helpers.{graph_for, shared_graph}
 use Rattle.ll_helpers.specs.StringsMake.{str_add_makes}
-use Rattle.ll_helpers.specs.declared.needs.Helper.TheVariants as helper
-use Rattle.ll_helpers.specs.declared.needs.Numbers.{Numbers}
-use Rattle.ll_helpers.specs.declared.needs.Shared.{Shared}
-use Rattle.ll_helpers.specs.declared.needs.Shared.TheVariants as shared
+use Rattle.ll_build.specs.declared.needs.Helper.TheVariants as helper
+use Rattle.ll_build.specs.declared.needs.Numbers.{Numbers}
+use Rattle.ll_build.specs.declared.needs.Shared.{Shared}
+use Rattle.ll_build.specs.declared.needs.Shared.TheVariants as shared
 use Rattle.ll_leads.specs.Weight.{Weighs, Weigh}
 use Rattle.ll_strings.specs.Laws.{number_in}
 use Rattle.ll_strings.specs.Small.{most_variables, WeighsLittle}

@@ -24,7 +24,7 @@ use Rattle.ll_texts.specs.Stands.{Stands, word, flag, byte}
 use Rattle.ll_texts.specs.Follows.{Follows, Gave}
 use Rattle.ll_texts.proofs.Following.{gave, failed}
 use Rattle.ll_texts.proofs.Numbers.{less_false}
-use Rattle.ll_helpers.specs.declared.needs.Helper.TheVariants as helper
+use Rattle.ll_build.specs.declared.needs.Helper.TheVariants as helper
 use Rattle.ll_strings.specs.Laws.{Is, IsTwo}
 
 -- ---- tests

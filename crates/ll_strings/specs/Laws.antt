@@ -17,12 +17,12 @@ use Rattle.ll_code.specs.declared.program.LlBlock.{LlBlock}
 use Rattle.ll_code.specs.declared.program.LlGraph.{LlGraph}
 use Rattle.ll_live.specs.Live.{among, handler_variable, live}
 use Rattle.ll_helpers.specs.Helpers.{graph_for, shared_graph}
-use Rattle.ll_helpers.specs.Needs.{uses, names_texts}
-use Rattle.ll_helpers.specs.declared.needs.Helper.{Helper}
-use Rattle.ll_helpers.specs.declared.needs.Helper.TheVariants as helper
-use Rattle.ll_helpers.specs.declared.needs.Numbers.{Numbers}
-use Rattle.ll_helpers.specs.declared.needs.Shared.{Shared}
-use Rattle.ll_helpers.specs.declared.needs.Shared.TheVariants as shared
+use Rattle.ll_build.specs.Needs.{uses, names_texts}
+use Rattle.ll_build.specs.declared.needs.Helper.{Helper}
+use Rattle.ll_build.specs.declared.needs.Helper.TheVariants as helper
+use Rattle.ll_build.specs.declared.needs.Numbers.{Numbers}
+use Rattle.ll_build.specs.declared.needs.Shared.{Shared}
+use Rattle.ll_build.specs.declared.needs.Shared.TheVariants as shared
 use Rattle.ll_texts.specs.Texts.{HasText, HasStatics}
 use Rattle.ll_texts.specs.Stands.{Stands}
 use Rattle.ll_texts.specs.Follows.{Follows}

@@ -17,8 +17,8 @@ use Rattle.ll_code.specs.State.{Frame, Calling}
 use Rattle.ll_code.specs.declared.program.LlType.{LlType}
 use Rattle.ll_code.specs.declared.program.LlType.TheVariants as type
 use Rattle.ll_code.specs.declared.program.LlProgram.{LlProgram}
-use Rattle.ll_helpers.specs.declared.needs.Helper.TheVariants as helper
-use Rattle.ll_helpers.specs.declared.needs.Numbers.{Numbers}
+use Rattle.ll_build.specs.declared.needs.Helper.TheVariants as helper
+use Rattle.ll_build.specs.declared.needs.Numbers.{Numbers}
 use Rattle.ll_texts.specs.Stands.{Stands, text, missing}
 use Rattle.ll_texts.specs.Follows.{Follows as HelperFollows}
 use Rattle.ll_strings.specs.Laws.{HasHelper}

@@ -20,8 +20,8 @@ use Rattle.ll_code.specs.declared.program.LlOp.{LlOp}
 use Rattle.ll_code.specs.declared.program.LlOp.TheVariants as op
 use Rattle.ll_code.specs.declared.program.LlExit.{LlExit}
 use Rattle.ll_code.specs.declared.program.LlProgram.{LlProgram}
-use Rattle.ll_helpers.specs.declared.needs.Helper.{Helper}
-use Rattle.ll_helpers.specs.declared.needs.Numbers.{Numbers}
+use Rattle.ll_build.specs.declared.needs.Helper.{Helper}
+use Rattle.ll_build.specs.declared.needs.Numbers.{Numbers}
 use Rattle.ll_texts.specs.Stands.{Stands, word, flag, byte, text, missing, nothing}
 use Rattle.ll_texts.specs.Follows.{Follows as HelperFollows}
 use Rattle.ll_texts.proofs.Reading.{is_set}

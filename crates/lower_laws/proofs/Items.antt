@@ -50,7 +50,7 @@ use Rattle.rtyper_data.specs.Seen as seen
 use Rattle.rtyper_data.specs.Numbers.{word as word_operand}
 use Rattle.rtyper_data.specs.Placing.{index as data_index, index_by, len as data_len, len_by}
 use Rattle.rtyper_data.specs.Tuples.{fields_of, field_type_of, field_read, item_by, item_of, length_by, length_of, place_of, variable_of}
-use Rattle.ll_helpers.specs.declared.needs.Numbers.{Numbers}
+use Rattle.ll_build.specs.declared.needs.Numbers.{Numbers}
 use Rattle.lower_laws.specs.Asked.{HasAll}
 use Rattle.lower_laws.specs.Done.{Any, Came, Follows, HasTuples, HasStructs, IsDone}
 use Rattle.lower_laws.specs.Tuples.{Stays, IsTuple}

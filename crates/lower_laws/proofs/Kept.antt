@@ -7,8 +7,8 @@ use Rattle.csub_tree.specs.declared.tree.COperand.TheVariants.{Var, Const}
 use Rattle.rpy_tree.specs.Value.{Value as Meant}
 use Rattle.ll_code.specs.declared.program.LlProgram.{LlProgram}
 use Rattle.ll_leads.specs.Memory.{forgotten}
-use Rattle.ll_helpers.specs.declared.needs.Helper.{Helper}
-use Rattle.ll_helpers.specs.declared.needs.Numbers.{Numbers}
+use Rattle.ll_build.specs.declared.needs.Helper.{Helper}
+use Rattle.ll_build.specs.declared.needs.Numbers.{Numbers}
 use Rattle.ll_texts.specs.Texts.{HasStatics}
 use Rattle.ll_strings.specs.Laws.{HasHelper}
 use Rattle.rtyper_layout.specs.declared.layout.Layout.{Layout}

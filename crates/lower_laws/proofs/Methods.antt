@@ -3,7 +3,7 @@ use Rattle.std.proofs.Common.{ℕ, [], ◌∷◌, Option, Some, refl, ap, ◌∙
 use Rattle.std.specs.Prelude.{◌&&◌, if◌then◌else◌, codes}
 use Rattle.rpy_meaning.specs.declared.row.RowOp.TheVariants as row
 use Rattle.ll_code.specs.declared.program.LlType.TheVariants as type
-use Rattle.ll_helpers.specs.declared.needs.Helper.TheVariants as helper
+use Rattle.ll_build.specs.declared.needs.Helper.TheVariants as helper
 use Rattle.ll_strings.proofs.Words.{digit_is}
 use Rattle.ll_strings.proofs.Letters.{alpha_is}
 use Rattle.ll_strings.proofs.Bytes.{space_is}

@@ -19,7 +19,7 @@ use Rattle.ll_code.specs.declared.program.LlOp.{LlOp}
 use Rattle.ll_code.specs.declared.program.LlOp.TheVariants as op
 use Rattle.ll_code.specs.declared.program.LlExit.{LlExit}
 use Rattle.ll_code.specs.declared.program.LlProgram.{LlProgram}
-use Rattle.ll_helpers.specs.declared.needs.Numbers.{Numbers}
+use Rattle.ll_build.specs.declared.needs.Numbers.{Numbers}
 use Rattle.ll_texts.specs.Texts.{HasText, IsText}
 use Rattle.ll_texts.specs.Stands.{Stands, word, text, missing}
 use Rattle.rtyper_layout.specs.declared.kind.Kind.{Kind}

@@ -4,8 +4,8 @@ use Rattle.rpy_tree.specs.declared.syntax.BinOp.TheVariants as bin
 use Rattle.rpy_meaning.specs.declared.row.RowOp.{RowOp}
 use Rattle.rpy_meaning.specs.declared.row.RowOp.TheVariants as row
 use Rattle.ll_code.specs.declared.program.LlType.TheVariants as type
-use Rattle.ll_helpers.specs.declared.needs.Helper.{Helper}
-use Rattle.ll_helpers.specs.declared.needs.Helper.TheVariants as helper
+use Rattle.ll_build.specs.declared.needs.Helper.{Helper}
+use Rattle.ll_build.specs.declared.needs.Helper.TheVariants as helper
 use Rattle.ll_strings.specs.Laws.{IsTwo}
 use Rattle.ll_strings.proofs.Words.{div_is, floor_div_is, shl_is, min_is, max_is, chr_is}
 use Rattle.ll_strings.proofs.Ranges.{mod_is}

@@ -23,9 +23,9 @@ use Rattle.ll_leads.specs.Memory.{forgotten}
 use Rattle.ll_leads.specs.Path.{Leads}
 use Rattle.ll_leads.proofs.Joined.{leads_more}
 use Rattle.ll_leads.proofs.Ways.{Comes, on, then, behind, rests, call, turns}
-use Rattle.ll_helpers.specs.declared.needs.Helper.{Helper}
-use Rattle.ll_helpers.specs.declared.needs.Helper.TheVariants as helper
-use Rattle.ll_helpers.specs.declared.needs.Numbers.{Numbers}
+use Rattle.ll_build.specs.declared.needs.Helper.{Helper}
+use Rattle.ll_build.specs.declared.needs.Helper.TheVariants as helper
+use Rattle.ll_build.specs.declared.needs.Numbers.{Numbers}
 use Rattle.ll_texts.specs.Stands.{Stands, text, missing}
 use Rattle.ll_strings.specs.Laws.{HasHelper}
 use Rattle.ll_strings.proofs.Putting.{puts}

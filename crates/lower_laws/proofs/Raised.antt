@@ -26,9 +26,9 @@ use Rattle.ll_code.specs.State.{Frame, Calling}
 use Rattle.ll_code.specs.declared.program.LlType.TheVariants as type
 use Rattle.ll_code.specs.declared.program.LlOp.TheVariants as op
 use Rattle.ll_code.specs.declared.program.LlProgram.{LlProgram}
-use Rattle.ll_helpers.specs.declared.needs.Helper.{Helper}
-use Rattle.ll_helpers.specs.declared.needs.Helper.TheVariants as helper
-use Rattle.ll_helpers.specs.declared.needs.Numbers.{Numbers}
+use Rattle.ll_build.specs.declared.needs.Helper.{Helper}
+use Rattle.ll_build.specs.declared.needs.Helper.TheVariants as helper
+use Rattle.ll_build.specs.declared.needs.Numbers.{Numbers}
 use Rattle.ll_leads.proofs.Ways.{Comes, on, many, enter, gives}
 use Rattle.ll_texts.specs.Stands.{word}
 use Rattle.ll_texts.proofs.Following.{failed}

@@ -12,9 +12,9 @@ use Rattle.ll_leads.proofs.Ways.{Comes, on, then, behind, many, enter, gives, ca
 use Rattle.ll_texts.specs.Texts.{IsText}
 use Rattle.ll_texts.proofs.Numbers.{less_false}
 use Rattle.ll_texts.proofs.Reading.{is_set, is_there}
-use Rattle.ll_helpers.specs.declared.needs.Helper.TheVariants as helper
-use Rattle.ll_helpers.specs.declared.needs.Numbers.{Numbers}
-use Rattle.ll_helpers.specs.declared.needs.Shared.TheVariants as shared
+use Rattle.ll_build.specs.declared.needs.Helper.TheVariants as helper
+use Rattle.ll_build.specs.declared.needs.Numbers.{Numbers}
+use Rattle.ll_build.specs.declared.needs.Shared.TheVariants as shared
 use Rattle.ll_strings.specs.Laws.{HasHelper}
 use Rattle.ll_strings.proofs.Equal.{same_numbers}
 use Rattle.ll_strings.proofs.Printing.{tens_below, digit_below, digits_put}

@@ -15,8 +15,8 @@ use Rattle.rpy_meaning.specs.World.{World}
 use Rattle.ll_code.specs.State.{Frame, Calling}
 use Rattle.ll_code.specs.declared.program.LlType.TheVariants as type
 use Rattle.ll_code.specs.declared.program.LlProgram.{LlProgram}
-use Rattle.ll_helpers.specs.declared.needs.Helper.TheVariants as helper
-use Rattle.ll_helpers.specs.declared.needs.Numbers.{Numbers}
+use Rattle.ll_build.specs.declared.needs.Helper.TheVariants as helper
+use Rattle.ll_build.specs.declared.needs.Numbers.{Numbers}
 use Rattle.ll_texts.specs.Stands.{Stands}
 use Rattle.ll_texts.specs.Follows.{Follows as HelperFollows}
 use Rattle.ll_strings.specs.Laws.{HasHelper}

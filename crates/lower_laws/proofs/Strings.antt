@@ -6,8 +6,8 @@ use Rattle.rpy_meaning.specs.declared.row.RowOp.{RowOp}
 use Rattle.rpy_meaning.specs.declared.row.RowOp.TheVariants as row
 use Rattle.ll_code.specs.declared.program.LlType.{LlType}
 use Rattle.ll_code.specs.declared.program.LlType.TheVariants as type
-use Rattle.ll_helpers.specs.declared.needs.Helper.{Helper}
-use Rattle.ll_helpers.specs.declared.needs.Helper.TheVariants as helper
+use Rattle.ll_build.specs.declared.needs.Helper.{Helper}
+use Rattle.ll_build.specs.declared.needs.Helper.TheVariants as helper
 use Rattle.ll_strings.specs.Laws.{Is, IsTwo}
 use Rattle.ll_strings.proofs.Adding.{add_is}
 use Rattle.ll_strings.proofs.Asking.{len_is, index_is, walk_is, has_item_is, item_is}

@@ -8,8 +8,8 @@ use Rattle.ll_code.specs.declared.program.LlOp.TheVariants as op
 use Rattle.csub_tree.specs.declared.tree.COperand.{COperand}
 use Rattle.csub_tree.specs.declared.tree.COperand.TheVariants.{Var}
 use Rattle.csub_tree.specs.declared.tree.CUnary.TheVariants as unary
-use Rattle.ll_helpers.specs.declared.needs.Helper.{Helper}
-use Rattle.ll_helpers.specs.declared.needs.Helper.TheVariants as helper
+use Rattle.ll_build.specs.declared.needs.Helper.{Helper}
+use Rattle.ll_build.specs.declared.needs.Helper.TheVariants as helper
 use Rattle.ll_strings.proofs.Adding.{add_is}
 use Rattle.ll_strings.proofs.Asking.{len_is, index_is, has_item_is, item_is}
 use Rattle.ll_strings.proofs.Finding.{starts_is, ends_is, find_is, contains_is}

@@ -11,9 +11,9 @@ use Rattle.ll_code.specs.declared.program.LlExit.TheVariants as exit
 use Rattle.ll_code.specs.declared.program.LlGraph.{LlGraph}
 use Rattle.ll_code.specs.declared.program.LlProgram.{LlProgram}
 use Rattle.ll_helpers.specs.Helpers.{graph_for}
-use Rattle.ll_helpers.specs.declared.needs.Helper.{Helper}
+use Rattle.ll_build.specs.declared.needs.Helper.{Helper}
 use Rattle.rpy_meaning.specs.declared.row.Covers.{Covers}
-use Rattle.ll_helpers.specs.declared.needs.Numbers.{Numbers}
+use Rattle.ll_build.specs.declared.needs.Numbers.{Numbers}
 use Rattle.ll_strings.specs.Laws.{HasHelper}
 use Rattle.rtyper_layout.specs.declared.layout.Layout.{Layout}
 use Rattle.rtyper_data.specs.declared.found.Found.{Found}

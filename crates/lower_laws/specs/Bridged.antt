@@ -3,7 +3,7 @@ use Rattle.std.specs.Prelude.{◌≡◌, Bool, true, ◌&&◌, List, [], ◌∷�
 use Rattle.rpy_meaning.specs.declared.row.Covers.{Covers}
 use Rattle.rpy_meaning.specs.declared.row.RowOp.{RowOp}
 use Rattle.rpy_meaning.specs.Classes.{no_covers}
-use Rattle.ll_helpers.specs.declared.needs.Helper.{Helper}
+use Rattle.ll_build.specs.declared.needs.Helper.{Helper}
 use Rattle.rtyper_layout.specs.Kinds.{kind_seen}
 use Rattle.rtyper_data.specs.Seen.{Around, Operand, Place, Writing}
 use Rattle.lower_laws.specs.Asked.{Help}

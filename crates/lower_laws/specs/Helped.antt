@@ -22,8 +22,8 @@ use Rattle.ll_held.specs.Places.{IsPlaced}
 use Rattle.ll_held.specs.Roots.{roots, core_of}
 use Rattle.ll_leads.specs.Memory.{forgotten}
 use Rattle.ll_leads.specs.Path.{Leads}
-use Rattle.ll_helpers.specs.declared.needs.Helper.{Helper}
-use Rattle.ll_helpers.specs.declared.needs.Numbers.{Numbers}
+use Rattle.ll_build.specs.declared.needs.Helper.{Helper}
+use Rattle.ll_build.specs.declared.needs.Numbers.{Numbers}
 use Rattle.ll_texts.specs.Stands.{Stands}
 use Rattle.ll_texts.specs.Follows.{FailedAs, text_blocks}
 use Rattle.ll_strings.specs.Laws.{HasHelper}

@@ -1,8 +1,8 @@
 -- Operations of helpers on strings, which may be missing, and on bytes, of which strings are made first.
 use Rattle.std.specs.Prelude.{◌≡◌, ◌≢◌, true, List, [], ◌∷◌, ◌++◌}
 use Rattle.ll_code.specs.declared.program.LlType.{LlType}
-use Rattle.ll_helpers.specs.declared.needs.Helper.{Helper}
-use Rattle.ll_helpers.specs.declared.needs.Helper.TheVariants as helper
+use Rattle.ll_build.specs.declared.needs.Helper.{Helper}
+use Rattle.ll_build.specs.declared.needs.Helper.TheVariants as helper
 use Rattle.rpy_meaning.specs.declared.row.Covers.{Covers}
 use Rattle.rpy_meaning.specs.declared.row.RowOp.{RowOp}
 use Rattle.rpy_meaning.specs.declared.row.RowOp.TheVariants as row

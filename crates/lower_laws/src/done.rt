@@ -7,7 +7,7 @@ ghost use Rattle.rpy_tree.specs.declared.syntax.CmpOp.TheVariants as compared;
 ghost use Rattle.rpy_tree.specs.Value.{Value as Meant};
 ghost use Rattle.rpy_meaning.specs.declared.row.RowOp.TheVariants as row;
 ghost use Rattle.ll_code.specs.declared.program.LlType.TheVariants as type;
-ghost use Rattle.ll_helpers.specs.declared.needs.Helper.TheVariants as helper;
+ghost use Rattle.ll_build.specs.declared.needs.Helper.TheVariants as helper;
 ghost use Rattle.rtyper_layout.specs.declared.layout.Layout.{Layout};
 ghost use Rattle.rtyper_layout.specs.Kinds.{kind_seen};
 ghost use Rattle.rtyper_layout.specs.Types.{type_seen};

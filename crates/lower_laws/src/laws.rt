@@ -10,7 +10,7 @@ ghost use Rattle.ll_code.specs.declared.program.LlType.TheVariants as type;
 ghost use Rattle.rtyper_layout.specs.Kinds.{kind_seen};
 ghost use Rattle.rtyper_layout.specs.declared.kind.Kind.TheVariants as kind;
 ghost use Rattle.rtyper_data.specs.Seen.{Around, Operand, Place, kind_of, type_at};
-ghost use Rattle.ll_helpers.specs.declared.needs.Helper.TheVariants as helper;
+ghost use Rattle.ll_build.specs.declared.needs.Helper.TheVariants as helper;
 ghost use Rattle.lower_laws.specs.Follows.{IsByte, IsFlag, IsWord, OnByte, OnWords, OnWord, OnFlag};
 ghost use Rattle.lower_laws.specs.Helped.{IsString, IsLong, IsText, OnOne, OnTwo, OnThree};
 

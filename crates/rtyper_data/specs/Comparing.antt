@@ -10,7 +10,7 @@ use Rattle.csub_tree.specs.declared.tree.COperand.TheVariants.{Var, Const}
 use Rattle.ll_code.specs.declared.program.LlType.{LlType}
 use Rattle.ll_code.specs.declared.program.LlType.TheVariants as type
 use Rattle.ll_code.specs.declared.program.LlOp.TheVariants as op
-use Rattle.ll_helpers.specs.declared.needs.Helper.TheVariants as helper
+use Rattle.ll_build.specs.declared.needs.Helper.TheVariants as helper
 use Rattle.rpy_tree.specs.declared.syntax.CmpOp.{CmpOp}
 use Rattle.rpy_tree.specs.declared.syntax.CmpOp.TheVariants as compared
 use Rattle.rtyper_layout.specs.declared.kind.Kind.{Kind}

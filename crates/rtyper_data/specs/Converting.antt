@@ -8,8 +8,8 @@ use Rattle.ll_code.specs.declared.program.LlType.{LlType}
 use Rattle.ll_code.specs.declared.program.LlType.TheVariants as type
 use Rattle.ll_code.specs.declared.program.LlOp.{LlOp}
 use Rattle.ll_code.specs.declared.program.LlOp.TheVariants as op
-use Rattle.ll_helpers.specs.declared.needs.Helper.{Helper}
-use Rattle.ll_helpers.specs.declared.needs.Helper.TheVariants as helper
+use Rattle.ll_build.specs.declared.needs.Helper.{Helper}
+use Rattle.ll_build.specs.declared.needs.Helper.TheVariants as helper
 use Rattle.rtyper_layout.specs.declared.layout.Layout.{Layout}
 use Rattle.rtyper_layout.specs.Layout.{is_tuple}
 use Rattle.rtyper_data.specs.declared.body.Body.{Body}

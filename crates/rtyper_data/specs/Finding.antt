@@ -9,10 +9,10 @@ use Rattle.csub_tree.specs.contracts.tree.CConstPartialEq.TheImpl.{eq-value as e
 use Rattle.ll_code.specs.declared.program.LlType.{LlType}
 use Rattle.ll_code.specs.declared.program.LlType.TheVariants as type
 use Rattle.ll_code.specs.contracts.program.LlTypePartialEq.TheImpl.{eq-value as equal_types}
-use Rattle.ll_helpers.specs.declared.needs.Helper.{Helper}
-use Rattle.ll_helpers.specs.declared.needs.Helper.TheVariants as helper
-use Rattle.ll_helpers.specs.declared.needs.Need.{Need}
-use Rattle.ll_helpers.specs.contracts.needs.HelperPartialEq.TheImpl.{eq-value as equal_helpers}
+use Rattle.ll_build.specs.declared.needs.Helper.{Helper}
+use Rattle.ll_build.specs.declared.needs.Helper.TheVariants as helper
+use Rattle.ll_build.specs.declared.needs.Need.{Need}
+use Rattle.ll_build.specs.contracts.needs.HelperPartialEq.TheImpl.{eq-value as equal_helpers}
 use Rattle.rpy_meaning.specs.declared.row.Covers.{Covers}
 use Rattle.rpy_meaning.specs.contracts.row.CoversPartialEq.TheImpl.{eq-value as equal_covers}
 use Rattle.rtyper_layout.specs.Types.{word}

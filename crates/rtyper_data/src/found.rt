@@ -5,8 +5,8 @@ ghost use Rattle.rtyper_data.specs.Seen.{Asks};
 
 use crate::small::{Small, is_same_small};
 use csub_tree::{CCell, CConst, CStatic};
+use ll_build::{Helper, Need};
 use ll_code::{LlStatic, LlType};
-use ll_helpers::{Helper, Need};
 use rpy_base::{NoMem, Seq};
 use rpy_meaning::Covers;
 use rpy_tree::SiteId;

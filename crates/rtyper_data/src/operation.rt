@@ -20,8 +20,8 @@ use crate::text::{
 };
 use crate::tuple::{push_item, push_tuple};
 use csub_tree::{CBinary, COperand, CUnary};
+use ll_build::Helper;
 use ll_code::{LlOp, LlType};
-use ll_helpers::Helper;
 use rpy_base::{NoMem, Seq};
 use rpy_meaning::RowOp;
 use rpy_tree::{BinOp, Const};

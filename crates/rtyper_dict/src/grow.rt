@@ -3,8 +3,8 @@ use crate::parts::{
     BOOL, SIGNED, add, call, count, first, length, less, listed, places, same, second, sub,
 };
 use csub_tree::{CConst, COperand};
+use ll_build::Helper;
 use ll_code::{LlBlock, LlGraph, LlOp, LlType};
-use ll_helpers::Helper;
 use rpy_base::{NoMem, Seq};
 use rtyper_data::{
     Found, Keyed, Listed, and, ends, fork, gives, goto, graph_written, helper_number, kinds, op,

@@ -1,6 +1,6 @@
 // Graphs, written down.
 ghost use Rattle.std.specs.Prelude.{◌≡◌, ◌∷◌, [], IfOk};
-ghost use Rattle.ll_helpers.specs.Build as spec;
+ghost use Rattle.ll_build.specs.Build as spec;
 
 use csub_tree::{CBinary, CConst, COperand};
 use ll_code::{LlBlock, LlExit, LlGraph, LlLink, LlOp, LlType, VarId};

@@ -1,6 +1,6 @@
 // Which graphs and statics the needs of a program use.
 ghost use Rattle.std.specs.Prelude.{◌≡◌, IfOk};
-ghost use Rattle.ll_helpers.specs.Needs as spec;
+ghost use Rattle.ll_build.specs.Needs as spec;
 
 use ll_code::LlType;
 use rpy_base::{NoMem, Seq};

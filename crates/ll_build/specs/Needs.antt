@@ -1,11 +1,11 @@
 -- Which graphs and statics the needs of a program use.
 use Rattle.std.specs.Prelude.{ℕ, ◌+◌, ◌||◌, ◌&&◌, nat_lt, Bool, true, false, cond, List, [], ◌∷◌, length}
-use Rattle.ll_helpers.specs.declared.needs.Helper.{Helper}
-use Rattle.ll_helpers.specs.declared.needs.Helper.TheVariants.{PrintWord, PrintStr, StrWrite, StrOfChar, StrOfWord, StrOfBool, StrAdd, StrMul, StrSlice, StrButLast, StrEqual, StrLess, StrContains, StrFind, StrStartsWith, StrEndsWith, StrStrip}
-use Rattle.ll_helpers.specs.declared.needs.Need.{Need}
-use Rattle.ll_helpers.specs.declared.needs.Shared.{Shared}
-use Rattle.ll_helpers.specs.declared.needs.Shared.TheVariants.{PrintDigits, PutBytes, CopyBytes, StringPart, RepeatBytes, AlikeBytes, FindBytes, LessBytes, CountDigits, WriteDigits, IsSpace, SkipForwards, SkipBackwards}
-use Rattle.ll_helpers.specs.declared.needs.Numbers.{Numbers}
+use Rattle.ll_build.specs.declared.needs.Helper.{Helper}
+use Rattle.ll_build.specs.declared.needs.Helper.TheVariants.{PrintWord, PrintStr, StrWrite, StrOfChar, StrOfWord, StrOfBool, StrAdd, StrMul, StrSlice, StrButLast, StrEqual, StrLess, StrContains, StrFind, StrStartsWith, StrEndsWith, StrStrip}
+use Rattle.ll_build.specs.declared.needs.Need.{Need}
+use Rattle.ll_build.specs.declared.needs.Shared.{Shared}
+use Rattle.ll_build.specs.declared.needs.Shared.TheVariants.{PrintDigits, PutBytes, CopyBytes, StringPart, RepeatBytes, AlikeBytes, FindBytes, LessBytes, CountDigits, WriteDigits, IsSpace, SkipForwards, SkipBackwards}
+use Rattle.ll_build.specs.declared.needs.Numbers.{Numbers}
 
 -- the digits of a word are printed
 abbrev pub prints_digits : Helper → Bool
