@@ -21,7 +21,7 @@ use Rattle.rtyper_data.specs.declared.small.Small.{Small}
 use Rattle.rtyper_data.specs.declared.small.Small.TheVariants as small
 use Rattle.rtyper_data.specs.Building.{block_with, graph_with}
 use Rattle.rtyper_data.specs.Finding.{failures_of, helper_number, small_number}
-use Rattle.lower_laws.specs.Raising.{raising_graph, raised_in}
+use Rattle.rtyper_raising.specs.Raising.{raising_graph, raised_in}
 use Rattle.rtyper_data.specs.Smalls.{small_graph}
 
 -- a helper, one that raises what is covered, or a small graph

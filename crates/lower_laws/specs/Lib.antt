@@ -8,7 +8,6 @@ pub mod Helped
 pub mod Identity
 pub mod Printed
 pub mod Raised
-pub mod Raising
 pub mod Texted
 pub mod Tuples
 pub mod Values

@@ -2,7 +2,6 @@
 use crate::blocks::{Lowered, block_of, dead_block};
 use crate::handlers::Extra;
 use crate::known::{Known, is_block_reached};
-use crate::raising::turned_blocks;
 use ann_element::Element;
 use csub_tree::{CConst, COperand};
 use flow_graph::{Graph, VarId};
@@ -10,6 +9,7 @@ use ll_code::{LlBlock, LlGraph, LlOp, LlType};
 use rpy_base::{NoMem, Seq, Text};
 use rtyper_data::{Around, Body, Found};
 use rtyper_layout::{repr, repr_seen};
+use rtyper_raising::turned_blocks;
 use std::alloc::Global;
 
 fn types_of(alloc: Global, around: Around<'_>, elements: &[Element]) -> Result<Seq<LlType>, NoMem> {

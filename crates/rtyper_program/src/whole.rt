@@ -2,7 +2,7 @@
 use crate::entry::entry_graph;
 use crate::graph::graph_of;
 use crate::known::{Known, is_reached};
-use crate::raising::{raises, raising_graphs};
+use crate::raising::raises;
 use ann_element::Annotation;
 use class_desc::Classes;
 use ll_build::Need;
@@ -15,6 +15,7 @@ use rtyper_class::{class_graph, push_exceptions, push_vtables};
 use rtyper_data::{Around, Found, Listed, Small, push_prebuilt, small_number};
 use rtyper_dict::dict_graph;
 use rtyper_layout::{Layout, repr_seen};
+use rtyper_raising::raising_graphs;
 use std::alloc::Global;
 
 // For each function the number of its graph, behind so many graphs of helpers; where it is not

@@ -1,16 +1,14 @@
 -- Helpers that raise the exceptions of their failures, where those are covered.
-use Rattle.std.specs.Prelude.{◌≡◌, ℕ, ◌==◌, Bool, List, [], ◌∷◌, ◌++◌, if◌then◌else◌, Option, Some, None, slice_get}
-use Rattle.csub_tree.specs.State.{Value}
+use Rattle.std.specs.Prelude.{ℕ, ◌+◌, ◌==◌, Bool, List, [], ◌∷◌, ◌++◌, if◌then◌else◌, Option, Some, None, slice_get}
 use Rattle.ll_code.specs.declared.program.LlOp.TheVariants as op
 use Rattle.ll_code.specs.declared.program.LlExit.{LlExit}
 use Rattle.ll_code.specs.declared.program.LlExit.TheVariants as exit
 use Rattle.ll_code.specs.declared.program.LlBlock.{LlBlock}
 use Rattle.ll_code.specs.declared.program.LlGraph.{LlGraph}
-use Rattle.ll_code.specs.declared.program.LlProgram.{LlProgram}
 use Rattle.rpy_meaning.specs.declared.row.Covers.{Covers}
 use Rattle.rtyper_data.specs.declared.found.Found.{Found}
 use Rattle.rtyper_data.specs.declared.small.Small.TheVariants as small
-use Rattle.rtyper_data.specs.Finding.{small_number}
+use Rattle.rtyper_data.specs.Finding.{nothing, small_number}
 
 abbrev pub if_covered : Bool → ℕ → Option ℕ
 if_covered c class = if c then Some class else None
@@ -38,7 +36,25 @@ raising_blocks c (block ∷ blocks) found = with_block (raising_block block (fai
 abbrev pub raising_graph : Covers → LlGraph → Found → LlGraph
 raising_graph c graph found = record graph { blocks = (raising_blocks c graph.blocks found).0 }
 
--- the classes of what it raises
+-- ---- the graphs of helpers, each with the failures that it was asked for to raise
+
+abbrev pub covers_of : Option Covers → Covers
+covers_of None = nothing
+covers_of (Some c) = c
+
+abbrev pub caught_at : Found → ℕ → Covers
+caught_at found n = covers_of (slice_get found.caught n)
+
+abbrev pub with_graph : Covers → LlGraph → Found → (Found → List LlGraph × Found) → List LlGraph × Found
+with_graph c graph found rest = (raising_graph c graph found ∷ (rest (raising_blocks c graph.blocks found).1).0, (rest (raising_blocks c graph.blocks found).1).1)
+
+-- from the n-th on
+abbrev pub raising_graphs : ℕ → List LlGraph → Found → List LlGraph × Found
+raising_graphs n [] found = ([], found)
+raising_graphs n (graph ∷ graphs) found = with_graph (caught_at found n) graph found (λ next. raising_graphs (n + 1) graphs next)
+
+-- ---- the classes of what a graph raises
+
 abbrev pub with_class : Option ℕ → List ℕ → List ℕ
 with_class None classes = classes
 with_class (Some class) classes = class ∷ classes
