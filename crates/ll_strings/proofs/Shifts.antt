@@ -24,7 +24,7 @@ use Rattle.ll_build.specs.declared.needs.Helper.TheVariants as helper
 use Rattle.ll_strings.specs.Laws.{IsTwo}
 
 -- a shift to the right is a word
-shifted_fits : (a : ℤ) (k : ℕ) → Fits a → Fits (floor_quotient a (pos (2 ^ k)))
+pub shifted_fits : (a : ℤ) (k : ℕ) → Fits a → Fits (floor_quotient a (pos (2 ^ k)))
 shifted_fits (pos a) k f = fits_count (a / 2 ^ k) (omega (arith, f.sfits, div-le_self a (2 ^ k)))
 shifted_fits (negsuc a) k f = (let d : a / 2 ^ k ≤ a = div-le_self a (2 ^ k) in let s : a < 2 ^ 63 = omega (arith, f.sfits) in below (a / 2 ^ k) (omega (arith, d, s)))
   where

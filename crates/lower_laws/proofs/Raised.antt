@@ -31,6 +31,7 @@ use Rattle.ll_build.specs.declared.needs.Helper.TheVariants as helper
 use Rattle.ll_build.specs.declared.needs.Numbers.{Numbers}
 use Rattle.ll_leads.proofs.Ways.{Comes, on, many, enter, gives}
 use Rattle.ll_texts.specs.Stands.{word}
+use Rattle.ll_strings.proofs.Shifts.{shifted_fits}
 use Rattle.ll_texts.proofs.Following.{failed}
 use Rattle.ll_texts.proofs.Numbers.{less_false}
 use Rattle.rtyper_layout.specs.declared.kind.Kind.TheVariants as kind
@@ -98,6 +99,18 @@ module _ (p : LlProgram) (numbers : Numbers) (arguments : List (List ℕ)) (f : 
   shl_by : (c : Bool) (z : ℤ) → HasRaising p numbers raised helper.WordShl (counts c) f → binary_of binary.Lt (Word b) (Word (pos 0)) ≡ Ok (Flag false) → binary_of binary.Lt (Word b) (Word (pos 64)) ≡ Ok (Flag true) → binary_of binary.Shl (Word a) (Word b) ≡ Ok (Word (wrap z)) → Done (Gives (MeantWord (wrap z)) world)
   shl_by true z h e g low = gave (wrap z) (SFits-int_wrap w64 z) (λ waits. record { end = _; same = refl; leads = on (enter h.graph refl) (on (gives (Flag false) e) (on (many 1 h.graph refl refl) (on (gives (Flag true) g) (on (many 1 h.graph refl refl) (on (gives (Word (wrap z)) low) (many 1 h.graph refl refl)))))) })
   shl_by false z h e g low = gave (wrap z) (SFits-int_wrap w64 z) (λ waits. record { end = _; same = refl; leads = on (enter h.graph refl) (on (gives (Flag false) e) (on (many 1 h.graph refl refl) (on (gives (Flag true) g) (on (many 1 h.graph refl refl) (on (gives (Word (wrap z)) low) (many 1 h.graph refl refl)))))) })
+
+  shr_below : (c : Bool) → HasRaising p numbers raised helper.WordShr (counts c) f → binary_of binary.Lt (Word b) (Word (pos 0)) ≡ Ok (Flag true) → Done (failure c 8 fail.Value world)
+  shr_below true h e = record { flies = λ waits. same_memory refl (flies_on (on (enter h.graph refl) (on (gives (Flag true) e) (many 1 h.graph refl refl))) (flown h.raises.0)); same = refl }
+  shr_below false h e = λ waits. failed (on (enter h.graph refl) (on (gives (Flag true) e) (many 1 h.graph refl refl))) refl
+
+  shr_above : (c : Bool) → HasRaising p numbers raised helper.WordShr (counts c) f → binary_of binary.Lt (Word b) (Word (pos 0)) ≡ Ok (Flag false) → binary_of binary.Lt (Word b) (Word (pos 64)) ≡ Ok (Flag false) → Done (failure c 8 fail.Value world)
+  shr_above true h e g = record { flies = λ waits. same_memory refl (flies_on (on (enter h.graph refl) (on (gives (Flag false) e) (on (many 1 h.graph refl refl) (on (gives (Flag false) g) (many 1 h.graph refl refl))))) (flown h.raises.0)); same = refl }
+  shr_above false h e g = λ waits. failed (on (enter h.graph refl) (on (gives (Flag false) e) (on (many 1 h.graph refl refl) (on (gives (Flag false) g) (many 1 h.graph refl refl))))) refl
+
+  shr_by : (c : Bool) (z : ℤ) → HasRaising p numbers raised helper.WordShr (counts c) f → binary_of binary.Lt (Word b) (Word (pos 0)) ≡ Ok (Flag false) → binary_of binary.Lt (Word b) (Word (pos 64)) ≡ Ok (Flag true) → binary_of binary.Shr (Word a) (Word b) ≡ Ok (Word (wrap z)) → Done (Gives (MeantWord (wrap z)) world)
+  shr_by true z h e g low = gave (wrap z) (SFits-int_wrap w64 z) (λ waits. record { end = _; same = refl; leads = on (enter h.graph refl) (on (gives (Flag false) e) (on (many 1 h.graph refl refl) (on (gives (Flag true) g) (on (many 1 h.graph refl refl) (on (gives (Word (wrap z)) low) (many 1 h.graph refl refl)))))) })
+  shr_by false z h e g low = gave (wrap z) (SFits-int_wrap w64 z) (λ waits. record { end = _; same = refl; leads = on (enter h.graph refl) (on (gives (Flag false) e) (on (many 1 h.graph refl refl) (on (gives (Flag true) g) (on (many 1 h.graph refl refl) (on (gives (Word (wrap z)) low) (many 1 h.graph refl refl)))))) })
 
 -- ---- the operations
 
@@ -192,3 +205,23 @@ shl_computes site program p numbers arguments f core raised world covers a (pos 
 pub shl_is_raised : (site : Option ℕ) → IsRaised helper.WordShl (row.Binary bin.Shl site)
 unfolding of_some of_two binary_to lowered_binary
 shl_is_raised site = computed helper.WordShl (row.Binary bin.Shl site) (λ around place a b w ha hb. two_come around (row.Binary bin.Shl site) place a b w (ap never_comes ha) (ap never_comes hb) ∙ ap (λ k. if_words k (kind_of b) (lowered_binary around place bin.Shl a.x b.x w) w) ha ∙ ap (λ k. if_words kind.Word k (lowered_binary around place bin.Shl a.x b.x w) w) hb) (shl_computes site)
+
+-- ---- shifts to the right
+
+shr_computes : (site : Option ℕ) → Computes helper.WordShr (row.Binary bin.Shr site)
+shr_computes site program p numbers arguments f core raised world covers a (negsuc k) fa fb has = shr_below p numbers arguments f core raised world a (negsuc k) covers.number has refl
+shr_computes site program p numbers arguments f core raised world covers a (pos k) fa fb has = subst (λ t. Done p numbers arguments f core raised world a (pos k) (shifted_by covers.number (number (floor_quotient a (pos (2 ^ k)))) (t && nat_lt k 64) world)) (sym low) (by (nat_lt k 64) refl)
+  where
+    low : int_le (pos 0) (pos k) ≡ true
+    low = grind (arith, nat_tests)
+
+    same : wrap (floor_quotient a (pos (2 ^ k))) ≡ floor_quotient a (pos (2 ^ k))
+    same = int_wrap_fits w64 (floor_quotient a (pos (2 ^ k))) (shifted_fits a k fa)
+
+    by : (t : Bool) → nat_lt k 64 ≡ t → Done p numbers arguments f core raised world a (pos k) (shifted_by covers.number (number (floor_quotient a (pos (2 ^ k)))) (true && t) world)
+    by true e = shr_by p numbers arguments f core raised world a (pos k) covers.number (floor_quotient a (pos (2 ^ k))) has (less_false k 0 (omega arith)) (ap (λ t. Ok (Flag t)) e) (ap (λ t. cond t (Ok (Word (floor_quotient a (pos (2 ^ k))))) (Err BadWord)) e ∙ ap (λ z. Ok (Word z)) (sym same))
+    by false e = shr_above p numbers arguments f core raised world a (pos k) covers.number has (less_false k 0 (omega arith)) (ap (λ t. Ok (Flag t)) e)
+
+pub shr_is_raised : (site : Option ℕ) → IsRaised helper.WordShr (row.Binary bin.Shr site)
+unfolding of_some of_two binary_to lowered_binary
+shr_is_raised site = computed helper.WordShr (row.Binary bin.Shr site) (λ around place a b w ha hb. two_come around (row.Binary bin.Shr site) place a b w (ap never_comes ha) (ap never_comes hb) ∙ ap (λ k. if_words k (kind_of b) (lowered_binary around place bin.Shr a.x b.x w) w) ha ∙ ap (λ k. if_words kind.Word k (lowered_binary around place bin.Shr a.x b.x w) w) hb) (shr_computes site)

@@ -120,4 +120,5 @@ pub fn covered_words_are_done()
     ensures floor_div { (site : Option ℕ) → IsRaised helper.WordDiv (row.Binary bin.FloorDiv site) }
     ensures rest { (site : Option ℕ) → IsRaised helper.WordMod (row.Binary bin.Mod site) }
     ensures shl { (site : Option ℕ) → IsRaised helper.WordShl (row.Binary bin.Shl site) }
+    ensures shr { (site : Option ℕ) → IsRaised helper.WordShr (row.Binary bin.Shr site) }
 {}
