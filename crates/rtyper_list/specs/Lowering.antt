@@ -40,7 +40,7 @@ joins a b = is_list b && (is_text_or_none (kind_of a) && not (is_none a))
 
 abbrev pub of_byte : Kind → Bool
 of_byte kind.Byte = true
-of_byte other = false
+of_byte _ = false
 
 abbrev pub is_byte : Operand → Bool
 is_byte a = of_byte (kind_of a)

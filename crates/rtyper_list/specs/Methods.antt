@@ -83,7 +83,7 @@ join around place a b w =
 
 abbrev pub of_text_or_none : Kind → Bool
 of_text_or_none kind.MaybeText = true
-of_text_or_none other = false
+of_text_or_none _ = false
 
 abbrev pub with_value : Operand → COperand → Operand
 with_value a x = record { x = x; element = a.element }

@@ -21,21 +21,21 @@ use Rattle.list_shape.specs.Shapes.{shape_of, array_read, new_by, number_of}
 abbrev pub of_list : Kind → Bool
 of_list kind.List = true
 of_list kind.MaybeList = true
-of_list other = false
+of_list _ = false
 
 abbrev pub is_list : Operand → Bool
 is_list a = of_list (kind_of a)
 
 abbrev pub of_none : Kind → Bool
 of_none kind.Nothing = true
-of_none other = false
+of_none _ = false
 
 abbrev pub is_none : Operand → Bool
 is_none a = of_none (kind_of a)
 
 abbrev pub of_list_or_none : Kind → Bool
 of_list_or_none kind.MaybeList = true
-of_list_or_none other = false
+of_list_or_none _ = false
 
 abbrev pub pointed : LlType → ℕ
 pointed (Ptr n) = n
