@@ -1,14 +1,23 @@
 // Laws of the graphs that are made of a program.
-ghost use Rattle.std.specs.Prelude.{◌≡◌, ◌+◌, ◌^◌, ◌<◌, ◌≤◌, ℕ, List, length, Some};
+ghost use Rattle.std.specs.Prelude.{◌≡◌, ◌+◌, ◌^◌, ◌<◌, ◌≤◌, ℕ, true, List, length, Some};
 ghost use Rattle.rpy_tree.specs.declared.program.Program.{Program};
+ghost use Rattle.rpy_tree.specs.declared.syntax.CmpOp.{CmpOp};
+ghost use Rattle.rpy_tree.specs.Value.{Value};
+ghost use Rattle.rpy_meaning.specs.declared.row.Covers.{Covers};
+ghost use Rattle.rpy_meaning.specs.declared.row.RowOp.{RowOp};
+ghost use Rattle.rpy_meaning.specs.declared.row.RowOp.TheVariants as row;
+ghost use Rattle.rpy_meaning.specs.Tree.{Program as Tree};
+ghost use Rattle.rpy_meaning.specs.World.{World};
+ghost use Rattle.rpy_meaning.specs.Operations.{op};
 ghost use Rattle.rpy_meaning.specs.Meaning.{Run, mean};
-ghost use Rattle.rpy_meaning.specs.Moments.{held_by, references_of, moment, Few};
+ghost use Rattle.rpy_meaning.specs.Moments.{held_by, references_of, moment, is_slight, Few};
 ghost use Rattle.rpy_resolved.specs.Count.{function_count};
 ghost use Rattle.resolved_laws.specs.Meant.{meant_by};
 ghost use Rattle.resolver_laws.specs.Listing.{HasNoInnerClasses};
 ghost use Rattle.flow_graph.specs.declared.graph.Graphs.{Graphs};
 ghost use Rattle.flow_graph.specs.Values.{item, values};
 ghost use Rattle.flow_laws.specs.Giving.{Gives};
+ghost use Rattle.flow_laws.specs.Slight.{Leaves, Tells};
 ghost use Rattle.flow_meaning.specs.Meaning.{GMeans};
 ghost use Rattle.flow_meaning.specs.Moments.{IsMoment};
 ghost use Rattle.flow_stands.specs.Follows.{HasBuiltins, EndsLike, UsesNoMore};
@@ -59,4 +68,11 @@ pub fn flow_graphs_hold_few()
 /// gives the value of the node, and a part with this node in the tree of that function does the operation.
 pub fn variables_are_those_of_their_nodes()
     ensures { (p : Program) (gs : Graphs) (stand : StandFor p gs) (node i v : ℕ) → item (values node gs) i ≡ Some v → Gives stand.resolved gs node v }
+{}
+
+/// Operations that are no moments leave the world as it is, pay nothing and call nothing. Comparisons, behind which is
+/// no moment, do so too, and give a truth value.
+pub fn slight_operations_change_nothing()
+    ensures slight { (p : Tree) (c : Covers) (o : RowOp) (vs : List Value) (w : World) → is_slight o ≡ true → Leaves w (op p c o vs w) }
+    ensures compared { (p : Tree) (c : Covers) (f : CmpOp) (vs : List Value) (w : World) → Tells w (op p c (row.Compare f) vs w) }
 {}

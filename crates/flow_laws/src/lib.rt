@@ -6,5 +6,6 @@ mod laws;
 pub use laws::{
     flow_graphs_end_as_their_program, flow_graphs_have_an_ending, flow_graphs_have_moments,
     flow_graphs_hold_few, flow_graphs_stand_as_their_program, flow_graphs_use_no_more,
-    flow_graphs_use_no_more_on_the_way, variables_are_those_of_their_nodes,
+    flow_graphs_use_no_more_on_the_way, slight_operations_change_nothing,
+    variables_are_those_of_their_nodes,
 };
