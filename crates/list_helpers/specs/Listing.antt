@@ -6,11 +6,11 @@ use Rattle.rtyper_data.specs.declared.small.Listed.{Listed}
 use Rattle.rtyper_data.specs.declared.small.Listed.TheVariants as listed
 use Rattle.rtyper_data.specs.Graphs.{of_block, failing}
 use Rattle.list_shape.specs.Shapes.{shape_of}
-use Rattle.list_helpers.specs.Loops.{copy_items, move_up, reverse, contains, place, truth}
-use Rattle.list_helpers.specs.Making.{make, concat, repeat, slice, but_last}
-use Rattle.list_helpers.specs.Changing.{remove, room, append, insert, extend}
-use Rattle.list_helpers.specs.Splitting.{part, join, split}
-use Rattle.list_helpers.specs.Arguments.{arguments}
+use Rattle.list_loops.specs.Loops.{copy_items, move_up, reverse, contains, place, truth}
+use Rattle.list_loops.specs.Making.{make, concat, repeat, slice, but_last}
+use Rattle.list_loops.specs.Changing.{remove, room, append, insert, extend}
+use Rattle.list_texts.specs.Splitting.{part, join, split}
+use Rattle.list_texts.specs.Arguments.{arguments}
 
 -- a list or a string that is made of others
 abbrev pub made : Layout → Listed → Found → LlGraph × Found

@@ -3,12 +3,12 @@ ghost use Rattle.std.specs.Prelude.{◌≡◌, IfOk};
 ghost use Rattle.rtyper_data.specs.Seen.{Asks};
 ghost use Rattle.list_helpers.specs.Listing as spec;
 
-use crate::arguments::arguments;
-use crate::change::{append, extend, insert, remove, room};
-use crate::loops::{contains, copy_items, move_up, place, reverse, truth};
-use crate::make::{but_last, concat, make, repeat, slice};
-use crate::splits::{join, part, split};
+use list_loops::{
+    append, but_last, concat, contains, copy_items, extend, insert, make, move_up, place, remove,
+    repeat, reverse, room, slice, truth,
+};
 use list_shape::shape_of;
+use list_texts::{arguments, join, part, split};
 use ll_code::LlGraph;
 use rpy_base::NoMem;
 use rpy_tree::ClassId;

@@ -4,6 +4,7 @@ use crate::known::{Known, is_block_reached, is_reached, variable_kind};
 use ann_element::Annotation;
 use flow_graph::{Block, Exit, Graph, Op};
 use rpy_meaning::RowOp;
+use rtyper_data::NOTHING;
 use rtyper_layout::{Kind, is_text};
 
 // `int` of a string raises.

@@ -1,7 +1,7 @@
 // The list of the program's arguments.
 ghost use Rattle.std.specs.Prelude.{◌≡◌, ◌++◌, IfOk, OnOk};
 ghost use Rattle.rtyper_data.specs.Seen.{Asks};
-ghost use Rattle.list_helpers.specs.Arguments as spec;
+ghost use Rattle.list_texts.specs.Arguments as spec;
 
 use csub_tree::COperand::Var;
 use csub_tree::{CBinary, CUnary};

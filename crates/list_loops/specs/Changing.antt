@@ -14,7 +14,7 @@ use Rattle.rtyper_data.specs.declared.small.Listed.TheVariants.{Copy, MoveUp, Ro
 use Rattle.rtyper_data.specs.Converting.{default_operand}
 use Rattle.list_shape.specs.declared.shape.Shape.{Shape}
 use Rattle.list_shape.specs.Shapes.{length_read, array_read, length_set, number_of, taking}
-use Rattle.list_helpers.specs.Making.{three}
+use Rattle.list_loops.specs.Making.{three}
 
 -- ---- the item at a place is taken out, and the later ones move down; the place behind the last holds nothing
 

@@ -27,8 +27,11 @@ use Rattle.rtyper_data.specs.Graphs.{body_of}
 use Rattle.rtyper_data.specs.Seen.{fresh, with_op, Writing, writing, push}
 use Rattle.rtyper_data.specs.Tuples.{variable_of}
 use Rattle.list_shape.specs.declared.shape.Shape.{Shape}
-use Rattle.list_helpers.specs.Making.{three}
 use Rattle.list_shape.specs.Shapes.{length_read, array_read, new_by, number_of, taking, gives}
+
+-- what a graph of three variables passes on
+abbrev pub three : List COperand
+three = Var 0 ∷ Var 1 ∷ Var 2 ∷ []
 
 -- ---- a part of a string, which costs nothing: short ones are statics
 

@@ -1,7 +1,7 @@
 // Lists that are made: all is paid before.
 ghost use Rattle.std.specs.Prelude.{◌≡◌, ◌++◌, IfOk, OnOk};
 ghost use Rattle.rtyper_data.specs.Seen.{Asks};
-ghost use Rattle.list_helpers.specs.Making as spec;
+ghost use Rattle.list_loops.specs.Making as spec;
 
 use csub_tree::COperand::Var;
 use csub_tree::{CBinary, COperand};

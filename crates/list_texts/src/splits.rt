@@ -1,9 +1,8 @@
 // Strings out of lists, and lists out of strings. All is paid before the first block is made.
 ghost use Rattle.std.specs.Prelude.{◌≡◌, IfOk};
 ghost use Rattle.rtyper_data.specs.Seen.{writing, Asks, Gives};
-ghost use Rattle.list_helpers.specs.Splitting as spec;
+ghost use Rattle.list_texts.specs.Splitting as spec;
 
-use crate::make::THREE;
 use csub_tree::COperand::Var;
 use csub_tree::{CBinary, CCell, CConst, COperand, CUnary};
 use list_shape::{ONE, Shape, ZERO, array, gives, length, number_of};
@@ -16,6 +15,8 @@ use rpy_base::{NoMem, Seq};
 use rtyper_data::{Body, Found, Listed, helper_number, static_of, value_as, variable_of};
 use rtyper_layout::Layout;
 use std::alloc::Global;
+
+const THREE: [COperand; 3] = [Var(0), Var(1), Var(2)];
 
 const SIGNED: LlType = LlType::Signed;
 

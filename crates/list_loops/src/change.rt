@@ -1,7 +1,7 @@
 // Lists that change in their place.
 ghost use Rattle.std.specs.Prelude.{◌≡◌, IfOk};
 ghost use Rattle.rtyper_data.specs.Seen.{Asks};
-ghost use Rattle.list_helpers.specs.Changing as spec;
+ghost use Rattle.list_loops.specs.Changing as spec;
 
 use crate::make::THREE;
 use csub_tree::CBinary;

@@ -1,7 +1,7 @@
 // The loops over arrays. None of them pays a step.
 ghost use Rattle.std.specs.Prelude.{◌≡◌, IfOk, OnOk};
 ghost use Rattle.rtyper_data.specs.Seen.{writing, Asks, Gives, Leaves};
-ghost use Rattle.list_helpers.specs.Loops as spec;
+ghost use Rattle.list_loops.specs.Loops as spec;
 
 use csub_tree::COperand::Var;
 use csub_tree::{CBinary, COperand};

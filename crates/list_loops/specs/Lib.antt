@@ -1,0 +1,3 @@
+pub mod Changing
+pub mod Loops
+pub mod Making
