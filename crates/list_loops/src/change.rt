@@ -3,7 +3,7 @@ ghost use Rattle.std.specs.Prelude.{◌≡◌, IfOk};
 ghost use Rattle.rtyper_data.specs.Seen.{Asks};
 ghost use Rattle.list_loops.specs.Changing as spec;
 
-use crate::make::THREE;
+use crate::making::THREE;
 use csub_tree::CBinary;
 use csub_tree::COperand::Var;
 use list_shape::{ONE, Shape, ZERO, array, length, number_of, set_length};

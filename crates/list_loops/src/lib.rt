@@ -3,8 +3,8 @@
 
 mod change;
 mod loops;
-mod make;
+mod making;
 
 pub use change::{append, extend, insert, remove, room};
 pub use loops::{contains, copy_items, move_up, place, reverse, truth};
-pub use make::{but_last, concat, make, repeat, slice};
+pub use making::{but_last, concat, make, repeat, slice};

@@ -1,8 +1,8 @@
 //! The graphs of `join` and `split`, of parts of strings, and of the list of a program's arguments.
 #![tactic(auto)]
 
-mod arguments;
+mod argument_list;
 mod splits;
 
-pub use arguments::arguments;
+pub use argument_list::arguments;
 pub use splits::{join, part, split};
