@@ -48,12 +48,7 @@ fn nodes_in(alloc: Global, first: u64, f: &Function) -> Result<Nodes, NoMem>
     })
 }
 
-fn add_method(
-    alloc: Global,
-    first: u64,
-    member: &Member,
-    all: &mut Seq<Nodes>,
-) -> Result<(), NoMem>
+fn add_method(alloc: Global, first: u64, member: &Member, all: &mut Seq<Nodes>) -> Result<(), NoMem>
     ensures { OnOk result (all.new ≡ spec.with_method first (out-Member member.now) all.old) }
 {
     match member {
@@ -76,12 +71,7 @@ fn add_methods(
     Ok(())
 }
 
-fn add_member(
-    alloc: Global,
-    first: u64,
-    member: &Member,
-    all: &mut Seq<Nodes>,
-) -> Result<(), NoMem>
+fn add_member(alloc: Global, first: u64, member: &Member, all: &mut Seq<Nodes>) -> Result<(), NoMem>
     ensures { OnOk result (all.new ≡ spec.with_member first (out-Member member.now) all.old) }
 {
     match member {
