@@ -2,14 +2,13 @@
 use Rattle.std.proofs.Common.{◌≡◌, ℕ, zero, suc, Bool, true, false, List, [], ◌∷◌, ◌++◌, map, replicate, Option, Some, None, refl, sym, ap, ◌∙◌, subst}
 use Rattle.std.specs.Prelude.{◌||◌, if◌then◌else◌, option_map}
 use Rattle.std.specs.Str.{bytes_eq}
-use Rattle.std.specs.Bool.{Decides}
 use Rattle.std.proofs.lemmas.Slice.Eq.{bytes_eq-Decides}
 use Rattle.rpy_tree.specs.declared.syntax.Expr.{Expr, roll-Expr, fold-roll-Expr, map-Expr, ind-Expr}
 use Rattle.rpy_tree.specs.declared.syntax.Expr.TheFolds.{fold-roll-Target, map-Target, ind-Target}
 use Rattle.rpy_tree.specs.declared.syntax.Expr.TheOpen.{Expr-F, Target-F}
 use Rattle.rpy_tree.specs.declared.syntax.Target.{Target, roll-Target}
 use Rattle.rpy_tree.specs.declared.syntax.Stmt.{Stmt, roll-Stmt, fold-roll-Stmt, map-Stmt, ind-Stmt}
-use Rattle.rpy_tree.specs.declared.syntax.Stmt.TheFolds.{fold-roll-Clause, map-Clause, ind-Clause}
+use Rattle.rpy_tree.specs.declared.syntax.Stmt.TheFolds.{fold-roll-Clause, map-Clause}
 use Rattle.rpy_tree.specs.declared.syntax.Stmt.TheOpen.{Stmt-F, Clause-F}
 use Rattle.rpy_tree.specs.declared.syntax.Clause.{Clause, roll-Clause}
 use Rattle.rpy_tree.specs.declared.syntax.Param.{Param}

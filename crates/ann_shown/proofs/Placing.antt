@@ -1,13 +1,12 @@
 -- A cell among those of rows is among those of one row.
-use Rattle.std.proofs.Common.{◌≡◌, ◌<◌, ℕ, zero, suc, ◌+◌, Bool, true, false, List, [], ◌∷◌, ◌++◌, length, get_or, drop, slice_get, Option, Some, None, refl, sym, ap, ◌∙◌, arith, drop-cons}
+use Rattle.std.proofs.Common.{◌≡◌, ◌<◌, ℕ, suc, ◌+◌, Bool, true, false, List, [], ◌∷◌, ◌++◌, length, get_or, drop, slice_get, Option, Some, None, refl, sym, ap, ◌∙◌, arith, drop-cons}
 use Rattle.std.specs.Prelude.{◌==◌, ◌||◌, unwrap_or, is_some, IfSome}
 use Rattle.std.proofs.lemmas.Option.{slice_get-get_or}
 use Rattle.flow_graph.specs.declared.graph.Graph.{Graph}
 use Rattle.flow_graph.specs.declared.graph.Block.{Block}
 use Rattle.ann_rules.specs.Program.{Whole}
-use Rattle.ann_needs.specs.View.{row_of}
 use Rattle.ann_places.specs.Spots.{among, row_cells, named_cells, all_named_cells, op_cells, block_cells, graph_cells}
-use Rattle.ann_shown.specs.Place.{names_of, ops_of, blocks_of, first}
+use Rattle.ann_shown.specs.Place.{ops_of, blocks_of, first}
 use Rattle.ann_shown.specs.declared.place.Place.{Place}
 
 -- ---- lists

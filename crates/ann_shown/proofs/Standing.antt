@@ -2,9 +2,8 @@
 use Rattle.std.proofs.Common.{◌≡◌, ◌<◌, ℕ, zero, suc, ◌+◌, Bool, true, false, List, [], ◌∷◌, ◌++◌, length, map, get_or, slice_get, sum, Option, Some, None, refl, sym, ap, ◌∙◌, subst, arith}
 use Rattle.std.specs.Prelude.{◌||◌, if◌then◌else◌, unwrap_or, option_map, is_some}
 use Rattle.std.specs.Str.{bytes_eq}
-use Rattle.std.proofs.lemmas.Option.{slice_get_within, slice_get-get_or}
+use Rattle.std.proofs.lemmas.Option.{slice_get_within}
 use Rattle.std.proofs.lemmas.List.{length-map}
-use Rattle.rpy_tree.specs.declared.syntax.Param.{Param}
 use Rattle.rpy_tree.specs.declared.syntax.Function.{Function}
 use Rattle.rpy_tree.specs.declared.syntax.Member.{Member, out-Member}
 use Rattle.rpy_tree.specs.declared.syntax.Member.TheOpen.{Member-F}

@@ -1,5 +1,5 @@
 -- What was found is told.
-use Rattle.std.proofs.Common.{◌≡◌, ℕ, List, map, slice_get, Option, Some, None, refl, sym, ap, ◌∙◌, subst}
+use Rattle.std.proofs.Common.{◌≡◌, ℕ, List, map, slice_get, Some, refl, sym, subst}
 use Rattle.rpy_tree.specs.declared.program.Program.{Program}
 use Rattle.flow_graph.specs.declared.graph.Op.{Op}
 use Rattle.flow_graph.specs.declared.graph.Block.{Block}

@@ -1,5 +1,5 @@
 -- How a conflict is told: by the place where it stands and the elements of its operands.
-use Rattle.std.specs.Prelude.{◌≡◌, ◌<◌, ◌⊎◌, ℕ, true, List, [], ◌∷◌, length, map, slice_get, Option, option_map, Some, None}
+use Rattle.std.specs.Prelude.{◌≡◌, ◌<◌, ◌⊎◌, ℕ, true, List, [], ◌∷◌, length, map, slice_get, Option, option_map, Some}
 use Rattle.rpy_tree.specs.declared.program.Program.{Program}
 use Rattle.class_desc.specs.Tables.{tables}
 use Rattle.flow_graph.specs.declared.graph.Op.{Op}
@@ -10,7 +10,7 @@ use Rattle.ann_element.specs.declared.element.Element.{Element}
 use Rattle.ann_element.specs.declared.annotation.SpotKind.{SpotKind}
 use Rattle.ann_element.specs.declared.annotation.SpotKind.TheVariants as spot
 use Rattle.ann_lattice.specs.Shape.{Shape, Nothing, shape}
-use Rattle.ann_lattice.specs.Kind.{misfit, some_clash}
+use Rattle.ann_lattice.specs.Kind.{some_clash}
 use Rattle.ann_lattice.specs.Laws.{named}
 use Rattle.ann_lattice.specs.Assign.{Assignment, Up}
 use Rattle.ann_rules.specs.Program.{Whole}

@@ -1,4 +1,4 @@
-use Rattle.std.proofs.Common.{◌≡◌, ◌++◌, drop, take, map}
+use Rattle.std.proofs.Common.{◌≡◌, drop}
 use Rattle.ann_shown.specs.Functions as spec
 use Rattle.ann_shown.proofs.functions.add_members.Given as goal
 
