@@ -1,13 +1,17 @@
 -- What growing came to is the least that is closed and free, or shows that there is none.
-use Rattle.std.proofs.Common.{◌≡◌, ◌<◌, ◌≤◌, ℕ, zero, suc, Bool, true, false, List, length, get_or, replicate, Ok, Err, refl, sym, ap, ◌∙◌, subst, ◌⊎◌, inl, inr, arith}
+use Rattle.std.proofs.Common.{◌≡◌, ◌<◌, ◌≤◌, ℕ, zero, suc, ◌+◌, ◌^◌, Bool, true, false, List, [], ◌∷◌, ◌++◌, length, get_or, replicate, Ok, Err, refl, sym, ap, ◌∙◌, subst, ◌⊎◌, inl, inr, arith}
 use Rattle.std.specs.Prelude.{◌==◌, ◌||◌}
-use Rattle.std.proofs.lemmas.List.{length-replicate, get_or_past}
+use Rattle.std.proofs.lemmas.List.{length-append, length-replicate, get_or_past}
+use Rattle.std.proofs.lemmas.Bool.Decides.{Decides-eqb}
+use Rattle.rpy_tree.specs.declared.program.ClassInfo.{ClassInfo}
 use Rattle.rpy_tree.specs.declared.program.Program.{Program}
 use Rattle.flow_graph.specs.declared.graph.Graphs.{Graphs}
 use Rattle.class_desc.specs.Tables.{Tables}
+use Rattle.ann_element.specs.Sites.{alone, below, leader}
 use Rattle.ann_lattice.specs.Shape.{Nothing}
 use Rattle.ann_lattice.specs.Join.{is_clash}
-use Rattle.ann_lattice.specs.Assign.{Assignment, Grown, begin, at, Free}
+use Rattle.ann_lattice.specs.Assign.{Assignment, Rules, Grown, begin, step, at, Free, IsTable}
+use Rattle.ann_lattice.proofs.Tables.{meet_table}
 use Rattle.ann_laws.specs.Rows.{HasClasses}
 use Rattle.ann_laws.proofs.Pairs.{no}
 use Rattle.ann_rules.specs.Rules.{rules}
@@ -16,8 +20,9 @@ use Rattle.ann_grown.proofs.Meeting.{grown_cells, partial_grown, partial_first, 
 use Rattle.ann_grown.proofs.Naming.{partial_named, free_named}
 use Rattle.ann_meets.specs.Steps.{spots_in, FirstAt, Stopped}
 use Rattle.ann_meets.specs.declared.stop.Stop.{Stop}
+use Rattle.ann_meets.specs.declared.stop.Stop.TheVariants as stop
 use Rattle.ann_states.specs.Marked.{AreSpots}
-use Rattle.ann_shown.specs.Told.{IsTold, IsMet}
+use Rattle.ann_shown.specs.Told.{HasLeaders, IsTold, IsMet}
 use Rattle.ann_shown.specs.declared.told.Told.{Told}
 use Rattle.ann_shown.proofs.Rowing.{of_row}
 use Rattle.ann_needs.specs.View.{nowhere, whole}
@@ -116,6 +121,54 @@ module _ (p : Program) (q : Planned) (marks : List Bool) (h : AreSpots q.plan q.
       let at_stop : FirstAt (whole q.plan) (spots_in marks) (spec.begin p q) b e =
       f (spec.begin p q) (subst (partial.IsGrown (whole q.plan) (spots_in marks) (spec.begin p q)) (sym is) (begins p q (spots_in marks))) in
       met_at b t.0 told (first_at b t.0 (subst (FirstAt (whole q.plan) (spots_in marks) (spec.begin p q) b) t.1.0 at_stop)) t.1.1
+
+-- ---- a conflict can be told
+
+length_below : (n : ℕ) → length (below n) ≡ n
+length_below zero = refl
+length_below (suc n) =
+    let all : length (below n ++ n ∷ []) ≡ length (below n) + 1 = length-append (below n) (n ∷ []) in omega (arith, length_below n, all)
+
+module _ (k : List ClassInfo) (rules : Rules) (start : Assignment) (n : ℕ) (table : IsTable n start.same) where
+  still_table : (a : Assignment) → Grown k rules start a → IsTable n a.same
+  still_table _ begin = table
+  still_table _ (step a r g) = meet_table n k (rules r a) a (still_table a g)
+
+or_either : (a b : Bool) → (a || b) ≡ true → (a ≡ true) ⊎ (b ≡ true)
+or_either true b e = inl refl
+or_either false b e = inr e
+
+module _ (p : Program) (q : Planned) (b : Assignment) (grown : Grown q.plan.classes.classes (rules (whole q.plan)) (spec.begin p q) b) where
+  leaders : HasLeaders p b.same
+  leaders = record {
+    within = λ lt s.
+        let table = still_table q.plan.classes.classes (rules (whole q.plan)) (spec.begin p q) (length (alone p.sites)) (alone_table p.sites lt) b grown in
+        subst (λ (n : ℕ). leader b.same s < n) (length_below (length p.sites)) (table.sites s);
+  }
+
+  -- a conflict stands in a cell that there is
+  not_nowhere : (c : ℕ) → q.cells < 2 ^ 64 → is_clash (at b c) ≡ true → c ≡ nowhere → ⊥
+  not_nowhere c fits clash e =
+      no (sym (ap is_clash (get_or_past b.cells c Nothing (past (length b.cells) (cells_there p q b grown)))) ∙ clash)
+    where
+      past : (n : ℕ) → n ≡ q.cells → n ≤ c
+      past n is = omega (arith, fits, e, is)
+
+module _ (p : Program) (q : Planned) (marks : List Bool) (h : AreSpots q.plan q.cells marks) (a : Assignment) (is : a ≡ spec.begin p q) where
+  tellable_at : (b : Assignment) (c : ℕ) → q.cells < 2 ^ 64 → partial.IsFirst (whole q.plan) (spots_in marks) (spec.begin p q) b c → spec.IsTellable p q b (stop.Conflict c)
+  tellable_at b c fits f = (by_mark (or_either (c == nowhere) (get_or marks c false) f.spot), leaders p q b grown)
+    where
+      grown : Grown q.plan.classes.classes (rules (whole q.plan)) (spec.begin p q) b
+      grown = subst (Grown q.plan.classes.classes (rules (whole q.plan)) (spec.begin p q)) (sym f.step) (step f.before f.rule f.grown.grown)
+
+      by_mark : ((c == nowhere) ≡ true) ⊎ (get_or marks c false ≡ true) → among c (spot_cells q.plan) ≡ true
+      by_mark (inl e) = absurd (not_nowhere p q b grown c fits f.clash ((Decides-eqb c nowhere).0 e))
+      by_mark (inr e) = h.only c e
+
+  pub tellable : (b : Assignment) (e : Stop) → q.cells < 2 ^ 64 → Stopped (whole q.plan) (spots_in marks) a b e → spec.IsTellable p q b e
+  tellable b stop.NoMem fits f = tt
+  tellable b (stop.Conflict c) fits f =
+      tellable_at b c fits (f (spec.begin p q) (subst (partial.IsGrown (whole q.plan) (spots_in marks) (spec.begin p q)) (sym is) (begins p q (spots_in marks))))
 
 -- ---- one sweep more
 

@@ -12,14 +12,14 @@ use Rattle.ann_needs.specs.View.{assignment, whole}
 use Rattle.ann_needs.specs.declared.state.State.{State}
 use Rattle.ann_layout.specs.Layout.{planned}
 use Rattle.ann_layout.specs.declared.layout.Planned.{Planned}
-use Rattle.ann_places.specs.Spots.{spots, empty, start}
+use Rattle.ann_places.specs.Spots.{among, spot_cells, spots, empty, start}
 use Rattle.ann_settled.specs.Read.{annotation}
 use Rattle.ann_settled.specs.Nodes.{AreNodes}
 use Rattle.ann_settled.specs.declared.settle.Unsettled.{Unsettled}
 use Rattle.ann_settled.specs.declared.settle.Unsettled.TheVariants as unsettled
 use Rattle.ann_meets.specs.declared.stop.Stop.{Stop}
 use Rattle.ann_meets.specs.declared.stop.Stop.TheVariants as stop
-use Rattle.ann_shown.specs.Told.{IsTold, IsMet}
+use Rattle.ann_shown.specs.Told.{HasLeaders, IsTold, IsMet}
 
 -- each cell and each mark is there
 abbrev pub is_complete : Planned → State → Bool
@@ -69,6 +69,11 @@ Settles q free a s = (start : Assignment) → partial.IsGrown (whole q.plan) fre
 abbrev pub Tells : Program → Planned → Assignment → Stop → Unsettled → Type 0
 Tells p q a e (unsettled.Conflict t) = (c : ℕ) × ((e ≡ stop.Conflict c) × IsTold p (whole q.plan) a c t)
 Tells p q a e unsettled.NoMem = Unit {0}
+
+-- what telling it rests on: it stands in the cell of a part or of the result of an operation, and the least site of each class is a site
+abbrev pub IsTellable : Program → Planned → Assignment → Stop → Type 0
+IsTellable p q a (stop.Conflict c) = (among c (spot_cells q.plan) ≡ true) × HasLeaders p a.same
+IsTellable p q a stop.NoMem = Unit {0}
 
 -- closed and free, and below each that is; or none is, and growing meets the conflict that is told
 abbrev pub Ends : Program → Planned → Result State Unsettled → Type 0

@@ -2,6 +2,7 @@
 ghost use Rattle.std.specs.Prelude.{◌≡◌, true, false, IfErr, IfOk, OnOk};
 ghost use Rattle.ann_needs.specs.View.{assignment, whole};
 ghost use Rattle.ann_meets.specs.Steps.{spots_in, Stopped};
+ghost use Rattle.ann_shown.specs.Told.{IsPlanOf};
 ghost use Rattle.ann_settled.specs.Settled as spec;
 
 use crate::node::nodes_of;
@@ -104,24 +105,28 @@ fn why_stopped(
     s: &State,
     stop: Stop,
 ) -> Unsettled
+    requires plan { IsPlanOf program.now planned.now.plan }
+    requires tellable { spec.IsTellable program.now planned.now (assignment s.now) stop }
     ensures { spec.Tells program.now planned.now (assignment s.now) stop result }
 {
     match stop {
         Stop::NoMem => Unsettled::NoMem,
         Stop::Conflict(cell) => match tell(alloc, program, &planned.plan, s, cell) {
-            Ok(Some(told)) => Unsettled::Conflict(told),
-            _ => Unsettled::NoMem,
+            Ok(told) => Unsettled::Conflict(told),
+            Err(NoMem) => Unsettled::NoMem,
         },
     }
 }
 
 #[tactic(auto, using(crate::proofs::Ending::stopped))]
 fn settle(alloc: Global, program: &Program, planned: &Planned) -> Result<State, Unsettled>
+    requires { IsPlanOf program.now planned.now.plan }
     ensures { spec.Ends program.now planned.now result }
 {
-    let spots = spots_of(alloc, &planned.plan, planned.cells)?;
-    let mut work = Work::new(alloc, &planned.plan, planned.cells, planned.marks)?;
-    let mut s = nothing_reached(alloc, program, planned.cells, planned.marks)?;
+    let cells = planned.cells;
+    let spots = spots_of(alloc, &planned.plan, cells)?;
+    let mut work = Work::new(alloc, &planned.plan, cells, planned.marks)?;
+    let mut s = nothing_reached(alloc, program, cells, planned.marks)?;
     match grow(alloc, planned, &spots, &mut s, &mut work) {
         Ok(()) => Ok(s),
         Err(stop) => Err(why_stopped(alloc, program, planned, &s, stop)),
@@ -140,6 +145,7 @@ fn read_out(alloc: Global, planned: &Planned, s: State) -> Result<Annotation, No
 /// The least annotation that is closed under all that the graphs of a planned program ask and free of
 /// conflict. Or there is none, with the first conflict that growing meets.
 pub fn close(alloc: Global, program: &Program, planned: &Planned) -> Result<Annotation, Unsettled>
+    requires { IsPlanOf program.now planned.now.plan }
     ensures { spec.Closes program.now planned.now result }
 {
     let s = settle(alloc, program, planned)?;

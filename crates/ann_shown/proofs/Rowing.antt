@@ -1,6 +1,6 @@
 -- A conflict of a row is one for the operands behind the step.
 use Rattle.std.proofs.Common.{◌≡◌, ◌≢◌, ℕ, Bool, true, false, List, [], ◌∷◌, ◌++◌, map, refl, sym, ap, ◌∙◌, subst, ◌⊎◌, inl, inr, arith}
-use Rattle.std.specs.Prelude.{◌||◌, not, if◌then◌else◌}
+use Rattle.std.specs.Prelude.{◌||◌, if◌then◌else◌}
 use Rattle.rpy_tree.specs.declared.program.ClassInfo.{ClassInfo}
 use Rattle.rpy_meaning.specs.declared.row.RowOp.{RowOp}
 use Rattle.rpy_meaning.specs.declared.row.RowOp.TheVariants as op
@@ -9,7 +9,7 @@ use Rattle.ann_lattice.specs.Shape.{Shape, Nothing, Clash}
 use Rattle.ann_lattice.specs.Join.{is_clash}
 use Rattle.ann_lattice.specs.Kind.{misfit, is_nothing, some_nothing, some_clash}
 use Rattle.ann_lattice.specs.Row.{pieces, fitting}
-use Rattle.ann_lattice.specs.Assign.{Assignment, at, Need, Up, meet}
+use Rattle.ann_lattice.specs.Assign.{Assignment, at, Up, meet}
 use Rattle.ann_laws.proofs.Pairs.{no}
 use Rattle.ann_rules.specs.Program.{Whole}
 use Rattle.ann_rules.specs.Asks.{parts}

@@ -1,5 +1,5 @@
 -- What was found is told.
-use Rattle.std.proofs.Common.{◌≡◌, ℕ, List, map, slice_get, Option, Some, None, refl, sym, ap, ◌∙◌, subst}
+use Rattle.std.proofs.Common.{◌≡◌, ℕ, List, map, slice_get, Some, refl, sym, subst}
 use Rattle.rpy_tree.specs.declared.program.Program.{Program}
 use Rattle.flow_graph.specs.declared.graph.Op.{Op}
 use Rattle.flow_graph.specs.declared.graph.Block.{Block}
@@ -12,7 +12,7 @@ use Rattle.ann_lattice.specs.Laws.{named}
 use Rattle.ann_lattice.specs.Assign.{Assignment}
 use Rattle.ann_rules.specs.Program.{Whole}
 use Rattle.rpy_kinds.specs.Places.{kind_at}
-use Rattle.ann_shown.specs.Params.{param_node}
+use Rattle.ann_shown.specs.Functions.{function_node, param_node}
 use Rattle.ann_shown.specs.Operands.{operands, in_text}
 use Rattle.ann_shown.specs.Told as spec
 use Rattle.ann_shown.specs.declared.told.Told.{Told}
@@ -21,7 +21,7 @@ module _ (p : Program) (q : Whole) (a : Assignment) (c : ℕ) (t : Told) where
   pub param_told : (f i node : ℕ) → t ≡ spec.part_told node spot.Param → q.places.param f i ≡ c → Some node ≡ param_node p f i → spec.IsTold p q a c t
   param_told f i node e cell n = subst (spec.IsTold p q a c) (sym e) (refl, record { function = f; place = i; cell = cell; node = n })
 
-  pub result_told : (f node : ℕ) → t ≡ spec.part_told node spot.Result → q.places.result f ≡ c → Some node ≡ spec.function_node p f → spec.IsTold p q a c t
+  pub result_told : (f node : ℕ) → t ≡ spec.part_told node spot.Result → q.places.result f ≡ c → Some node ≡ function_node p f → spec.IsTold p q a c t
   result_told f node e cell n = subst (spec.IsTold p q a c) (sym e) (refl, record { function = f; cell = cell; node = n })
 
   pub attribute_told : (h node : ℕ) (name : List ℕ) → t ≡ spec.part_told node (spot.Attr name) → q.places.attribute h name ≡ c → Some node ≡ spec.class_node p h → spec.IsTold p q a c t

@@ -1,3 +1,4 @@
-pub mod Params
+pub mod Functions
+pub mod Place
 pub mod Operands
 pub mod Told

@@ -1,6 +1,7 @@
 -- How a conflict is told: by the place where it stands and the elements of its operands.
-use Rattle.std.specs.Prelude.{◌≡◌, ◌⊎◌, ℕ, true, List, [], ◌∷◌, map, slice_get, Option, option_map, Some, None}
+use Rattle.std.specs.Prelude.{◌≡◌, ◌<◌, ◌⊎◌, ℕ, true, List, [], ◌∷◌, length, map, slice_get, Option, option_map, Some}
 use Rattle.rpy_tree.specs.declared.program.Program.{Program}
+use Rattle.class_desc.specs.Tables.{tables}
 use Rattle.flow_graph.specs.declared.graph.Op.{Op}
 use Rattle.flow_graph.specs.declared.graph.Block.{Block}
 use Rattle.flow_graph.specs.declared.graph.Graph.{Graph}
@@ -9,7 +10,7 @@ use Rattle.ann_element.specs.declared.element.Element.{Element}
 use Rattle.ann_element.specs.declared.annotation.SpotKind.{SpotKind}
 use Rattle.ann_element.specs.declared.annotation.SpotKind.TheVariants as spot
 use Rattle.ann_lattice.specs.Shape.{Shape, Nothing, shape}
-use Rattle.ann_lattice.specs.Kind.{misfit, some_clash}
+use Rattle.ann_lattice.specs.Kind.{some_clash}
 use Rattle.ann_lattice.specs.Laws.{named}
 use Rattle.ann_lattice.specs.Assign.{Assignment, Up}
 use Rattle.ann_rules.specs.Program.{Whole}
@@ -17,19 +18,17 @@ use Rattle.ann_rules.specs.Asks.{parts}
 use Rattle.ann_rules.specs.Rules as rule
 use Rattle.ann_needs.specs.View.{whole}
 use Rattle.ann_needs.specs.declared.plan.Plan.{Plan}
+use Rattle.ann_layout.specs.Layout.{plan}
 use Rattle.ann_places.specs.Spots.{spots}
 use Rattle.ann_grown.specs.Partial.{IsFirst}
 use Rattle.rpy_kinds.specs.Places.{kind_at}
-use Rattle.ann_shown.specs.Params.{param_node}
+use Rattle.ann_shown.specs.Functions.{function_node, param_node}
 use Rattle.ann_shown.specs.Operands.{operands, in_text}
 use Rattle.ann_shown.specs.declared.told.Told.{Told}
 
 -- ---- parts
 
 module _ (p : Program) where
-  abbrev pub function_node : ℕ → Option ℕ
-  function_node f = option_map (λ i. i.node) (slice_get p.functions f)
-
   abbrev pub class_node : ℕ → Option ℕ
   class_node c = option_map (λ i. i.node) (slice_get p.classes c)
 
@@ -64,6 +63,16 @@ pub record IsKey (p : Program) (q : Whole) (a : Assignment) (c n : ℕ) : Type 0
   pub site : ℕ
   pub cell : q.places.key site ≡ c
   pub node : Some n ≡ site_node p (leader a.same site)
+
+-- ---- what telling rests on
+
+-- the plan is that of the program with its classes, by some graphs
+pub record IsPlanOf (p : Program) (q : Plan) : Type 0 where
+  pub is : q ≡ plan p q.graphs (tables p)
+
+-- the least site of each class is a site
+pub record HasLeaders (p : Program) (same : List ℕ) : Type 0 where
+  pub within : 0 < length p.sites → (s : ℕ) → leader same s < length p.sites
 
 -- ---- operations
 

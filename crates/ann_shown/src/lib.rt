@@ -1,9 +1,9 @@
 //! How a conflict is told: where it stands, and the elements of its operands in the order of the text.
 #![tactic(auto)]
 
+mod functions;
 mod laws;
 mod operands;
-mod params;
 mod place;
 mod showing;
 mod told;

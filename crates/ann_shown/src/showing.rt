@@ -1,15 +1,17 @@
 // A conflict in a cell is told.
-ghost use Rattle.std.specs.Prelude.{◌≡◌, slice_get, map, IfOk, IfSome};
+ghost use Rattle.std.specs.Prelude.{◌≡◌, ◌<◌, true, length, map, IfOk};
 ghost use Rattle.ann_lattice.specs.Shape.{shape};
 ghost use Rattle.ann_lattice.specs.Laws.{named};
 ghost use Rattle.rpy_kinds.specs.Places.{kind_at};
 ghost use Rattle.ann_needs.specs.View.{assignment, whole};
-ghost use Rattle.ann_shown.specs.Params as params;
+ghost use Rattle.ann_places.specs.Spots.{among, spot_cells};
+ghost use Rattle.ann_shown.specs.Place.{IsPlace};
+ghost use Rattle.ann_shown.specs.declared.place.Place.TheVariants as place;
 ghost use Rattle.ann_shown.specs.Operands as operands;
 ghost use Rattle.ann_shown.specs.Told as spec;
 
+use crate::functions::{function_node, param_node};
 use crate::operands::{in_text, operands_of};
-use crate::params::param_nodes;
 use crate::place::{Place, place_of};
 use crate::told::Told;
 use ann_element::{Element, Spot, SpotKind};
@@ -18,7 +20,7 @@ use ann_states::all_named;
 use flow_graph::Op;
 use rpy_base::{NoMem, Seq, Text};
 use rpy_kinds::kind_at as kind_of;
-use rpy_tree::{ClassId, FunId, NodeId, Program, SiteId};
+use rpy_tree::{NodeId, Program, SiteId};
 use std::alloc::Global;
 
 // ---- parts
@@ -42,59 +44,53 @@ fn narrow(node: u64) -> Result<NodeId, NoMem>
     }
 }
 
-fn node_at(nodes: &[Seq<u64>], f: FunId, at: usize) -> Option<u64>
-    ensures { result ≡ params.node_at (slice_get nodes.now f) at }
+fn narrow_site(site: usize) -> Result<SiteId, NoMem>
+    ensures { IfOk result (λ narrowed. narrowed ≡ site) }
 {
-    match nodes.get(f as usize) {
-        None => None,
-        Some(row) => match row.get(at) {
-            None => None,
-            Some(node) => Some(*node),
-        },
-    }
+    narrow(site as u64)
 }
 
-fn param_node(alloc: Global, program: &Program, f: FunId, at: usize) -> Result<Option<u64>, NoMem>
-    ensures { IfOk result (λ node. node ≡ params.param_node program.now f at) }
-{
-    let nodes = param_nodes(alloc, program)?;
-    Ok(node_at(nodes.as_slice(), f, at))
-}
-
-#[tactic(auto, using(crate::proofs::Telling::param_told))]
 fn tell_param(
     alloc: Global,
     program: &Program,
     p: &Plan,
     s: &State,
     cell: usize,
-    f: FunId,
+    f: usize,
     at: usize,
-) -> Result<Option<Told>, NoMem>
-    ensures { IfOk result (λ told. IfSome told (λ t. spec.IsTold program.now (whole p.now) (assignment s.now) cell t)) }
+) -> Result<Told, NoMem>
+    requires plan { spec.IsPlanOf program.now p.now }
+    requires place { IsPlace p.now cell (place.Param f at) }
+    ensures { IfOk result (λ t. spec.IsTold program.now (whole p.now) (assignment s.now) cell t) }
 {
-    if p.param(f, at) != cell {
-        return Ok(None);
-    }
     match param_node(alloc, program, f, at)? {
-        None => Ok(None),
-        Some(node) => Ok(Some(part_told(alloc, narrow(node)?, SpotKind::Param))),
+        None => unreachable!(),
+        Some(node) => Ok(part_told(alloc, narrow(node)?, SpotKind::Param)),
     }
 }
 
-fn function_node(program: &Program, f: FunId) -> Option<NodeId>
-    ensures { result ≡ spec.function_node program.now f }
+fn tell_result(
+    alloc: Global,
+    program: &Program,
+    p: &Plan,
+    s: &State,
+    cell: usize,
+    f: usize,
+) -> Result<Told, NoMem>
+    requires plan { spec.IsPlanOf program.now p.now }
+    requires place { IsPlace p.now cell (place.Result f) }
+    ensures { IfOk result (λ t. spec.IsTold program.now (whole p.now) (assignment s.now) cell t) }
 {
-    match program.functions.get(f as usize) {
-        None => None,
-        Some(info) => Some(info.node),
+    match function_node(alloc, program, f)? {
+        None => unreachable!(),
+        Some(node) => Ok(part_told(alloc, narrow(node)?, SpotKind::Result)),
     }
 }
 
-fn class_node(program: &Program, class: ClassId) -> Option<NodeId>
+fn class_node(program: &Program, class: usize) -> Option<NodeId>
     ensures { result ≡ spec.class_node program.now class }
 {
-    match program.classes.get(class as usize) {
+    match program.classes.get(class) {
         None => None,
         Some(info) => Some(info.node),
     }
@@ -109,107 +105,85 @@ fn site_node(program: &Program, site: SiteId) -> Option<NodeId>
     }
 }
 
-#[tactic(auto, using(crate::proofs::Telling::result_told))]
-fn tell_result(
+fn tell_named(
     alloc: Global,
     program: &Program,
     p: &Plan,
     s: &State,
     cell: usize,
-    f: FunId,
-) -> Option<Told>
-    ensures { IfSome result (λ t. spec.IsTold program.now (whole p.now) (assignment s.now) cell t) }
+    class: usize,
+    name: &Text,
+) -> Result<Told, NoMem>
+    requires class { class < length program.now.classes }
+    requires place { (whole p.now).places.attribute class name.now ≡ cell }
+    ensures { IfOk result (λ t. spec.IsTold program.now (whole p.now) (assignment s.now) cell t) }
 {
-    if p.result(f) != cell {
-        return None;
-    }
-    match function_node(program, f) {
-        None => None,
-        Some(node) => Some(part_told(alloc, node, SpotKind::Result)),
+    match class_node(program, class) {
+        None => unreachable!(),
+        Some(node) => {
+            let copy = name.copy(alloc)?;
+            Ok(part_told(alloc, node, SpotKind::Attr(copy)))
+        }
     }
 }
 
-#[tactic(auto, using(crate::proofs::Telling::attribute_told))]
 fn tell_attribute(
     alloc: Global,
     program: &Program,
     p: &Plan,
     s: &State,
     cell: usize,
-    class: ClassId,
-    name: &Text,
-) -> Result<Option<Told>, NoMem>
-    ensures { IfOk result (λ told. IfSome told (λ t. spec.IsTold program.now (whole p.now) (assignment s.now) cell t)) }
-{
-    if p.attribute(class, name) != cell {
-        return Ok(None);
-    }
-    match class_node(program, class) {
-        None => Ok(None),
-        Some(node) => {
-            let copy = name.copy(alloc)?;
-            Ok(Some(part_told(alloc, node, SpotKind::Attr(copy))))
-        }
-    }
-}
-
-fn tell_entry(
-    alloc: Global,
-    program: &Program,
-    p: &Plan,
-    s: &State,
-    cell: usize,
-    class: ClassId,
+    class: usize,
     at: usize,
-) -> Result<Option<Told>, NoMem>
-    ensures { IfOk result (λ told. IfSome told (λ t. spec.IsTold program.now (whole p.now) (assignment s.now) cell t)) }
+) -> Result<Told, NoMem>
+    requires plan { spec.IsPlanOf program.now p.now }
+    requires place { IsPlace p.now cell (place.Attribute class at) }
+    ensures { IfOk result (λ t. spec.IsTold program.now (whole p.now) (assignment s.now) cell t) }
 {
-    match p.places.attributes.get(class as usize) {
-        None => Ok(None),
+    match p.places.attributes.get(class) {
+        None => unreachable!(),
         Some(row) => match row.get(at) {
-            None => Ok(None),
-            Some(entry) => tell_attribute(alloc, program, p, s, cell, class, &entry.0),
+            None => unreachable!(),
+            Some(entry) => tell_named(alloc, program, p, s, cell, class, &entry.0),
         },
     }
 }
 
-#[tactic(auto, using(crate::proofs::Telling::item_told))]
 fn tell_item(
     alloc: Global,
     program: &Program,
     p: &Plan,
     s: &State,
     cell: usize,
-    site: SiteId,
-) -> Option<Told>
-    ensures { IfSome result (λ t. spec.IsTold program.now (whole p.now) (assignment s.now) cell t) }
+    site: usize,
+) -> Result<Told, NoMem>
+    requires plan { spec.IsPlanOf program.now p.now }
+    requires leaders { spec.HasLeaders program.now (assignment s.now).same }
+    requires place { IsPlace p.now cell (place.Item site) }
+    ensures { IfOk result (λ t. spec.IsTold program.now (whole p.now) (assignment s.now) cell t) }
 {
-    if p.item(site) != cell {
-        return None;
-    }
-    match site_node(program, s.same.leader(site)) {
-        None => None,
-        Some(node) => Some(part_told(alloc, node, SpotKind::Items)),
+    match site_node(program, s.same.leader(narrow_site(site)?)) {
+        None => unreachable!(),
+        Some(node) => Ok(part_told(alloc, node, SpotKind::Items)),
     }
 }
 
-#[tactic(auto, using(crate::proofs::Telling::key_told))]
 fn tell_key(
     alloc: Global,
     program: &Program,
     p: &Plan,
     s: &State,
     cell: usize,
-    site: SiteId,
-) -> Option<Told>
-    ensures { IfSome result (λ t. spec.IsTold program.now (whole p.now) (assignment s.now) cell t) }
+    site: usize,
+) -> Result<Told, NoMem>
+    requires plan { spec.IsPlanOf program.now p.now }
+    requires leaders { spec.HasLeaders program.now (assignment s.now).same }
+    requires place { IsPlace p.now cell (place.Key site) }
+    ensures { IfOk result (λ t. spec.IsTold program.now (whole p.now) (assignment s.now) cell t) }
 {
-    if p.key(site) != cell {
-        return None;
-    }
-    match site_node(program, s.same.leader(site)) {
-        None => None,
-        Some(node) => Some(part_told(alloc, node, SpotKind::Keys)),
+    match site_node(program, s.same.leader(narrow_site(site)?)) {
+        None => unreachable!(),
+        Some(node) => Ok(part_told(alloc, node, SpotKind::Keys)),
     }
 }
 
@@ -253,21 +227,19 @@ fn tell_op(
     g: usize,
     number: usize,
     at: usize,
-) -> Result<Option<Told>, NoMem>
-    ensures { IfOk result (λ told. IfSome told (λ t. spec.IsTold program.now (whole p.now) (assignment s.now) cell t)) }
+) -> Result<Told, NoMem>
+    requires { IsPlace p.now cell (place.Op g number at) }
+    ensures { IfOk result (λ t. spec.IsTold program.now (whole p.now) (assignment s.now) cell t) }
 {
     match p.graphs.graphs.get(g) {
-        None => Ok(None),
+        None => unreachable!(),
         Some(graph) => match graph.blocks.get(number) {
-            None => Ok(None),
+            None => unreachable!(),
             Some(block) => match block.ops.get(at) {
-                None => Ok(None),
+                None => unreachable!(),
                 Some(op) => {
-                    if p.variable(g, op.result) != cell {
-                        return Ok(None);
-                    }
                     let operands = told_operands(alloc, program, p, s, g, op)?;
-                    Ok(Some(op_told(op.node, operands)))
+                    Ok(op_told(op.node, operands))
                 }
             },
         },
@@ -282,33 +254,39 @@ fn tell_at(
     p: &Plan,
     s: &State,
     cell: usize,
-    place: Place,
-) -> Result<Option<Told>, NoMem>
-    ensures { IfOk result (λ told. IfSome told (λ t. spec.IsTold program.now (whole p.now) (assignment s.now) cell t)) }
+    found: Place,
+) -> Result<Told, NoMem>
+    requires plan { spec.IsPlanOf program.now p.now }
+    requires leaders { spec.HasLeaders program.now (assignment s.now).same }
+    requires place { IsPlace p.now cell found }
+    ensures { IfOk result (λ t. spec.IsTold program.now (whole p.now) (assignment s.now) cell t) }
 {
-    match place {
+    match found {
         Place::Param(f, at) => tell_param(alloc, program, p, s, cell, f, at),
-        Place::Result(f) => Ok(tell_result(alloc, program, p, s, cell, f)),
-        Place::Attribute(class, at) => tell_entry(alloc, program, p, s, cell, class, at),
-        Place::Item(site) => Ok(tell_item(alloc, program, p, s, cell, site)),
-        Place::Key(site) => Ok(tell_key(alloc, program, p, s, cell, site)),
+        Place::Result(f) => tell_result(alloc, program, p, s, cell, f),
+        Place::Attribute(class, at) => tell_attribute(alloc, program, p, s, cell, class, at),
+        Place::Item(site) => tell_item(alloc, program, p, s, cell, site),
+        Place::Key(site) => tell_key(alloc, program, p, s, cell, site),
         Place::Op(g, number, at) => tell_op(alloc, program, p, s, cell, g, number, at),
     }
 }
 
 /// A conflict in a cell as it is told: by the part that the cell is of, or by the node of an operation and
-/// the elements of its operands. A cell of neither is not told.
+/// the elements of its operands.
 pub fn tell(
     alloc: Global,
     program: &Program,
     p: &Plan,
     s: &State,
     cell: usize,
-) -> Result<Option<Told>, NoMem>
-    ensures { IfOk result (λ told. IfSome told (λ t. spec.IsTold program.now (whole p.now) (assignment s.now) cell t)) }
+) -> Result<Told, NoMem>
+    requires plan { spec.IsPlanOf program.now p.now }
+    requires leaders { spec.HasLeaders program.now (assignment s.now).same }
+    requires spot { among cell (spot_cells p.now) ≡ true }
+    ensures { IfOk result (λ t. spec.IsTold program.now (whole p.now) (assignment s.now) cell t) }
 {
     match place_of(p, cell) {
-        None => Ok(None),
-        Some(place) => tell_at(alloc, program, p, s, cell, place),
+        None => unreachable!(),
+        Some(found) => tell_at(alloc, program, p, s, cell, found),
     }
 }

@@ -6,8 +6,9 @@ use Rattle.flow_graph.specs.Whole.{Covers}
 use Rattle.flow_space.specs.Placed.{StandFor}
 use Rattle.class_desc.specs.Tables.{Tables, tables}
 use Rattle.ann_element.specs.declared.annotation.Annotation.{Annotation}
-use Rattle.ann_layout.specs.Layout.{planned}
+use Rattle.ann_layout.specs.Layout.{plan, planned}
 use Rattle.ann_layout.specs.declared.layout.Planned.{Planned}
+use Rattle.ann_shown.specs.Told.{IsPlanOf}
 use Rattle.ann_settled.specs.Settled as settled
 use Rattle.ann_settled.proofs.Ending.{basis}
 use Rattle.rtyper_core.specs.Typing.{Tells}
@@ -16,6 +17,14 @@ use Rattle.rtyper_core.specs.declared.fault.TypeFault.TheVariants as typing
 use Rattle.rpy_checked.specs.declared.fault.CheckFault.{CheckFault}
 use Rattle.rpy_checked.specs.declared.fault.CheckFault.TheVariants as fault
 use Rattle.rpy_checked.specs.Settles as spec
+
+-- ---- the plan is that of the program
+
+pub is_plan : (p : Program) (gs : Graphs) (t : Tables) (q : Planned) → t ≡ tables p → q ≡ planned p gs t → IsPlanOf p q.plan
+is_plan p gs t q e f = record { is = ap (λ (r : Planned). r.plan) is ∙ ap (λ (r : Planned). plan p r.plan.graphs (tables p)) (sym is) }
+  where
+    is : q ≡ planned p gs (tables p)
+    is = subst (λ u. q ≡ planned p gs u) e f
 
 module _ (p : Program) (gs : Graphs) (covers : Covers p gs) (stand : StandFor p gs) where
   -- ---- an annotation was found

@@ -2,6 +2,7 @@
 ghost use Rattle.std.specs.Prelude.{◌≡◌, ◌++◌, IfOk, OnOk};
 ghost use Rattle.std.specs.List.{flat_map};
 ghost use Rattle.flow_graph.specs.Whole.{Covers};
+ghost use Rattle.ann_shown.specs.Told.{IsPlanOf};
 ghost use Rattle.rpy_checked.specs.Settles as spec;
 ghost use Rattle.rpy_checked.specs.Words as words;
 
@@ -152,6 +153,7 @@ fn untyped(program: &Program, fault: TypeFault) -> CheckFault
 // ---- the whole
 
 fn annotated(alloc: Global, program: &Program, planned: &Planned) -> Result<Annotation, CheckFault>
+    requires { IsPlanOf program.now planned.now.plan }
     ensures { spec.Annotates program.now planned.now result }
 {
     match close(alloc, program, planned) {

@@ -1,8 +1,7 @@
-use Rattle.std.proofs.Common.{◌≡◌, ◌++◌, drop, take, map}
+use Rattle.std.proofs.Common.{◌≡◌, take, map}
 use Rattle.ann_lattice.specs.Shape.{shape}
 use Rattle.ann_rules.specs.Rules.{value}
 use Rattle.ann_needs.specs.View.{assignment, whole}
-use Rattle.ann_shown.specs.Operands as spec
 use Rattle.ann_shown.proofs.operands.operands_of.Given as goal
 
 abbrev pub invariant-loop-v : goal.invariant-loop-v

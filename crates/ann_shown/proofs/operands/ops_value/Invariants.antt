@@ -1,6 +1,4 @@
-use Rattle.std.proofs.Common.{◌≡◌, ◌++◌, drop, take, map}
-use Rattle.ann_lattice.specs.Shape.{shape}
-use Rattle.ann_rules.specs.Rules.{value}
+use Rattle.std.proofs.Common.{◌≡◌, drop}
 use Rattle.ann_needs.specs.View.{assignment, whole}
 use Rattle.ann_shown.specs.Operands as spec
 use Rattle.ann_shown.proofs.operands.ops_value.Given as goal

@@ -1,7 +1,10 @@
 use Rattle.std.proofs.Common.{subst, sym, Ok}
 use Rattle.rpy_checked.specs.Settles as spec
-use Rattle.rpy_checked.proofs.Settling.{types, faults, refused}
+use Rattle.rpy_checked.proofs.Settling.{is_plan, types, faults, refused}
 use Rattle.rpy_checked.proofs.program.check.Goals as goal
+
+pub annotated-requires : goal.annotated-requires
+annotated-requires c = is_plan c.args.program.now c.in_ok-graphs.graphs c.in_ok-classes.classes c.in_ok-planned.planned c.in_ok-classes.ensures c.in_ok-planned.ensures
 
 pub returns-in-Err-clause-checks : goal.returns-in-Err-clause-checks
 returns-in-Err-clause-checks c =

@@ -1,6 +1,6 @@
-use Rattle.std.proofs.Common.{◌≡◌, ◌++◌, drop, take, map}
-use Rattle.ann_shown.specs.Params as spec
-use Rattle.ann_shown.proofs.params.add_members.Given as goal
+use Rattle.std.proofs.Common.{◌≡◌, drop}
+use Rattle.ann_shown.specs.Functions as spec
+use Rattle.ann_shown.proofs.functions.add_members.Given as goal
 
 abbrev pub invariant-loop-member : goal.invariant-loop-member
 invariant-loop-member l = spec.with_members l.first (drop l.member-index l.members) l.all ≡ spec.with_members l.first l.members l.fn.all

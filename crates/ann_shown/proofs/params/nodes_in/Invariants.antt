@@ -1,6 +1,0 @@
-use Rattle.std.proofs.Common.{◌≡◌, ◌++◌, drop, take, map}
-use Rattle.ann_shown.specs.Params as spec
-use Rattle.ann_shown.proofs.params.nodes_in.Given as goal
-
-abbrev pub invariant-loop-param : goal.invariant-loop-param
-invariant-loop-param l = l.nodes ≡ map (spec.node_in l.first) (take l.param-index l.f.params)
