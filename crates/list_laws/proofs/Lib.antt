@@ -1,0 +1,11 @@
+pub mod Blocks
+pub mod Indexed
+pub mod Lengths
+pub mod Lowered
+pub mod Passing
+pub mod Places
+pub mod Present
+pub mod There
+pub mod Valued
+pub mod Variables
+pub mod Walked

@@ -1,0 +1,149 @@
+-- Walks over lists: whether they go on, and the item that they have come to.
+use Rattle.std.proofs.Common.{◌≡◌, ◌<◌, ◌≤◌, ℕ, ◌+◌, ◌^◌, ◌⊎◌, inl, inr, Bool, true, false, List, [], ◌∷◌, ◌++◌, length, Option, Some, None, Ok, ℤ, pos, negsuc, refl, sym, ap, ◌∙◌, subst, arith, append_assoc, length-append}
+use Rattle.std.specs.Prelude.{slice_get, nat_lt}
+use Rattle.std.proofs.lemmas.List.{length-set}
+use Rattle.ann_element.specs.declared.element.Element.{Element}
+use Rattle.csub_tree.specs.State.{Value, Word, Flag, Core}
+use Rattle.csub_tree.specs.Operation.{is_unset, binary_of}
+use Rattle.csub_tree.specs.Statement.{read, operand}
+use Rattle.csub_tree.specs.declared.tree.CBinary.TheVariants as binary
+use Rattle.csub_tree.specs.declared.tree.COperand.TheVariants.{Var}
+use Rattle.rpy_tree.specs.Value.{Value as Meant, Word as MeantWord, Flag as MeantFlag, Ref, Nothing}
+use Rattle.rpy_meaning.specs.declared.row.Covers.{Covers}
+use Rattle.rpy_meaning.specs.declared.row.RowOp.TheVariants as row
+use Rattle.rpy_meaning.specs.Operations.{op as meant_op}
+use Rattle.rpy_meaning.specs.Tree.{Program}
+use Rattle.rpy_meaning.specs.World.{World, Answer, Gives, Bad, on_list, flag, if_some, bad, give}
+use Rattle.ll_code.specs.State.{Frame, State, At}
+use Rattle.ll_code.specs.declared.program.LlType.{LlType}
+use Rattle.ll_code.specs.declared.program.LlType.TheVariants as type
+use Rattle.ll_code.specs.declared.program.LlOp.{LlOp}
+use Rattle.ll_code.specs.declared.program.LlOp.TheVariants as op
+use Rattle.ll_code.specs.declared.program.LlExit.{LlExit}
+use Rattle.ll_code.specs.declared.program.LlProgram.{LlProgram}
+use Rattle.ll_leads.specs.Path.{Leads}
+use Rattle.ll_leads.proofs.Ways.{on, gives}
+use Rattle.ll_texts.specs.Texts.{found}
+use Rattle.rtyper_layout.specs.declared.kind.Kind.TheVariants as kind
+use Rattle.rtyper_layout.specs.Kinds.{kind_seen}
+use Rattle.rtyper_layout.specs.Layout.{is_list}
+use Rattle.rtyper_layout.specs.Types.{word, type_of as element_type}
+use Rattle.rtyper_data.specs.Lowering.{never_comes}
+use Rattle.rtyper_data.specs.Numbers.{give_binary}
+use Rattle.rtyper_data.specs.Seen.{Around, Operand, Place, kind_of, type_of, type_at, Writing, writing}
+use Rattle.list_shape.specs.Shapes.{item_of, shape_of}
+use Rattle.rtyper_list.specs.Items.{shape_in, has_item, below, length_in, walk_item, walked}
+use Rattle.rtyper_list.specs.Lowering.{lowered, of_some, first_of_two, lower_list_op}
+use Rattle.rtyper_list.specs.Operands.{of_list, list_of, pointed, array_in, read_item}
+use Rattle.lower_laws.specs.Values.{AllBelow, is_plain}
+use Rattle.lower_laws.proofs.Doing.{after, sets_place}
+use Rattle.lower_laws.proofs.Items.{gives_same}
+use Rattle.lower_laws.proofs.Single.{sets}
+use Rattle.lower_laws.proofs.Stayed.{field_is}
+use Rattle.lower_laws.proofs.Typing.{place_of_flags}
+use Rattle.list_laws.specs.Done.{Follows, HasLists, IsDone}
+use Rattle.list_laws.specs.Ghost.{Ghost}
+use Rattle.list_laws.specs.Lists.{Stays, IsList, WalksGoOn, WalksGive}
+use Rattle.list_laws.specs.Represents.{Represents, ListAt, head_block, array_block}
+use Rattle.list_laws.specs.Values.{Given, Holds, Plain, Stands, flag as a_flag}
+use Rattle.list_laws.proofs.Blocks.{found_set, reads_field, reads_item}
+use Rattle.list_laws.proofs.Indexed.{three_behind}
+use Rattle.list_laws.proofs.Lengths.{HeadShape, HeadFound}
+use Rattle.list_laws.proofs.Lowered.{list_comes, two_come, first_of_two_is_list}
+use Rattle.list_laws.proofs.Passing.{sets_more, sets_last, is_set_at, is_kept_at, operand_kept}
+use Rattle.list_laws.proofs.Valued.{Listing, Absent, list_or_none, word_held, stays_typed, stays_there, stays_held, held_set, each_at}
+use Rattle.list_laws.proofs.Variables.{InVariable, in_variable}
+
+two_behind : {A : Type 0} (xs ys : List A) (a b : A) → ((xs ++ ys) ++ a ∷ []) ++ b ∷ [] ≡ xs ++ (ys ++ a ∷ b ∷ [])
+two_behind xs ys a b = append_assoc (xs ++ ys) (a ∷ []) (b ∷ []) ∙ append_assoc xs ys (a ∷ b ∷ [])
+
+-- ---- whether it goes on
+
+module _ (kept : ℕ → Option Element) (around : Around) (place : Place) (a b : Operand) (w : Writing) (covers : Covers) (lists : of_list (kind_of a) ≡ true) (words : kind_of b ≡ kind.Word) (flags : kind_seen place.element ≡ kind.Flag) where
+  held : InVariable (type_of around a) a.x w.body
+  held = in_variable (type_of around a) a.x w.body
+
+  abbrev n : ℕ
+  n = list_of around a
+
+  abbrev m : ℕ
+  m = length (w.body.types ++ held.new)
+
+  abbrev reads : LlOp
+  reads = op.GetField m n held.x 0
+
+  abbrev tests : LlOp
+  tests = op.Binary place.variable binary.Lt b.x (Var m)
+
+  ht : type_at around place ≡ type.Bool
+  ht = place_of_flags around.layout place.element flags
+
+  is_written : lower_list_op around (row.HasItem None) place (a ∷ b ∷ []) w ≡ writing w.found (record { types = (w.body.types ++ held.new) ++ type.Signed ∷ []; ops = ((w.body.ops ++ held.ops) ++ reads ∷ []) ++ tests ∷ [] })
+  unfolding lowered of_some first_of_two has_item give_binary
+  is_written =
+      two_come around (row.HasItem None) place a b w (list_comes a lists) (ap never_comes words)
+      ∙ first_of_two_is_list around (row.HasItem None) place a b w lists
+      ∙ ap (λ made. below around place b.x w.found (length_in (shape_in around a) made)) held.written
+      ∙ sets_place around place type.Bool (λ v. op.Binary v binary.Lt b.x (Var m)) (writing w.found (record { types = (w.body.types ++ held.new) ++ type.Signed ∷ []; ops = (w.body.ops ++ held.ops) ++ reads ∷ [] })) ht
+
+  module _ (program : Program) (p : LlProgram) (raised : ℕ → Value) (arguments : List (List ℕ)) (rest : List LlOp) (e : LlExit) (frames : List Frame) (core : Core) (g : Ghost) (world : World)
+      (structs : HasLists p around.layout) (stands : Represents around.layout kept g world.heap world.left core.blocks core.statics) (left : world.left ≡ core.steps)
+      (room : length w.body.types + length (held.new ++ type.Signed ∷ []) ≤ length core.vars) (inside : place.variable < length w.body.types) (under : AllBelow (length w.body.types) (a ∷ b ∷ [])) where
+    abbrev Done : Answer → Type 0
+    Done answer = Follows kept around place p arguments (At (held.ops ++ (reads ∷ tests ∷ rest)) e frames core) rest e frames core g raised 2 (length w.body.types) world answer
+
+    long : length (held.new ++ type.Signed ∷ []) ≡ length held.new + 1
+    long = length-append held.new (type.Signed ∷ [])
+
+    m_is : m ≡ length w.body.types + length held.new
+    m_is = length-append w.body.types held.new
+
+    there : (v : Meant) (i : ℕ) → operand core.vars b.x ≡ Word (pos i) → Listing around.layout g a.element (operand core.vars a.x) v → Done (meant_op program covers (row.HasItem None) (v ∷ MeantWord (pos i) ∷ []) world)
+    unfolding list_of
+    there v i low it =
+        let x : Value = operand core.vars a.x in
+        let l = stands.lists it.n it.i x it.home it.struct in
+        let count : ℕ = length l.items in
+        let t : Bool = nat_lt i count in
+        let above : meant_op program covers (row.HasItem None) (v ∷ MeantWord (pos i) ∷ []) world ≡ Gives (MeantFlag t) world = ap (λ v. meant_op program covers (row.HasItem None) (v ∷ MeantWord (pos i) ∷ []) world) it.high ∙ ap (λ o. on_list (λ vs. flag (nat_lt i (length vs))) o world) l.object in
+        let number : it.n ≡ n = ap pointed (sym it.typed) in
+        let went = held.enters p arguments (reads ∷ tests ∷ rest) e frames core (omega (arith, room, long)) (found_set core.blocks core.statics x _ l.head_is) in
+        let mid : Core = went.mid in
+        let wide : m < length mid.vars = (let r = went.passed.room in omega (arith, room, long, m_is, r)) in
+        let shape = subst (λ k. HeadShape p k) number (structs.heads it.n it.struct) in
+        let block_there = subst (λ (c : Core). HeadFound c (read mid.vars held.x) it.n count l.array) (sym went.passed.memory) (subst (λ y. HeadFound core y it.n count l.array) (sym went.is) l.head_is) in
+        let reads_it : Leads p arguments 0 (At (reads ∷ tests ∷ rest) e frames mid) [] (At (tests ∷ rest) e frames (after mid m (Word (pos count)))) =
+        reads_field 2 (head_block it.n count l.array) (Word (pos count)) shape block_there number refl 0 refl in
+        let middle : Core = after mid m (Word (pos count)) in
+        let passed = sets_more m (Word (pos count)) (omega (arith, m_is)) went.passed in
+        let tested = ap (λ y. binary_of binary.Lt y (read middle.vars m)) (operand_kept passed b.x under.1.0 ∙ low) ∙ ap (λ y. binary_of binary.Lt (Word (pos i)) y) (is_set_at mid m (Word (pos count)) wide) in
+        let holds : Holds around.layout g place.element (Flag t) (MeantFlag t) = Plain (ap is_plain flags) (subst (λ k. Stands g k (Flag t) (MeantFlag t)) (sym ht) (a_flag t)) in
+        subst Done (sym above) (sets_last 2 (length w.body.types) middle (Flag t) (MeantFlag t) stands left passed (omega (arith, room, inside)) (on went.way (on reads_it (gives (Flag t) tested))) holds)
+
+    either : (v : Meant) (z : ℤ) → operand core.vars b.x ≡ Word z → Listing around.layout g a.element (operand core.vars a.x) v ⊎ Absent a.element (operand core.vars a.x) v → Done (meant_op program covers (row.HasItem None) (v ∷ MeantWord z ∷ []) world)
+    either v (pos i) low (inl it) = there v i low it
+    either v (negsuc i) low (inl it) = subst (λ v. Done (meant_op program covers (row.HasItem None) (v ∷ MeantWord (negsuc i) ∷ []) world)) (sym it.high) tt
+    either v (pos i) low (inr gone) = subst (λ v. Done (meant_op program covers (row.HasItem None) (v ∷ MeantWord (pos i) ∷ []) world)) (sym gone.high) tt
+    either v (negsuc i) low (inr gone) = subst (λ v. Done (meant_op program covers (row.HasItem None) (v ∷ MeantWord (negsuc i) ∷ []) world)) (sym gone.high) tt
+
+    follow : (vs : List Meant) → Given around g core (a ∷ b ∷ []) vs → Follows kept around place p arguments (At ((held.ops ++ (reads ∷ tests ∷ [])) ++ rest) e frames core) rest e frames core g raised 2 (length w.body.types) world (meant_op program covers (row.HasItem None) vs world)
+    follow [] given = absurd given
+    follow (v ∷ []) given = absurd given.1
+    follow (v ∷ u ∷ []) given =
+        let y = word_held words given.1.0 in
+        subst (λ l. Follows kept around place p arguments (At l e frames core) rest e frames core g raised 2 (length w.body.types) world (meant_op program covers (row.HasItem None) (v ∷ u ∷ []) world)) (sym (append_assoc held.ops (reads ∷ tests ∷ []) rest))
+        (subst (λ u. Done (meant_op program covers (row.HasItem None) (v ∷ u ∷ []) world)) (sym y.high) (either v y.number y.low (list_or_none lists given.0)))
+    follow (v ∷ u ∷ s ∷ vs) given = absurd given.1.1
+
+  pub has_item_done : IsDone kept around (row.HasItem None) covers [] place (a ∷ b ∷ []) w
+  has_item_done = record {
+    ops = held.ops ++ (reads ∷ tests ∷ []);
+    new = held.new ++ type.Signed ∷ [];
+    asked = ap (λ (r : Writing). r.found) is_written;
+    written = ap (λ (r : Writing). r.body.ops) is_written ∙ two_behind w.body.ops held.ops reads tests;
+    types = ap (λ (r : Writing). r.body.types) is_written ∙ append_assoc w.body.types held.new (type.Signed ∷ []);
+    follows = λ program p numbers raised arguments rest e frames core g world vs texts structs has stands left room inside under given. follow program p raised arguments rest e frames core g world structs stands left room inside under vs given;
+  }
+
+pub walks_go_on : WalksGoOn
+walks_go_on kept around place a b w covers lists words flags = has_item_done kept around place a b w covers lists words flags

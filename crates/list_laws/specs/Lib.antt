@@ -1,0 +1,6 @@
+pub mod Asked
+pub mod Done
+pub mod Ghost
+pub mod Lists
+pub mod Represents
+pub mod Values

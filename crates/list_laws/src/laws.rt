@@ -1,0 +1,18 @@
+// Laws of operations on lists as they are lowered.
+ghost use Rattle.list_laws.specs.Lists.{ItemsAreRead, LengthsAreRead, WalksGive, WalksGoOn};
+
+/// The length of a list; where the list may be missing, `None` fails, or raises.
+pub fn lengths_are_read()
+    ensures { LengthsAreRead }
+{}
+
+/// The item at an index, which counts from the end where it is below zero; outside it fails, or raises.
+pub fn items_are_read()
+    ensures { ItemsAreRead }
+{}
+
+/// Whether a walk over a list goes on, as the list is then, and the item that it has come to.
+pub fn walks_are_done()
+    ensures on { WalksGoOn }
+    ensures item { WalksGive }
+{}

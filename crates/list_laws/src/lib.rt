@@ -1,0 +1,7 @@
+//! Operations on lists do what they are in the meaning of programs once they are lowered: in every low-level program,
+//! over every memory that represents the heap, whatever comes behind them in their block and whatever waits.
+#![tactic(auto)]
+
+mod laws;
+
+pub use laws::{items_are_read, lengths_are_read, walks_are_done};
