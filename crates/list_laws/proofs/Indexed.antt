@@ -63,6 +63,7 @@ use Rattle.list_laws.specs.Lists.{Stays, IsList, if_missing, there_asks, ItemsAr
 use Rattle.list_laws.specs.Represents.{Represents, ListAt, head_block, array_block}
 use Rattle.list_laws.specs.Values.{Given, Holds}
 use Rattle.list_laws.proofs.Blocks.{found_set, found_there, reads_field, reads_item}
+use Rattle.list_laws.proofs.Fetched.{fetched}
 use Rattle.list_laws.proofs.Lengths.{HeadShape, HeadFound, count_fits}
 use Rattle.list_laws.proofs.Lowered.{list_comes, two_come, first_of_two_is_list}
 use Rattle.list_laws.proofs.Passing.{Pays, none_passed, sets_more, sets_last, is_set_at, is_kept_at, operand_kept, behind, calls_at, throws_at, fails_at}
@@ -246,26 +247,14 @@ module _ (kept : ℕ → Option Element) (around : Around) (place : Place) (a b 
     gives_item : (k : ℕ) (v : Meant) → slice_get here.items k ≡ Some v → PlaceGoes p around.layout arguments raised n number core head here.array count (structs.heads n struct) here.head_is few w.found.covered.index z (Some k)
         → Follows kept around place p arguments There rest e frames core g raised 2 (length w.body.types) world (Gives v world)
     gives_item k v found_item comes =
-        let it = each_at here.spare k v here.each found_item in
-        let held : Holds around.layout g (Some item) it.value v = subst (λ seen. Holds around.layout g seen it.value v) of.known it.held in
-        let value_set : is_unset it.value ≡ false = held_set stands held in
         let core1 : Core = after core m1 (Word (pos k)) in
-        let core2 : Core = after core1 m2 here.array in
-        let core3 : Core = after core2 m3 it.value in
-        let long1 : length core1.vars ≡ length core.vars = length-set core.vars m1 (Word (pos k)) in
-        let long2 : length core2.vars ≡ length core.vars = length-set core1.vars m2 here.array ∙ long1 in
+        let long : length core1.vars ≡ length core.vars = length-set core.vars m1 (Word (pos k)) in
         let head_at : read core1.vars ent.x ≡ head = is_kept_at core m1 ent.x (Word (pos k)) (λ q. omega (arith, before, q)) ∙ at in
-        let array_at : read core2.vars m2 ≡ here.array = is_set_at core1 m2 here.array (omega (arith, room, long1, m2_is)) in
-        let place_at : read core2.vars m1 ≡ Word (pos k) = is_kept_at core1 m2 m1 here.array (λ q. omega (arith, m2_is, q)) ∙ is_set_at core m1 (Word (pos k)) (omega (arith, room)) in
-        let value_at : read core3.vars m3 ≡ it.value = is_set_at core2 m3 it.value (omega (arith, room, long2, m3_is)) in
-        let way1 : Leads p arguments 0 There [] (At (gets_array ∷ gets_item ∷ puts ∷ rest) e frames core1) = calls_at same set comes in
-        let way2 : Leads p arguments 0 (At (gets_array ∷ gets_item ∷ puts ∷ rest) e frames core1) [] (At (gets_item ∷ puts ∷ rest) e frames core2) =
-        reads_field 2 (head_block n count here.array) here.array (structs.heads n struct) (subst (λ y. HeadFound core y n count here.array) (sym head_at) here.head_is) refl (found_set core.blocks core.statics here.array _ here.array_is) 1 refl in
-        let way3 : Leads p arguments 0 (At (gets_item ∷ puts ∷ rest) e frames core2) [] (At (puts ∷ rest) e frames core3) =
-        reads_item 1 (array_block n (here.values ++ here.spare)) it.value (structs.arrays n struct) (subst (λ y. found core.blocks core.statics y ≡ Some (array_block n (here.values ++ here.spare))) (sym array_at) here.array_is) refl value_set k place_at it.inside it.low in
-        sets_last 2 (length w.body.types) core3 it.value v stands left
+        let it = fetched structs struct stands here ent.x m2 m3 (Var m1) k v head_at (is_set_at core m1 (Word (pos k)) (omega (arith, room))) (omega (arith, m2_is)) (omega (arith, m2_is, m3_is)) (omega (arith, room, long, m3_is)) found_item in
+        let held : Holds around.layout g (Some item) it.value v = subst (λ seen. Holds around.layout g seen it.value v) of.known it.held in
+        sets_last 2 (length w.body.types) (after (after core1 m2 here.array) m3 it.value) it.value v stands left
         (sets_more m3 it.value (omega (arith, types_before, m3_is)) (sets_more m2 here.array (omega (arith, types_before, m2_is)) (sets_more m1 (Word (pos k)) types_before none_passed))) (omega (arith, inside, types_before, room))
-        (on way1 (on way2 (on way3 (sets it.value value_at value_set)))) (stays_held stay held)
+        (on (calls_at same set comes) (on it.way (sets it.value it.is it.set))) (stays_held stay held)
 
     outside_of : (c : Bool) → PlaceGoes p around.layout arguments raised n number core head here.array count (structs.heads n struct) here.head_is few c z None
         → Follows kept around place p arguments There rest e frames core g raised 2 (length w.body.types) world (failure c 6 fail.Index world)

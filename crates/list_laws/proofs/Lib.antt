@@ -1,4 +1,5 @@
 pub mod Blocks
+pub mod Fetched
 pub mod Indexed
 pub mod Lengths
 pub mod Lowered
