@@ -82,7 +82,7 @@ number_covers s found = by (small_from 0 found.smalls s)
     by (Some n) = refl
     by None = refl
 
-there_covers : (around : Around) (a : Operand) (found : Found) → (all_asked (there_asks around a found.covered) found).covered ≡ found.covered
+pub there_covers : (around : Around) (a : Operand) (found : Found) → (all_asked (there_asks around a found.covered) found).covered ≡ found.covered
 there_covers around a found = by (of_list_or_none (kind_of a))
   where
     by : (c : Bool) → (all_asked (if_missing c (type_of around a) found.covered) found).covered ≡ found.covered
@@ -115,7 +115,7 @@ inside_some [] k h e = omega (arith, h)
 inside_some (x ∷ xs) zero h e = absurd (cc)
 inside_some (x ∷ xs) (suc k) h e = inside_some xs k (omega (arith, h)) e
 
-place_inside : (z : ℤ) (n k : ℕ) → meant_place z n ≡ Some k → k < n
+pub place_inside : (z : ℤ) (n k : ℕ) → meant_place z n ≡ Some k → k < n
 place_inside (pos i) n k e = by (nat_lt i n) refl e
   where
     by : (c : Bool) → nat_lt i n ≡ c → (if c then Some i else None) ≡ Some k → k < n

@@ -1,12 +1,16 @@
 pub mod Blocks
+pub mod Changing
 pub mod Fetched
+pub mod Growing
 pub mod Indexed
 pub mod Lengths
 pub mod Lowered
 pub mod Passing
 pub mod Places
 pub mod Present
+pub mod Stored
 pub mod There
 pub mod Valued
 pub mod Variables
 pub mod Walked
+pub mod Writing

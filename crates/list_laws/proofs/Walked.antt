@@ -57,7 +57,7 @@ use Rattle.list_laws.proofs.Passing.{sets_more, sets_last, is_set_at, is_kept_at
 use Rattle.list_laws.proofs.Valued.{Listing, Absent, list_or_none, word_held, stays_typed, stays_there, stays_held, held_set, each_at}
 use Rattle.list_laws.proofs.Variables.{InVariable, in_variable}
 
-two_behind : {A : Type 0} (xs ys : List A) (a b : A) → ((xs ++ ys) ++ a ∷ []) ++ b ∷ [] ≡ xs ++ (ys ++ a ∷ b ∷ [])
+pub two_behind : {A : Type 0} (xs ys : List A) (a b : A) → ((xs ++ ys) ++ a ∷ []) ++ b ∷ [] ≡ xs ++ (ys ++ a ∷ b ∷ [])
 two_behind xs ys a b = append_assoc (xs ++ ys) (a ∷ []) (b ∷ []) ∙ append_assoc xs ys (a ∷ b ∷ [])
 
 list_same : {xs ys : List Meant} → Some (ListedObject xs) ≡ Some (ListedObject ys) → xs ≡ ys

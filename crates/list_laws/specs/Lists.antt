@@ -59,6 +59,11 @@ abbrev pub WalksGive : Type 0
 WalksGive = (kept : ℕ → Option Element) (around : Around) (place : Place) (a b : Operand) (w : Writing) (covers : Covers) (n : ℕ) (item : Element) → IsList around kept a.element n item → kind_of b ≡ kind.Word → Stays around.layout (Some item) place.element
     → IsDone kept around (row.Item None) covers [] place (a ∷ b ∷ []) w
 
+-- an item is stored; the value of that is the item
+abbrev pub ItemsAreStored : Type 0
+ItemsAreStored = (kept : ℕ → Option Element) (around : Around) (place : Place) (a b c : Operand) (w : Writing) (n : ℕ) (item : Element) → IsList around kept a.element n item → kind_of b ≡ kind.Word → Stays around.layout c.element (Some item) → Stays around.layout c.element place.element
+    → IsDone kept around row.StoreIndex w.found.covered (there_asks around a w.found.covered ++ Make (small.Listed (listed.Place n w.found.covered.index)) ∷ []) place (a ∷ b ∷ c ∷ []) w
+
 -- the item at an index
 abbrev pub ItemsAreRead : Type 0
 ItemsAreRead = (kept : ℕ → Option Element) (around : Around) (place : Place) (a b : Operand) (w : Writing) (literal : Option ℤ) (n : ℕ) (item : Element) → IsList around kept a.element n item → kind_of b ≡ kind.Word → Stays around.layout (Some item) place.element

@@ -1,5 +1,5 @@
 // Laws of operations on lists as they are lowered.
-ghost use Rattle.list_laws.specs.Lists.{ItemsAreRead, LengthsAreRead, WalksGive, WalksGoOn};
+ghost use Rattle.list_laws.specs.Lists.{ItemsAreRead, ItemsAreStored, LengthsAreRead, WalksGive, WalksGoOn};
 
 /// The length of a list; where the list may be missing, `None` fails, or raises.
 pub fn lengths_are_read()
@@ -9,6 +9,11 @@ pub fn lengths_are_read()
 /// The item at an index, which counts from the end where it is below zero; outside it fails, or raises.
 pub fn items_are_read()
     ensures { ItemsAreRead }
+{}
+
+/// An item that is stored at an index, in every list that the blocks represent: no other list changes.
+pub fn items_are_stored()
+    ensures { ItemsAreStored }
 {}
 
 /// Whether a walk over a list goes on, as the list is then, and the item that it has come to.

@@ -4,4 +4,4 @@
 
 mod laws;
 
-pub use laws::{items_are_read, lengths_are_read, walks_are_done};
+pub use laws::{items_are_read, items_are_stored, lengths_are_read, walks_are_done};
