@@ -40,7 +40,7 @@ use Rattle.lower_laws.proofs.Doing.{after}
 use Rattle.lower_laws.proofs.Single.{sets, gives_word}
 use Rattle.lower_laws.proofs.Typing.{place_of_words}
 use Rattle.list_laws.specs.Asked.{HasAll}
-use Rattle.list_laws.specs.Done.{Follows, HasLists, IsDone}
+use Rattle.list_laws.specs.Done.{Follows, HasLists, IsDone, references}
 use Rattle.list_laws.specs.Ghost.{Ghost}
 use Rattle.list_laws.specs.Lists.{there_asks, LengthsAreRead}
 use Rattle.list_laws.specs.Represents.{Represents, ListAt, head_block}
@@ -102,9 +102,9 @@ module _ (kept : ℕ → Option Element) (around : Around) (place : Place) (a : 
     m_is : m ≡ length w.body.types + length ent.new
     m_is = length-append w.body.types ent.new
 
-    there : (v : Meant) → Listing around.layout g a.element (operand core.vars a.x) v → Follows kept around place p arguments Here rest e frames core g raised 1 (length w.body.types) world (meant_op program w.found.covered row.Len (v ∷ []) world)
+    there : (most : ℕ) (v : Meant) → Listing around.layout g a.element (operand core.vars a.x) v → Follows kept around place p arguments Here rest e frames core g raised most (length w.body.types) world (meant_op program w.found.covered row.Len (v ∷ []) world)
     unfolding list_of
-    there v it =
+    there most v it =
         let x : Value = operand core.vars a.x in
         let l = stands.lists it.n it.i x it.home it.struct in
         let count : ℕ = length l.items in
@@ -119,22 +119,22 @@ module _ (kept : ℕ → Option Element) (around : Around) (place : Place) (a : 
         reads_field 2 (head_block it.n count l.array) (Word (pos count)) shape block_there number refl 0 refl in
         let middle : Core = after mid m (Word (pos count)) in
         let holds : Holds around.layout g place.element (Word (pos count)) (MeantWord (pos count)) = Plain (ap is_plain words) (subst (λ t. Stands g t (Word (pos count)) (MeantWord (pos count))) (sym ht) (word (pos count) (fits_count count (count_fits l.values l.spare l.items l.long (each_long l.each))))) in
-        subst (λ answer. Follows kept around place p arguments Here rest e frames core g raised 1 (length w.body.types) world answer) (sym above)
-        (sets_last 1 (length w.body.types) middle (Word (pos count)) (MeantWord (pos count)) stands left (sets_more m (Word (pos count)) (omega (arith, m_is)) went.passed) (omega (arith, room, inside))
+        subst (λ answer. Follows kept around place p arguments Here rest e frames core g raised most (length w.body.types) world answer) (sym above)
+        (sets_last most (length w.body.types) middle (Word (pos count)) (MeantWord (pos count)) stands left (sets_more m (Word (pos count)) (omega (arith, m_is)) went.passed) (omega (arith, room, inside))
         (on went.way (on reads_it (sets (Word (pos count)) (is_set_at mid m (Word (pos count)) wide) refl))) holds)
 
-    missing : (v : Meant) → Absent a.element (operand core.vars a.x) v → Follows kept around place p arguments Here rest e frames core g raised 1 (length w.body.types) world (meant_op program w.found.covered row.Len (v ∷ []) world)
-    missing v gone =
-        subst (λ v. Follows kept around place p arguments Here rest e frames core g raised 1 (length w.body.types) world (meant_op program w.found.covered row.Len (v ∷ []) world)) (sym gone.high)
-        (ent.misses kept place p numbers raised arguments (reads ∷ puts ∷ []) rest e frames core g 1 world has gone.may gone.low)
+    missing : (most : ℕ) (v : Meant) → Absent a.element (operand core.vars a.x) v → Follows kept around place p arguments Here rest e frames core g raised most (length w.body.types) world (meant_op program w.found.covered row.Len (v ∷ []) world)
+    missing most v gone =
+        subst (λ v. Follows kept around place p arguments Here rest e frames core g raised most (length w.body.types) world (meant_op program w.found.covered row.Len (v ∷ []) world)) (sym gone.high)
+        (ent.misses kept place p numbers raised arguments (reads ∷ puts ∷ []) rest e frames core g most world has gone.may gone.low)
 
-    either : (v : Meant) → Listing around.layout g a.element (operand core.vars a.x) v ⊎ Absent a.element (operand core.vars a.x) v → Follows kept around place p arguments Here rest e frames core g raised 1 (length w.body.types) world (meant_op program w.found.covered row.Len (v ∷ []) world)
-    either v (inl it) = there v it
-    either v (inr gone) = missing v gone
+    either : (most : ℕ) (v : Meant) → Listing around.layout g a.element (operand core.vars a.x) v ⊎ Absent a.element (operand core.vars a.x) v → Follows kept around place p arguments Here rest e frames core g raised most (length w.body.types) world (meant_op program w.found.covered row.Len (v ∷ []) world)
+    either most v (inl it) = there most v it
+    either most v (inr gone) = missing most v gone
 
-    follow : (vs : List Meant) → Given around g core (a ∷ []) vs → Follows kept around place p arguments (At ((ent.ops ++ (reads ∷ puts ∷ [])) ++ rest) e frames core) rest e frames core g raised 1 (length w.body.types) world (meant_op program w.found.covered row.Len vs world)
+    follow : (vs : List Meant) → Given around g core (a ∷ []) vs → Follows kept around place p arguments (At ((ent.ops ++ (reads ∷ puts ∷ [])) ++ rest) e frames core) rest e frames core g raised (references world.heap vs) (length w.body.types) world (meant_op program w.found.covered row.Len vs world)
     follow [] given = absurd given
-    follow (v ∷ []) given = subst (λ l. Follows kept around place p arguments (At l e frames core) rest e frames core g raised 1 (length w.body.types) world (meant_op program w.found.covered row.Len (v ∷ []) world)) (sym (append_assoc ent.ops (reads ∷ puts ∷ []) rest)) (either v (list_or_none lists given.0))
+    follow (v ∷ []) given = subst (λ l. Follows kept around place p arguments (At l e frames core) rest e frames core g raised (references world.heap (v ∷ [])) (length w.body.types) world (meant_op program w.found.covered row.Len (v ∷ []) world)) (sym (append_assoc ent.ops (reads ∷ puts ∷ []) rest)) (either (references world.heap (v ∷ [])) v (list_or_none lists given.0))
     follow (v ∷ u ∷ vs) given = absurd given.1
 
   pub length_done : IsDone kept around row.Len w.found.covered (there_asks around a w.found.covered) place (a ∷ []) w

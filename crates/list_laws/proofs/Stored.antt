@@ -58,7 +58,7 @@ use Rattle.lower_laws.proofs.Single.{sets}
 use Rattle.lower_laws.proofs.Stayed.{field_is, stays_comes as plainly_comes}
 use Rattle.lower_laws.proofs.Tupled.{given_same}
 use Rattle.list_laws.specs.Asked.{HasList, HasAll}
-use Rattle.list_laws.specs.Done.{Came, Follows, HasLists, IsDone}
+use Rattle.list_laws.specs.Done.{Came, Follows, HasLists, IsDone, references}
 use Rattle.list_laws.specs.Ghost.{Ghost, Use, Head, Array, use_of}
 use Rattle.list_laws.specs.Lists.{Stays, Plainly, AsList, AsMaybe, IsList, there_asks, ItemsAreStored}
 use Rattle.list_laws.specs.Represents.{Represents, ListAt, HasRoom, head_block, array_block}
@@ -187,7 +187,7 @@ module _ (kept : ℕ → Option Element) (around : Around) (place : Place) (a b 
 
   -- ---- once the list is in its variable
 
-  module _ (p : LlProgram) (raised : ℕ → Value) (arguments : List (List ℕ)) (rest : List LlOp) (e : LlExit) (frames : List Frame) (core : Core) (g : Ghost) (world : World)
+  module _ (p : LlProgram) (raised : ℕ → Value) (arguments : List (List ℕ)) (rest : List LlOp) (e : LlExit) (frames : List Frame) (core : Core) (g : Ghost) (most : ℕ) (one : 1 ≤ most) (world : World)
       (structs : HasLists p around.layout) (has : HasList p around.layout raised (listed.Place n w.found.covered.index) number)
       (stands : Represents around.layout kept g world.heap world.left core.blocks core.statics) (left : world.left ≡ core.steps)
       (room : m1 + 2 ≤ length core.vars) (inside : place.variable < length w.body.types) (before : ent.x < m1)
@@ -264,11 +264,11 @@ module _ (kept : ℕ → Option Element) (around : Around) (place : Place) (a b 
         }
 
     stores_item : (k : ℕ) → k < count → PlaceGoes p around.layout arguments raised n number core head here.array count (structs.heads n struct) here.head_is few w.found.covered.index z (Some k)
-        → Follows kept around place p arguments There rest e frames core g raised 3 (length w.body.types) world (Gives v (world2 k))
+        → Follows kept around place p arguments There rest e frames core g raised most (length w.body.types) world (Gives v (world2 k))
     stores_item k below comes = record {
       end = after wrote.end place.variable value;
       text = [];
-      leads = leads_more (0 + (1 + 0)) 3 (omega arith) (leads_then (on way1 way2) (leads_then wrote.way way4));
+      leads = leads_more (0 + (1 + 0)) most (omega (arith, one)) (leads_then (on way1 way2) (leads_then wrote.way way4));
       ghost = g;
       grown = grown_none;
       stands = represents k below wrote.end wrote.wrote;
@@ -317,16 +317,16 @@ module _ (kept : ℕ → Option Element) (around : Around) (place : Place) (a b 
         way4 = sets value (ap (λ vars. operand vars c.x) wrote.vars ∙ operand_kept passed c.x under ∙ value_at) value_set
 
     outside_of : (t : Bool) → PlaceGoes p around.layout arguments raised n number core head here.array count (structs.heads n struct) here.head_is few t z None
-        → Follows kept around place p arguments There rest e frames core g raised 3 (length w.body.types) world (failure t 6 fail.Index world)
+        → Follows kept around place p arguments There rest e frames core g raised most (length w.body.types) world (failure t 6 fail.Index world)
     outside_of true flies = throws_at same set (gets_array ∷ sets_item ∷ puts ∷ []) rest flies
     outside_of false ends = fails_at same set (gets_array ∷ sets_item ∷ puts ∷ rest) ends
 
     chosen : (o : Option ℕ) → meant_place z count ≡ o → PlaceGoes p around.layout arguments raised n number core head here.array count (structs.heads n struct) here.head_is few w.found.covered.index z o
-        → Follows kept around place p arguments There rest e frames core g raised 3 (length w.body.types) world (if_some (index_error w.found.covered) o (λ k. set_object i (Listed (items2 k)) v) world)
+        → Follows kept around place p arguments There rest e frames core g raised most (length w.body.types) world (if_some (index_error w.found.covered) o (λ k. set_object i (Listed (items2 k)) v) world)
     chosen None q goes = outside_of w.found.covered.index goes
     chosen (Some k) q goes = stores_item k (place_inside z count k q) goes
 
-    does : Fits z → Follows kept around place p arguments There rest e frames core g raised 3 (length w.body.types) world (if_some (index_error w.found.covered) (meant_place z count) (λ k. set_object i (Listed (items2 k)) v) world)
+    does : Fits z → Follows kept around place p arguments There rest e frames core g raised most (length w.body.types) world (if_some (index_error w.found.covered) (meant_place z count) (λ k. set_object i (Listed (items2 k)) v) world)
     does fits = chosen (meant_place z count) refl (place_is p around.layout arguments raised n number core head here.array count (structs.heads n struct) here.head_is few w.found.covered.index z has fits)
 
     pays : (o : Option ℕ) → Pays (if_some (index_error w.found.covered) o (λ k. set_object i (Listed (items2 k)) v) world)
@@ -344,8 +344,8 @@ module _ (kept : ℕ → Option Element) (around : Around) (place : Place) (a b 
       (stands : Represents around.layout kept g world.heap world.left core.blocks core.statics) (left : world.left ≡ core.steps)
       (room : length w.body.types + length (ent.new ++ type.Signed ∷ type.Ptr (word (n + 1)) ∷ []) ≤ length core.vars) (inside : place.variable < length w.body.types)
       (below : AllBelow (length w.body.types) (a ∷ b ∷ c ∷ [])) where
-    abbrev Done : Answer → Type 0
-    Done answer = Follows kept around place p arguments (At (ent.ops ++ (calls ∷ gets_array ∷ sets_item ∷ puts ∷ rest)) e frames core) rest e frames core g raised 3 (length w.body.types) world answer
+    abbrev Done : ℕ → Answer → Type 0
+    Done most answer = Follows kept around place p arguments (At (ent.ops ++ (calls ∷ gets_array ∷ sets_item ∷ puts ∷ rest)) e frames core) rest e frames core g raised most (length w.body.types) world answer
 
     has_there : HasAll p around.layout numbers raised core (there_asks around a w.found.covered) w.found
     has_there = has_first p around numbers raised core (there_asks around a w.found.covered) (Make outside ∷ []) w.found has
@@ -359,12 +359,12 @@ module _ (kept : ℕ → Option Element) (around : Around) (place : Place) (a b 
     m1_is : m1 ≡ length w.body.types + length ent.new
     m1_is = length-append w.body.types ent.new
 
-    there : (v u s : Meant) → (z : ℤ) → operand core.vars b.x ≡ Word z → u ≡ MeantWord z → Fits z → Holds around.layout g c.element (operand core.vars c.x) s → Listing around.layout g a.element (operand core.vars a.x) v → Done (meant_op program w.found.covered row.StoreIndex (v ∷ u ∷ s ∷ []) world)
-    there v u s z low high fits held it =
-        subst Done (sym above)
-        (behind kept around place p arguments rest e frames core g raised 3 (length w.body.types) world went.passed went.way (if_some (index_error w.found.covered) (meant_place z (length mid_here.items)) (λ k. set_object it.i (Listed (slice_set mid_here.items k s)) s) world)
-        (pays p raised arguments rest e frames mid g world structs has_place stands_mid left_mid wide inside before x z went.is index_mid it.i struct home below.1.1.0 (operand core.vars c.x) s value_mid held (meant_place z (length mid_here.items)))
-        (does p raised arguments rest e frames mid g world structs has_place stands_mid left_mid wide inside before x z went.is index_mid it.i struct home below.1.1.0 (operand core.vars c.x) s value_mid held fits))
+    there : (most : ℕ) → 1 ≤ most → (v u s : Meant) → (z : ℤ) → operand core.vars b.x ≡ Word z → u ≡ MeantWord z → Fits z → Holds around.layout g c.element (operand core.vars c.x) s → Listing around.layout g a.element (operand core.vars a.x) v → Done most (meant_op program w.found.covered row.StoreIndex (v ∷ u ∷ s ∷ []) world)
+    there most one v u s z low high fits held it =
+        subst (Done most) (sym above)
+        (behind kept around place p arguments rest e frames core g raised most (length w.body.types) world went.passed went.way (if_some (index_error w.found.covered) (meant_place z (length mid_here.items)) (λ k. set_object it.i (Listed (slice_set mid_here.items k s)) s) world)
+        (pays p raised arguments rest e frames mid g most one world structs has_place stands_mid left_mid wide inside before x z went.is index_mid it.i struct home below.1.1.0 (operand core.vars c.x) s value_mid held (meant_place z (length mid_here.items)))
+        (does p raised arguments rest e frames mid g most one world structs has_place stands_mid left_mid wide inside before x z went.is index_mid it.i struct home below.1.1.0 (operand core.vars c.x) s value_mid held fits))
       where
         x : Value
         x = operand core.vars a.x
@@ -406,27 +406,27 @@ module _ (kept : ℕ → Option Element) (around : Around) (place : Place) (a b 
         value_mid = operand_kept went.passed c.x below.1.1.0
 
         mid_here : ListAt around.layout (kept n) g world.heap world.left mid.blocks mid.statics n it.i x
-        mid_here = here p raised arguments rest e frames mid g world structs has_place stands_mid left_mid wide inside before x z went.is index_mid it.i struct home below.1.1.0 (operand core.vars c.x) s value_mid held
+        mid_here = here p raised arguments rest e frames mid g most one world structs has_place stands_mid left_mid wide inside before x z went.is index_mid it.i struct home below.1.1.0 (operand core.vars c.x) s value_mid held
 
         above : meant_op program w.found.covered row.StoreIndex (v ∷ u ∷ s ∷ []) world ≡ if_some (index_error w.found.covered) (meant_place z (length mid_here.items)) (λ k. set_object it.i (Listed (slice_set mid_here.items k s)) s) world
         above = ap (λ v. meant_op program w.found.covered row.StoreIndex (v ∷ u ∷ s ∷ []) world) it.high ∙ ap (λ u. meant_op program w.found.covered row.StoreIndex (Ref it.i ∷ u ∷ s ∷ []) world) high ∙ ap (λ o. store_object w.found.covered it.i (MeantWord z) s o world) mid_here.object
 
-    missing : (v u s : Meant) → Absent a.element (operand core.vars a.x) v → Done (meant_op program w.found.covered row.StoreIndex (v ∷ u ∷ s ∷ []) world)
-    missing v u s gone = subst (λ v. Done (meant_op program w.found.covered row.StoreIndex (v ∷ u ∷ s ∷ []) world)) (sym gone.high)
-        (ent.misses kept place p numbers raised arguments (calls ∷ gets_array ∷ sets_item ∷ puts ∷ []) rest e frames core g 3 world has_there gone.may gone.low)
+    missing : (most : ℕ) (v u s : Meant) → Absent a.element (operand core.vars a.x) v → Done most (meant_op program w.found.covered row.StoreIndex (v ∷ u ∷ s ∷ []) world)
+    missing most v u s gone = subst (λ v. Done most (meant_op program w.found.covered row.StoreIndex (v ∷ u ∷ s ∷ []) world)) (sym gone.high)
+        (ent.misses kept place p numbers raised arguments (calls ∷ gets_array ∷ sets_item ∷ puts ∷ []) rest e frames core g most world has_there gone.may gone.low)
 
-    either : (v u s : Meant) → (z : ℤ) → operand core.vars b.x ≡ Word z → u ≡ MeantWord z → Fits z → Holds around.layout g c.element (operand core.vars c.x) s → Listing around.layout g a.element (operand core.vars a.x) v ⊎ Absent a.element (operand core.vars a.x) v → Done (meant_op program w.found.covered row.StoreIndex (v ∷ u ∷ s ∷ []) world)
-    either v u s z low high fits held (inl it) = there v u s z low high fits held it
-    either v u s z low high fits held (inr gone) = missing v u s gone
+    either : (most : ℕ) → 1 ≤ most → (v u s : Meant) → (z : ℤ) → operand core.vars b.x ≡ Word z → u ≡ MeantWord z → Fits z → Holds around.layout g c.element (operand core.vars c.x) s → Listing around.layout g a.element (operand core.vars a.x) v ⊎ Absent a.element (operand core.vars a.x) v → Done most (meant_op program w.found.covered row.StoreIndex (v ∷ u ∷ s ∷ []) world)
+    either most one v u s z low high fits held (inl it) = there most one v u s z low high fits held it
+    either most one v u s z low high fits held (inr gone) = missing most v u s gone
 
-    follow : (vs : List Meant) → Given around g core (a ∷ b ∷ c ∷ []) vs → Follows kept around place p arguments (At ((ent.ops ++ (calls ∷ gets_array ∷ sets_item ∷ puts ∷ [])) ++ rest) e frames core) rest e frames core g raised 3 (length w.body.types) world (meant_op program w.found.covered row.StoreIndex vs world)
+    follow : (vs : List Meant) → Given around g core (a ∷ b ∷ c ∷ []) vs → Follows kept around place p arguments (At ((ent.ops ++ (calls ∷ gets_array ∷ sets_item ∷ puts ∷ [])) ++ rest) e frames core) rest e frames core g raised (references world.heap vs) (length w.body.types) world (meant_op program w.found.covered row.StoreIndex vs world)
     follow [] given = absurd given
     follow (v ∷ []) given = absurd given.1
     follow (v ∷ u ∷ []) given = absurd given.1.1
     follow (v ∷ u ∷ s ∷ []) given =
         let y = word_held words given.1.0 in
-        subst (λ l. Follows kept around place p arguments (At l e frames core) rest e frames core g raised 3 (length w.body.types) world (meant_op program w.found.covered row.StoreIndex (v ∷ u ∷ s ∷ []) world)) (sym (append_assoc ent.ops (calls ∷ gets_array ∷ sets_item ∷ puts ∷ []) rest))
-        (either v u s y.number y.low y.high y.fits given.1.1.0 (list_or_none of.is given.0))
+        subst (λ l. Follows kept around place p arguments (At l e frames core) rest e frames core g raised (references world.heap (v ∷ u ∷ s ∷ [])) (length w.body.types) world (meant_op program w.found.covered row.StoreIndex (v ∷ u ∷ s ∷ []) world)) (sym (append_assoc ent.ops (calls ∷ gets_array ∷ sets_item ∷ puts ∷ []) rest))
+        (either (references world.heap (v ∷ u ∷ s ∷ [])) (omega arith) v u s y.number y.low y.high y.fits given.1.1.0 (list_or_none of.is given.0))
     follow (v ∷ u ∷ s ∷ t ∷ vs) given = absurd given.1.1.1
 
   pub store_done : IsDone kept around row.StoreIndex w.found.covered asks place (a ∷ b ∷ c ∷ []) w

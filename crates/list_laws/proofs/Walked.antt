@@ -43,7 +43,7 @@ use Rattle.lower_laws.proofs.Items.{gives_same}
 use Rattle.lower_laws.proofs.Single.{sets}
 use Rattle.lower_laws.proofs.Stayed.{field_is}
 use Rattle.lower_laws.proofs.Typing.{place_of_flags}
-use Rattle.list_laws.specs.Done.{Follows, HasLists, IsDone}
+use Rattle.list_laws.specs.Done.{Follows, HasLists, IsDone, references}
 use Rattle.list_laws.specs.Ghost.{Ghost}
 use Rattle.list_laws.specs.Lists.{Stays, IsList, WalksGoOn, WalksGive}
 use Rattle.list_laws.specs.Represents.{Represents, ListAt, head_block, array_block}
@@ -95,8 +95,8 @@ module _ (kept : ℕ → Option Element) (around : Around) (place : Place) (a b 
   module _ (program : Program) (p : LlProgram) (raised : ℕ → Value) (arguments : List (List ℕ)) (rest : List LlOp) (e : LlExit) (frames : List Frame) (core : Core) (g : Ghost) (world : World)
       (structs : HasLists p around.layout) (stands : Represents around.layout kept g world.heap world.left core.blocks core.statics) (left : world.left ≡ core.steps)
       (room : length w.body.types + length (held.new ++ type.Signed ∷ []) ≤ length core.vars) (inside : place.variable < length w.body.types) (under : AllBelow (length w.body.types) (a ∷ b ∷ [])) where
-    abbrev Done : Answer → Type 0
-    Done answer = Follows kept around place p arguments (At (held.ops ++ (reads ∷ tests ∷ rest)) e frames core) rest e frames core g raised 2 (length w.body.types) world answer
+    abbrev Done : ℕ → Answer → Type 0
+    Done most answer = Follows kept around place p arguments (At (held.ops ++ (reads ∷ tests ∷ rest)) e frames core) rest e frames core g raised most (length w.body.types) world answer
 
     long : length (held.new ++ type.Signed ∷ []) ≡ length held.new + 1
     long = length-append held.new (type.Signed ∷ [])
@@ -104,9 +104,9 @@ module _ (kept : ℕ → Option Element) (around : Around) (place : Place) (a b 
     m_is : m ≡ length w.body.types + length held.new
     m_is = length-append w.body.types held.new
 
-    there : (v : Meant) (i : ℕ) → operand core.vars b.x ≡ Word (pos i) → Listing around.layout g a.element (operand core.vars a.x) v → Done (meant_op program covers (row.HasItem None) (v ∷ MeantWord (pos i) ∷ []) world)
+    there : (most : ℕ) (v : Meant) (i : ℕ) → operand core.vars b.x ≡ Word (pos i) → Listing around.layout g a.element (operand core.vars a.x) v → Done most (meant_op program covers (row.HasItem None) (v ∷ MeantWord (pos i) ∷ []) world)
     unfolding list_of
-    there v i low it =
+    there most v i low it =
         let x : Value = operand core.vars a.x in
         let l = stands.lists it.n it.i x it.home it.struct in
         let count : ℕ = length l.items in
@@ -124,21 +124,21 @@ module _ (kept : ℕ → Option Element) (around : Around) (place : Place) (a b 
         let passed = sets_more m (Word (pos count)) (omega (arith, m_is)) went.passed in
         let tested = ap (λ y. binary_of binary.Lt y (read middle.vars m)) (operand_kept passed b.x under.1.0 ∙ low) ∙ ap (λ y. binary_of binary.Lt (Word (pos i)) y) (is_set_at mid m (Word (pos count)) wide) in
         let holds : Holds around.layout g place.element (Flag t) (MeantFlag t) = Plain (ap is_plain flags) (subst (λ k. Stands g k (Flag t) (MeantFlag t)) (sym ht) (a_flag t)) in
-        subst Done (sym above) (sets_last 2 (length w.body.types) middle (Flag t) (MeantFlag t) stands left passed (omega (arith, room, inside)) (on went.way (on reads_it (gives (Flag t) tested))) holds)
+        subst (Done most) (sym above) (sets_last most (length w.body.types) middle (Flag t) (MeantFlag t) stands left passed (omega (arith, room, inside)) (on went.way (on reads_it (gives (Flag t) tested))) holds)
 
-    either : (v : Meant) (z : ℤ) → operand core.vars b.x ≡ Word z → Listing around.layout g a.element (operand core.vars a.x) v ⊎ Absent a.element (operand core.vars a.x) v → Done (meant_op program covers (row.HasItem None) (v ∷ MeantWord z ∷ []) world)
-    either v (pos i) low (inl it) = there v i low it
-    either v (negsuc i) low (inl it) = subst (λ v. Done (meant_op program covers (row.HasItem None) (v ∷ MeantWord (negsuc i) ∷ []) world)) (sym it.high) tt
-    either v (pos i) low (inr gone) = subst (λ v. Done (meant_op program covers (row.HasItem None) (v ∷ MeantWord (pos i) ∷ []) world)) (sym gone.high) tt
-    either v (negsuc i) low (inr gone) = subst (λ v. Done (meant_op program covers (row.HasItem None) (v ∷ MeantWord (negsuc i) ∷ []) world)) (sym gone.high) tt
+    either : (most : ℕ) (v : Meant) (z : ℤ) → operand core.vars b.x ≡ Word z → Listing around.layout g a.element (operand core.vars a.x) v ⊎ Absent a.element (operand core.vars a.x) v → Done most (meant_op program covers (row.HasItem None) (v ∷ MeantWord z ∷ []) world)
+    either most v (pos i) low (inl it) = there most v i low it
+    either most v (negsuc i) low (inl it) = subst (λ v. Done most (meant_op program covers (row.HasItem None) (v ∷ MeantWord (negsuc i) ∷ []) world)) (sym it.high) tt
+    either most v (pos i) low (inr gone) = subst (λ v. Done most (meant_op program covers (row.HasItem None) (v ∷ MeantWord (pos i) ∷ []) world)) (sym gone.high) tt
+    either most v (negsuc i) low (inr gone) = subst (λ v. Done most (meant_op program covers (row.HasItem None) (v ∷ MeantWord (negsuc i) ∷ []) world)) (sym gone.high) tt
 
-    follow : (vs : List Meant) → Given around g core (a ∷ b ∷ []) vs → Follows kept around place p arguments (At ((held.ops ++ (reads ∷ tests ∷ [])) ++ rest) e frames core) rest e frames core g raised 2 (length w.body.types) world (meant_op program covers (row.HasItem None) vs world)
+    follow : (vs : List Meant) → Given around g core (a ∷ b ∷ []) vs → Follows kept around place p arguments (At ((held.ops ++ (reads ∷ tests ∷ [])) ++ rest) e frames core) rest e frames core g raised (references world.heap vs) (length w.body.types) world (meant_op program covers (row.HasItem None) vs world)
     follow [] given = absurd given
     follow (v ∷ []) given = absurd given.1
     follow (v ∷ u ∷ []) given =
         let y = word_held words given.1.0 in
-        subst (λ l. Follows kept around place p arguments (At l e frames core) rest e frames core g raised 2 (length w.body.types) world (meant_op program covers (row.HasItem None) (v ∷ u ∷ []) world)) (sym (append_assoc held.ops (reads ∷ tests ∷ []) rest))
-        (subst (λ u. Done (meant_op program covers (row.HasItem None) (v ∷ u ∷ []) world)) (sym y.high) (either v y.number y.low (list_or_none lists given.0)))
+        subst (λ l. Follows kept around place p arguments (At l e frames core) rest e frames core g raised (references world.heap (v ∷ u ∷ [])) (length w.body.types) world (meant_op program covers (row.HasItem None) (v ∷ u ∷ []) world)) (sym (append_assoc held.ops (reads ∷ tests ∷ []) rest))
+        (subst (λ s. Done (references world.heap (v ∷ u ∷ [])) (meant_op program covers (row.HasItem None) (v ∷ s ∷ []) world)) (sym y.high) (either (references world.heap (v ∷ u ∷ [])) v y.number y.low (list_or_none lists given.0)))
     follow (v ∷ u ∷ s ∷ vs) given = absurd given.1.1
 
   pub has_item_done : IsDone kept around (row.HasItem None) covers [] place (a ∷ b ∷ []) w
@@ -206,8 +206,8 @@ module _ (kept : ℕ → Option Element) (around : Around) (place : Place) (a b 
   module _ (program : Program) (p : LlProgram) (raised : ℕ → Value) (arguments : List (List ℕ)) (rest : List LlOp) (e : LlExit) (frames : List Frame) (core : Core) (g : Ghost) (world : World)
       (structs : HasLists p around.layout) (stands : Represents around.layout kept g world.heap world.left core.blocks core.statics) (left : world.left ≡ core.steps)
       (room : length w.body.types + length (held_list.new ++ type.Ptr (word (n + 1)) ∷ kept_type ∷ []) ≤ length core.vars) (inside : place.variable < length w.body.types) (under : AllBelow (length w.body.types) (a ∷ b ∷ [])) where
-    abbrev Gave : Answer → Type 0
-    Gave answer = Follows kept around place p arguments (At (held_list.ops ++ (gets_array ∷ gets_item ∷ puts ∷ rest)) e frames core) rest e frames core g raised 2 (length w.body.types) world answer
+    abbrev Gave : ℕ → Answer → Type 0
+    Gave most answer = Follows kept around place p arguments (At (held_list.ops ++ (gets_array ∷ gets_item ∷ puts ∷ rest)) e frames core) rest e frames core g raised most (length w.body.types) world answer
 
     long_item : length (held_list.new ++ type.Ptr (word (n + 1)) ∷ kept_type ∷ []) ≡ length held_list.new + 2
     long_item = length-append held_list.new (type.Ptr (word (n + 1)) ∷ kept_type ∷ [])
@@ -222,8 +222,8 @@ module _ (kept : ℕ → Option Element) (around : Around) (place : Place) (a b 
     more_below (Var v) h = omega (arith, h, m1_is)
     more_below (Const c) h = tt
 
-    there_item : (v : Meant) (i : ℕ) → operand core.vars b.x ≡ Word (pos i) → Listing around.layout g a.element (operand core.vars a.x) v → Gave (meant_op program covers (row.Item None) (v ∷ MeantWord (pos i) ∷ []) world)
-    there_item v i low it = subst Gave (sym above) (by (slice_get l.items i) refl)
+    there_item : (most : ℕ) (v : Meant) (i : ℕ) → operand core.vars b.x ≡ Word (pos i) → Listing around.layout g a.element (operand core.vars a.x) v → Gave most (meant_op program covers (row.Item None) (v ∷ MeantWord (pos i) ∷ []) world)
+    there_item most v i low it = subst (Gave most) (sym above) (by (slice_get l.items i) refl)
       where
         x : Value
         x = operand core.vars a.x
@@ -240,7 +240,7 @@ module _ (kept : ℕ → Option Element) (around : Around) (place : Place) (a b 
         above : meant_op program covers (row.Item None) (v ∷ MeantWord (pos i) ∷ []) world ≡ if_some bad (slice_get l.items i) give world
         above = ap (λ v. meant_op program covers (row.Item None) (v ∷ MeantWord (pos i) ∷ []) world) it.high ∙ ap (λ o. on_list (λ vs. if_some bad (slice_get vs i) give) o world) l.object
 
-        by : (o : Option Meant) → slice_get l.items i ≡ o → Gave (if_some bad o give world)
+        by : (o : Option Meant) → slice_get l.items i ≡ o → Gave most (if_some bad o give world)
         by None q = tt
         by (Some u) q =
             let went = held_list.enters p arguments (gets_array ∷ gets_item ∷ puts ∷ rest) e frames core (omega (arith, room, long_item)) (found_set core.blocks core.statics x _ l.head_is) in
@@ -250,23 +250,23 @@ module _ (kept : ℕ → Option Element) (around : Around) (place : Place) (a b 
             let same_items : l_mid.items ≡ l.items = list_same (sym l_mid.object ∙ l.object) in
             let got = fetched structs struct stands_mid l_mid held_list.x m1 m2 b.x i u went.is (operand_kept went.passed b.x under.1.0 ∙ low) (more_below b.x under.1.0) (omega (arith, m2_is)) (let r = went.passed.room in omega (arith, room, long_item, m1_is, m2_is, r)) (ap (λ vs. slice_get vs i) same_items ∙ q) in
             let held : Holds around.layout g (Some item) got.value u = subst (λ seen. Holds around.layout g seen got.value u) of.known got.held in
-            sets_last 2 (length w.body.types) (after (after mid m1 l_mid.array) m2 got.value) got.value u stands left
+            sets_last most (length w.body.types) (after (after mid m1 l_mid.array) m2 got.value) got.value u stands left
             (sets_more m2 got.value (omega (arith, m1_is, m2_is)) (sets_more m1 l_mid.array (omega (arith, m1_is)) went.passed)) (omega (arith, inside, room))
             (on went.way (on got.way (sets got.value got.is got.set))) (stays_held stay held)
 
-    item_either : (v : Meant) (z : ℤ) → operand core.vars b.x ≡ Word z → Listing around.layout g a.element (operand core.vars a.x) v ⊎ Absent a.element (operand core.vars a.x) v → Gave (meant_op program covers (row.Item None) (v ∷ MeantWord z ∷ []) world)
-    item_either v (pos i) low (inl it) = there_item v i low it
-    item_either v (negsuc i) low (inl it) = subst (λ v. Gave (meant_op program covers (row.Item None) (v ∷ MeantWord (negsuc i) ∷ []) world)) (sym it.high) tt
-    item_either v (pos i) low (inr gone) = subst (λ v. Gave (meant_op program covers (row.Item None) (v ∷ MeantWord (pos i) ∷ []) world)) (sym gone.high) tt
-    item_either v (negsuc i) low (inr gone) = subst (λ v. Gave (meant_op program covers (row.Item None) (v ∷ MeantWord (negsuc i) ∷ []) world)) (sym gone.high) tt
+    item_either : (most : ℕ) (v : Meant) (z : ℤ) → operand core.vars b.x ≡ Word z → Listing around.layout g a.element (operand core.vars a.x) v ⊎ Absent a.element (operand core.vars a.x) v → Gave most (meant_op program covers (row.Item None) (v ∷ MeantWord z ∷ []) world)
+    item_either most v (pos i) low (inl it) = there_item most v i low it
+    item_either most v (negsuc i) low (inl it) = subst (λ v. Gave most (meant_op program covers (row.Item None) (v ∷ MeantWord (negsuc i) ∷ []) world)) (sym it.high) tt
+    item_either most v (pos i) low (inr gone) = subst (λ v. Gave most (meant_op program covers (row.Item None) (v ∷ MeantWord (pos i) ∷ []) world)) (sym gone.high) tt
+    item_either most v (negsuc i) low (inr gone) = subst (λ v. Gave most (meant_op program covers (row.Item None) (v ∷ MeantWord (negsuc i) ∷ []) world)) (sym gone.high) tt
 
-    item_follow : (vs : List Meant) → Given around g core (a ∷ b ∷ []) vs → Follows kept around place p arguments (At ((held_list.ops ++ (gets_array ∷ gets_item ∷ puts ∷ [])) ++ rest) e frames core) rest e frames core g raised 2 (length w.body.types) world (meant_op program covers (row.Item None) vs world)
+    item_follow : (vs : List Meant) → Given around g core (a ∷ b ∷ []) vs → Follows kept around place p arguments (At ((held_list.ops ++ (gets_array ∷ gets_item ∷ puts ∷ [])) ++ rest) e frames core) rest e frames core g raised (references world.heap vs) (length w.body.types) world (meant_op program covers (row.Item None) vs world)
     item_follow [] given = absurd given
     item_follow (v ∷ []) given = absurd given.1
     item_follow (v ∷ u ∷ []) given =
         let y = word_held words given.1.0 in
-        subst (λ l. Follows kept around place p arguments (At l e frames core) rest e frames core g raised 2 (length w.body.types) world (meant_op program covers (row.Item None) (v ∷ u ∷ []) world)) (sym (append_assoc held_list.ops (gets_array ∷ gets_item ∷ puts ∷ []) rest))
-        (subst (λ u. Gave (meant_op program covers (row.Item None) (v ∷ u ∷ []) world)) (sym y.high) (item_either v y.number y.low (list_or_none of.is given.0)))
+        subst (λ l. Follows kept around place p arguments (At l e frames core) rest e frames core g raised (references world.heap (v ∷ u ∷ [])) (length w.body.types) world (meant_op program covers (row.Item None) (v ∷ u ∷ []) world)) (sym (append_assoc held_list.ops (gets_array ∷ gets_item ∷ puts ∷ []) rest))
+        (subst (λ s. Gave (references world.heap (v ∷ u ∷ [])) (meant_op program covers (row.Item None) (v ∷ s ∷ []) world)) (sym y.high) (item_either (references world.heap (v ∷ u ∷ [])) v y.number y.low (list_or_none of.is given.0)))
     item_follow (v ∷ u ∷ s ∷ vs) given = absurd given.1.1
 
   pub item_done : IsDone kept around (row.Item None) covers [] place (a ∷ b ∷ []) w

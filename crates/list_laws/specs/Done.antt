@@ -1,7 +1,7 @@
 -- When the low-level operations of an operation do what it does with a heap that blocks and statics represent.
-use Rattle.std.specs.Prelude.{◌≡◌, ◌≢◌, ◌<◌, ◌≤◌, ℕ, ◌+◌, true, List, ◌++◌, length, Option, None}
+use Rattle.std.specs.Prelude.{◌≡◌, ◌≢◌, ◌<◌, ◌≤◌, ℕ, ◌+◌, true, List, [], ◌∷◌, ◌++◌, length, slice_get, Option, Some, None}
 use Rattle.ann_element.specs.declared.element.Element.{Element}
-use Rattle.rpy_tree.specs.Value.{Value as Meant}
+use Rattle.rpy_tree.specs.Value.{Value as Meant, Ref, Object, Listed, Heap}
 use Rattle.rpy_meaning.specs.declared.row.Covers.{Covers}
 use Rattle.rpy_meaning.specs.declared.row.RowOp.{RowOp}
 use Rattle.rpy_meaning.specs.Operations.{op}
@@ -34,9 +34,24 @@ use Rattle.list_laws.specs.Ghost.{Ghost, Grown}
 use Rattle.list_laws.specs.Represents.{Represents}
 use Rattle.list_laws.specs.Values.{Holds, Given}
 
+-- the items of a list
+abbrev pub items_in : Option Object → ℕ
+items_in (Some (Listed vs)) = length vs
+items_in other = 0
+
+abbrev pub items_of : Heap → Meant → ℕ
+items_of heap (Ref r) = items_in (slice_get heap r)
+items_of heap other = 0
+
+-- How many references may be written into blocks: one for each operand, those of the lists among them, whose arrays may be made anew, and
+-- that of an array.
+abbrev pub references : Heap → List Meant → ℕ
+references heap [] = 1
+references heap (v ∷ vs) = 1 + (items_of heap v + references heap vs)
+
 -- The operations are done, and what comes behind them is next. The blocks represent the heap that the operation leaves, and what was there
 -- stands for what it was. A variable has what stands for the result; of the first so many no other is changed. At most two blocks are made,
--- and no more references are written than there are operands; what was put is that of the operation.
+-- and no more than so many references are written; what was put is that of the operation.
 pub record Came (kept : ℕ → Option Element) (around : Around) (place : Place) (p : LlProgram) (args : List (List ℕ)) (s : State) (rest : List LlOp) (e : LlExit) (frames : List Frame) (core : Core) (g : Ghost) (most below : ℕ) (w : World) (v : Meant) (w' : World) : Type 0 where
   pub end : Core
   pub text : List ℕ
@@ -78,4 +93,4 @@ pub record IsDone (kept : ℕ → Option Element) (around : Around) (o : RowOp) 
   pub follows : (program : Program) (p : LlProgram) (numbers : Numbers) (raised : ℕ → Value) (arguments : List (List ℕ)) (rest : List LlOp) (e : LlExit) (frames : List Frame) (core : Core) (g : Ghost) (world : World) (vs : List Meant)
       → HasStructs p around.layout → HasLists p around.layout → HasAll p around.layout numbers raised core asks w.found → Represents around.layout kept g world.heap world.left core.blocks core.statics → world.left ≡ core.steps
       → length w.body.types + length new ≤ length core.vars → place.variable < length w.body.types → AllBelow (length w.body.types) args → Given around g core args vs
-      → Follows kept around place p arguments (At (ops ++ rest) e frames core) rest e frames core g raised (length args) (length w.body.types) world (op program covers o vs world)
+      → Follows kept around place p arguments (At (ops ++ rest) e frames core) rest e frames core g raised (references world.heap vs) (length w.body.types) world (op program covers o vs world)
