@@ -84,6 +84,7 @@ pub list_changes : {layout : Layout} {kept : ℕ → Option Element} {g ghost : 
 list_changes {layout = layout} {kept = kept} {g = g} {ghost = ghost} {heap = heap} {left = left} {fewer = fewer} {blocks2 = blocks2} {statics2 = statics2} n i head items r grown same less home made fixed stays others changed = record {
   made = made;
   fixed = ap length grown.statics ∙ r.fixed ∙ sym fixed;
+  few = (let f = r.few in omega (arith, f, less));
   homes = ap length same ∙ r.homes ∙ sym (length-set heap i (Listed items));
   stays = λ x block h. others x (Stays block) (stays x block h) (λ e. e) ∙ r.stays x block (stays x block h);
   lists = lists;

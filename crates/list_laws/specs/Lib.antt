@@ -3,4 +3,5 @@ pub mod Done
 pub mod Ghost
 pub mod Lists
 pub mod Represents
+pub mod Rows
 pub mod Values

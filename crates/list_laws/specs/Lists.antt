@@ -8,6 +8,7 @@ use Rattle.rpy_meaning.specs.declared.row.RowOp.TheVariants as row
 use Rattle.rtyper_layout.specs.declared.kind.Kind.TheVariants as kind
 use Rattle.rtyper_layout.specs.declared.layout.Layout.{Layout}
 use Rattle.rtyper_layout.specs.Kinds.{kind_seen}
+use Rattle.rtyper_layout.specs.Layout.{is_list}
 use Rattle.rtyper_layout.specs.Types.{word, type_of as element_type, type_seen, field_type}
 use Rattle.rtyper_data.specs.declared.small.Listed.TheVariants as listed
 use Rattle.rtyper_data.specs.declared.small.Small.TheVariants as small
@@ -58,6 +59,11 @@ WalksGoOn = (kept : ℕ → Option Element) (around : Around) (place : Place) (a
 abbrev pub WalksGive : Type 0
 WalksGive = (kept : ℕ → Option Element) (around : Around) (place : Place) (a b : Operand) (w : Writing) (covers : Covers) (n : ℕ) (item : Element) → IsList around kept a.element n item → kind_of b ≡ kind.Word → Stays around.layout (Some item) place.element
     → IsDone kept around (row.Item None) covers [] place (a ∷ b ∷ []) w
+
+-- a list without items is made, at its cost
+abbrev pub EmptyListsAreMade : Type 0
+EmptyListsAreMade = (kept : ℕ → Option Element) (around : Around) (place : Place) (w : Writing) (covers : Covers) (site n : ℕ) → of_list (kind_seen place.element) ≡ true → type_seen around.layout place.element ≡ type.Ptr n → is_list around.layout n ≡ true
+    → IsDone kept around (row.List site) covers (Make (small.Listed (listed.Make n)) ∷ []) place [] w
 
 -- an item is stored; the value of that is the item
 abbrev pub ItemsAreStored : Type 0

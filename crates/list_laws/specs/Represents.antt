@@ -45,10 +45,11 @@ pub record ListAt (layout : Layout) (kept : Option Element) (g : Ghost) (heap : 
   pub room : HasRoom (length items) left
 
 -- What is known of the items of the lists of a struct is `kept`. Each object has a home, and each block and static a use. What stays is what
--- it is; what has the struct of a list is one. The heads and the arrays of two lists are apart, since each is for one of them.
+-- it is; what has the struct of a list is one. The steps that are left are few enough for every cost to be a word. The heads and the arrays of two lists are apart, since each is for one of them.
 pub record Represents (layout : Layout) (kept : ℕ → Option Element) (g : Ghost) (heap : Heap) (left : ℕ) (blocks : List (Option Block)) (statics : List Block) : Type 0 where
   pub made : length g.blocks ≡ length blocks
   pub fixed : length g.statics ≡ length statics
   pub homes : length g.homes ≡ length heap
+  pub few : left < 2 ^ 62
   pub stays : (x : Value) (block : Block) → use_of g x ≡ Some (Stays block) → found blocks statics x ≡ Some block
   pub lists : (n i : ℕ) (head : Value) → slice_get g.homes i ≡ Some (record { struct = n; head = head }) → is_list layout n ≡ true → ListAt layout (kept n) g heap left blocks statics n i head

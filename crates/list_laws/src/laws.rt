@@ -1,5 +1,6 @@
 // Laws of operations on lists as they are lowered.
-ghost use Rattle.list_laws.specs.Lists.{ItemsAreRead, ItemsAreStored, LengthsAreRead, WalksGive, WalksGoOn};
+ghost use Rattle.list_laws.specs.Lists.{EmptyListsAreMade, ItemsAreRead, ItemsAreStored, LengthsAreRead, WalksGive, WalksGoOn};
+ghost use Rattle.list_laws.specs.Rows.{TwoWords};
 
 /// The length of a list; where the list may be missing, `None` fails, or raises.
 pub fn lengths_are_read()
@@ -9,6 +10,16 @@ pub fn lengths_are_read()
 /// The item at an index, which counts from the end where it is below zero; outside it fails, or raises.
 pub fn items_are_read()
     ensures { ItemsAreRead }
+{}
+
+/// A list without items.
+pub fn empty_lists_are_made()
+    ensures { EmptyListsAreMade }
+{}
+
+/// Two blocks represent a heap with one list of two words.
+pub fn two_words_are_a_list()
+    ensures { TwoWords }
 {}
 
 /// An item that is stored at an index, in every list that the blocks represent: no other list changes.
