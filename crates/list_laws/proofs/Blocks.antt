@@ -1,11 +1,11 @@
 -- Fields and items of blocks whose structs have no base.
-use Rattle.std.proofs.Common.{◌≡◌, ◌<◌, ℕ, ◌+◌, ◌==◌, true, false, List, [], ◌∷◌, length, Option, Some, None, Ok, Err, pos, refl, sym, ap, ◌∙◌, arith}
+use Rattle.std.proofs.Common.{◌≡◌, ◌<◌, ℕ, ◌==◌, true, false, List, [], ◌∷◌, length, Option, Some, None, Ok, Err, pos, refl, ap, ◌∙◌, arith}
 use Rattle.std.specs.Prelude.{cond, nat_lt}
 use Rattle.std.proofs.lemmas.Bool.Decides.{nat_tests}
-use Rattle.csub_tree.specs.State.{Value, Unset, Word, Byte, Flag, Fun, Null, Ptr, Static, Block, Core, Onward, Stuck}
+use Rattle.csub_tree.specs.State.{Value, Word, Flag, Null, Ptr, Static, Block, Core, Onward, Stuck}
 use Rattle.csub_tree.specs.Layout.{Shape, shape_at, shape_over, begins_with, is_among, place}
 use Rattle.csub_tree.specs.Operation.{is_unset, compared}
-use Rattle.csub_tree.specs.Statement.{read, operand, block_at, as_struct, reached, on_block, set, item, get_field, get_item}
+use Rattle.csub_tree.specs.Statement.{read, operand, block_at, as_struct, reached, on_block, set, item, get_item}
 use Rattle.csub_tree.specs.declared.stuck.StuckReason.TheVariants.{Outside, Kind, Unset as IsUnset}
 use Rattle.csub_tree.specs.declared.tree.COperand.{COperand}
 use Rattle.ll_code.specs.State.{Frame, At}

@@ -1,5 +1,5 @@
 -- Calls that make blocks or write into them, whatever waits behind them.
-use Rattle.std.proofs.Common.{◌≡◌, ◌≤◌, ℕ, ◌+◌, false, List, [], ◌∷◌, Option, refl, ap, ◌∙◌, subst, arith}
+use Rattle.std.proofs.Common.{◌≡◌, ℕ, ◌+◌, false, List, [], ◌∷◌, Option, refl, ap, ◌∙◌, subst, arith}
 use Rattle.std.specs.Prelude.{cond}
 use Rattle.csub_tree.specs.State.{Value, Core}
 use Rattle.csub_tree.specs.Statement.{operands, any_unset, taken_by}

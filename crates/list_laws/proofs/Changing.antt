@@ -1,15 +1,15 @@
 -- One list changes, and all else is what it was.
-use Rattle.std.proofs.Common.{◌≡◌, ◌≢◌, ◌<◌, ◌≤◌, ◌⊎◌, inl, inr, ℕ, zero, suc, ◌+◌, ◌*◌, ◌^◌, true, false, List, [], ◌∷◌, ◌++◌, length, Option, Some, None, refl, sym, ap, ◌∙◌, subst, arith}
+use Rattle.std.proofs.Common.{◌≡◌, ◌≤◌, ◌⊎◌, inl, inr, ℕ, zero, suc, true, List, [], ◌∷◌, length, Option, Some, None, refl, sym, ap, ◌∙◌, subst, arith}
 use Rattle.std.specs.Prelude.{slice_get, slice_set, slice_index_or}
 use Rattle.std.proofs.lemmas.Bool.{cases_eq}
-use Rattle.std.proofs.lemmas.List.{get_or-set_same, get_or-set_other, length-set}
+use Rattle.std.proofs.lemmas.List.{get_or-set_other, length-set}
 use Rattle.ann_element.specs.declared.element.Element.{Element}
 use Rattle.csub_tree.specs.State.{Value, Ptr, Static, Block}
 use Rattle.ll_texts.specs.Texts.{found}
-use Rattle.rpy_tree.specs.Value.{Value as Meant, Listed, Object, Heap}
+use Rattle.rpy_tree.specs.Value.{Value as Meant, Listed, Heap}
 use Rattle.rtyper_layout.specs.declared.layout.Layout.{Layout}
 use Rattle.rtyper_layout.specs.Layout.{is_list}
-use Rattle.list_laws.specs.Ghost.{Ghost, Grown, Home, Use, Stays, Head, Array, Other, use_of}
+use Rattle.list_laws.specs.Ghost.{Ghost, Grown, Home, Use, Stays, Head, Array, use_of}
 use Rattle.list_laws.specs.Represents.{Represents, ListAt, HasRoom}
 use Rattle.list_laws.proofs.Growing.{use_grows, each_grows}
 
@@ -58,6 +58,20 @@ wrote_static blocks statics s old block h = record { there = get_set_here static
     others (Static t) other = get_set_other statics s t block (λ e. other (ap Static e))
     others (Ptr m) other = refl
     others _ other = refl
+
+-- what is there then
+abbrev pub put_block : Value → Block → List (Option Block) → List (Option Block)
+put_block (Ptr n) block blocks = slice_set blocks n (Some block)
+put_block _ block blocks = blocks
+
+abbrev pub put_static : Value → Block → List Block → List Block
+put_static (Static s) block statics = slice_set statics s block
+put_static _ block statics = statics
+
+pub wrote_at : (blocks : List (Option Block)) (statics : List Block) (at : Value) (old block : Block) → found blocks statics at ≡ Some old → Wrote blocks statics at block (put_block at block blocks) (put_static at block statics)
+wrote_at blocks statics (Ptr n) old block h = wrote_block blocks statics n old block h
+wrote_at blocks statics (Static s) old block h = wrote_static blocks statics s old block h
+wrote_at blocks statics _ old block h = absurd (cc)
 
 -- ---- a list is another
 

@@ -1,26 +1,24 @@
 -- A list without items is made.
-use Rattle.std.proofs.Common.{◌≡◌, ◌<◌, ◌≤◌, ℕ, ◌+◌, ◌-◌, ◌^◌, Bool, true, false, List, [], ◌∷◌, ◌++◌, length, Option, Some, None, pos, refl, sym, ap, ◌∙◌, subst, arith, append_assoc, length-append}
-use Rattle.std.specs.Prelude.{slice_get, nat_lt, if◌then◌else◌}
+use Rattle.std.proofs.Common.{◌≡◌, ◌<◌, ◌≤◌, ℕ, ◌+◌, ◌-◌, Bool, true, false, List, [], ◌∷◌, ◌++◌, length, Option, Some, None, pos, refl, sym, ap, ◌∙◌, subst, arith, append_assoc, length-append}
+use Rattle.std.specs.Prelude.{nat_lt, if◌then◌else◌}
 use Rattle.std.proofs.lemmas.Bool.Decides.{nat_tests}
 use Rattle.std.proofs.lemmas.List.{append-nil, length-set}
 use Rattle.ann_element.specs.declared.element.Element.{Element}
-use Rattle.csub_tree.specs.State.{Value, Unset, Word, Ptr, Block, Core}
+use Rattle.csub_tree.specs.State.{Value, Ptr, Block, Core}
 use Rattle.csub_tree.specs.Statement.{read}
 use Rattle.csub_tree.specs.declared.tree.COperand.TheVariants.{Var}
-use Rattle.rpy_tree.specs.Value.{Value as Meant, Ref, Listed as ListedObject, Object}
+use Rattle.rpy_tree.specs.Value.{Value as Meant, Ref, Listed as ListedObject}
 use Rattle.rpy_meaning.specs.declared.row.Covers.{Covers}
 use Rattle.rpy_meaning.specs.declared.row.RowOp.TheVariants as row
 use Rattle.rpy_meaning.specs.Operations.{op as meant_op}
 use Rattle.rpy_meaning.specs.Tree.{Program}
 use Rattle.rpy_meaning.specs.World.{World, Answer, Gives, Lacks}
 use Rattle.ll_code.specs.State.{Frame, State, At}
-use Rattle.ll_code.specs.declared.program.LlType.{LlType}
 use Rattle.ll_code.specs.declared.program.LlType.TheVariants as type
 use Rattle.ll_code.specs.declared.program.LlOp.{LlOp}
 use Rattle.ll_code.specs.declared.program.LlOp.TheVariants as op
 use Rattle.ll_code.specs.declared.program.LlExit.{LlExit}
 use Rattle.ll_code.specs.declared.program.LlProgram.{LlProgram}
-use Rattle.ll_leads.specs.Memory.{forgotten}
 use Rattle.ll_leads.specs.Path.{Leads}
 use Rattle.ll_leads.proofs.Joined.{leads_then, leads_more}
 use Rattle.ll_leads.proofs.Ways.{rests, pays, lacks}
@@ -29,15 +27,13 @@ use Rattle.ll_texts.proofs.Writing.{newest}
 use Rattle.rtyper_layout.specs.Kinds.{kind_seen}
 use Rattle.rtyper_layout.specs.Layout.{is_list}
 use Rattle.rtyper_layout.specs.Types.{word, type_seen}
-use Rattle.rtyper_data.specs.declared.body.Body.{Body}
-use Rattle.rtyper_data.specs.declared.found.Found.{Found}
 use Rattle.rtyper_data.specs.declared.small.Small.{Small}
 use Rattle.rtyper_data.specs.declared.small.Small.TheVariants as small
 use Rattle.rtyper_data.specs.declared.small.Listed.TheVariants as listed
 use Rattle.rtyper_data.specs.Converting.{by_small}
 use Rattle.rtyper_data.specs.Finding.{small_number}
 use Rattle.rtyper_data.specs.Numbers.{word as word_operand}
-use Rattle.rtyper_data.specs.Seen.{Around, Operand, Place, type_at, Writing, writing, push}
+use Rattle.rtyper_data.specs.Seen.{Around, Place, Writing, writing, push}
 use Rattle.rtyper_data.specs.Tuples.{variable_of}
 use Rattle.rtyper_list.specs.Displays.{display, display_to, display_of, made, filled}
 use Rattle.rtyper_list.specs.Lowering.{lowered, lower_list_op}
@@ -49,7 +45,7 @@ use Rattle.list_laws.specs.Asked.{HasList}
 use Rattle.list_laws.specs.Done.{Follows, HasLists, IsDone, references}
 use Rattle.list_laws.specs.Ghost.{Ghost}
 use Rattle.list_laws.specs.Lists.{EmptyListsAreMade}
-use Rattle.list_laws.specs.Represents.{Represents, HasRoom, head_block, array_block}
+use Rattle.list_laws.specs.Represents.{Represents, head_block, array_block}
 use Rattle.list_laws.specs.Values.{Given, Holds, Listed, Empty}
 use Rattle.list_laws.proofs.Blocks.{reads_field}
 use Rattle.list_laws.proofs.Calling.{back, calls_back}

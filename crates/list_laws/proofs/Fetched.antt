@@ -1,9 +1,9 @@
 -- An item at a place that is there is read: the array first, and the item of that.
-use Rattle.std.proofs.Common.{◌≡◌, ◌<◌, ℕ, ◌+◌, true, false, List, [], ◌∷◌, ◌++◌, length, Option, Some, pos, refl, sym, ap, ◌∙◌, subst, arith}
+use Rattle.std.proofs.Common.{◌≡◌, ◌<◌, ℕ, ◌+◌, true, false, List, [], ◌∷◌, ◌++◌, length, Option, Some, pos, refl, sym, ◌∙◌, subst, arith}
 use Rattle.std.specs.Prelude.{slice_get}
 use Rattle.std.proofs.lemmas.List.{length-set}
 use Rattle.ann_element.specs.declared.element.Element.{Element}
-use Rattle.csub_tree.specs.State.{Value, Word, Block, Core}
+use Rattle.csub_tree.specs.State.{Value, Word, Core}
 use Rattle.csub_tree.specs.Operation.{is_unset}
 use Rattle.csub_tree.specs.Statement.{read, operand}
 use Rattle.csub_tree.specs.declared.tree.COperand.{COperand}
@@ -28,7 +28,7 @@ use Rattle.list_laws.specs.Represents.{Represents, ListAt, head_block, array_blo
 use Rattle.list_laws.specs.Values.{Holds}
 use Rattle.list_laws.proofs.Blocks.{found_set, reads_field, reads_item}
 use Rattle.list_laws.proofs.Passing.{is_set_at, is_kept_at}
-use Rattle.list_laws.proofs.Valued.{Item, each_at, held_set}
+use Rattle.list_laws.proofs.Valued.{each_at, held_set}
 
 -- of an operand, where another variable is set
 other_kept : (core : Core) (m : ℕ) (value : Value) (x : COperand) → IsBelow m x → operand (after core m value).vars x ≡ operand core.vars x

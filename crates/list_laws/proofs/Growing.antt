@@ -1,5 +1,5 @@
 -- What stands for a value still does when blocks and objects are made.
-use Rattle.std.proofs.Common.{◌≡◌, ◌<◌, ℕ, zero, suc, List, [], ◌∷◌, ◌++◌, Option, Some, refl, sym, ap, ◌∙◌, subst}
+use Rattle.std.proofs.Common.{◌≡◌, ℕ, zero, suc, List, [], ◌∷◌, ◌++◌, Option, Some, ap, ◌∙◌}
 use Rattle.std.specs.Prelude.{slice_get}
 use Rattle.ann_element.specs.declared.element.Element.{Element}
 use Rattle.csub_tree.specs.State.{Value, Ptr, Static}
@@ -7,7 +7,7 @@ use Rattle.ll_code.specs.declared.program.LlType.{LlType}
 use Rattle.rpy_tree.specs.Value.{Value as Meant}
 use Rattle.rtyper_layout.specs.declared.layout.Layout.{Layout}
 use Rattle.list_laws.specs.Ghost.{Ghost, Grown, Home, Use, use_of}
-use Rattle.list_laws.specs.Values.{IsText, Stands, word, flag, byte, text, missing, Holds, Plain, Alone, Items, Listed, Missing, AllHold, End, Next, EachHolds, Empty, More}
+use Rattle.list_laws.specs.Values.{Stands, word, flag, byte, text, missing, Holds, Plain, Alone, Items, Listed, Missing, AllHold, End, Next, EachHolds, Empty, More}
 
 pub get_more : {A : Type 0} (xs more : List A) (i : ℕ) (x : A) → slice_get xs i ≡ Some x → slice_get (xs ++ more) i ≡ Some x
 get_more [] more i x h = absurd (cc)

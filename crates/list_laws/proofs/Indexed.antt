@@ -1,18 +1,16 @@
 -- The item at an index is read.
-use Rattle.std.proofs.Common.{◌≡◌, ◌<◌, ◌≤◌, ℕ, zero, suc, ◌+◌, ◌-◌, ◌^◌, ◌⊎◌, inl, inr, Bool, true, false, ◌||◌, List, [], ◌∷◌, ◌++◌, length, Option, Some, None, Ok, ℤ, pos, negsuc, refl, sym, ap, ◌∙◌, subst, arith, append_assoc, length-append}
+use Rattle.std.proofs.Common.{◌≡◌, ◌<◌, ◌≤◌, ℕ, zero, suc, ◌+◌, ◌-◌, ◌^◌, ◌⊎◌, inl, inr, Bool, true, false, ◌||◌, List, [], ◌∷◌, ◌++◌, length, Option, Some, None, ℤ, pos, negsuc, refl, sym, ap, ◌∙◌, subst, arith, append_assoc, length-append}
 use Rattle.std.specs.Prelude.{slice_get, nat_lt, option_and_then, if◌then◌else◌}
 use Rattle.std.proofs.lemmas.Bool.Decides.{nat_tests}
 use Rattle.std.proofs.lemmas.List.{length-set}
 use Rattle.ann_element.specs.declared.element.Element.{Element}
 use Rattle.rpy_base.specs.Word.{Fits}
 use Rattle.rpy_base.specs.declared.outcome.FailName.TheVariants as fail
-use Rattle.csub_tree.specs.State.{Value, Unset, Word, Core}
-use Rattle.csub_tree.specs.Layout.{shape_at, shape_over}
-use Rattle.csub_tree.specs.Operation.{is_unset}
+use Rattle.csub_tree.specs.State.{Value, Word, Core}
 use Rattle.csub_tree.specs.Statement.{read, operand, operands, any_unset}
 use Rattle.csub_tree.specs.declared.tree.COperand.{COperand}
 use Rattle.csub_tree.specs.declared.tree.COperand.TheVariants.{Var}
-use Rattle.rpy_tree.specs.Value.{Value as Meant, Word as MeantWord, Ref, Nothing}
+use Rattle.rpy_tree.specs.Value.{Value as Meant, Word as MeantWord, Ref}
 use Rattle.rpy_meaning.specs.declared.row.Covers.{Covers}
 use Rattle.rpy_meaning.specs.declared.row.RowOp.TheVariants as row
 use Rattle.rpy_meaning.specs.Operations.{op as meant_op}
@@ -20,7 +18,6 @@ use Rattle.rpy_meaning.specs.Sequences.{place as meant_place, item_at, index_obj
 use Rattle.rpy_meaning.specs.Tree.{Program}
 use Rattle.rpy_meaning.specs.World.{World, Answer, Gives, index_error, if_some, give, failure}
 use Rattle.ll_code.specs.State.{Frame, State, At}
-use Rattle.ll_code.specs.Machine.{shapes_of}
 use Rattle.ll_code.specs.declared.program.LlType.{LlType}
 use Rattle.ll_code.specs.declared.program.LlType.TheVariants as type
 use Rattle.ll_code.specs.declared.program.LlOp.{LlOp}
@@ -28,13 +25,11 @@ use Rattle.ll_code.specs.declared.program.LlOp.TheVariants as op
 use Rattle.ll_code.specs.declared.program.LlExit.{LlExit}
 use Rattle.ll_code.specs.declared.program.LlProgram.{LlProgram}
 use Rattle.ll_build.specs.declared.needs.Numbers.{Numbers}
-use Rattle.ll_leads.specs.Path.{Leads}
 use Rattle.ll_leads.proofs.Ways.{on}
 use Rattle.ll_texts.specs.Texts.{found}
 use Rattle.rtyper_layout.specs.declared.kind.Kind.TheVariants as kind
-use Rattle.rtyper_layout.specs.Kinds.{kind_seen}
 use Rattle.rtyper_layout.specs.Layout.{is_list}
-use Rattle.rtyper_layout.specs.Types.{word, type_of as element_type, field_type}
+use Rattle.rtyper_layout.specs.Types.{word, type_of as element_type}
 use Rattle.rtyper_data.specs.declared.body.Body.{Body}
 use Rattle.rtyper_data.specs.declared.found.Found.{Found}
 use Rattle.rtyper_data.specs.declared.small.Small.{Small}
@@ -48,10 +43,9 @@ use Rattle.list_shape.specs.declared.shape.Shape.{Shape}
 use Rattle.list_shape.specs.Shapes.{item_of, shape_of, taking}
 use Rattle.rtyper_list.specs.Items.{shape_in, index, placed, give_item}
 use Rattle.rtyper_list.specs.Lowering.{lowered, of_some, first_of_two, lower_list_op}
-use Rattle.rtyper_list.specs.Operands.{of_list, of_list_or_none, list_of, pointed, array_in, read_item}
+use Rattle.rtyper_list.specs.Operands.{of_list_or_none, list_of, pointed, array_in, read_item}
 use Rattle.lower_laws.specs.Asked.{Ask, Make, all_asked, number_of}
 use Rattle.lower_laws.specs.Values.{AllBelow}
-use Rattle.lower_laws.proofs.Coming.{Comes}
 use Rattle.lower_laws.proofs.Doing.{after}
 use Rattle.lower_laws.proofs.Items.{gives_same}
 use Rattle.lower_laws.proofs.Single.{sets}
@@ -60,16 +54,16 @@ use Rattle.list_laws.specs.Asked.{HasList, HasAll}
 use Rattle.list_laws.specs.Done.{Follows, HasLists, IsDone, references}
 use Rattle.list_laws.specs.Ghost.{Ghost}
 use Rattle.list_laws.specs.Lists.{Stays, IsList, if_missing, there_asks, ItemsAreRead}
-use Rattle.list_laws.specs.Represents.{Represents, ListAt, head_block, array_block}
+use Rattle.list_laws.specs.Represents.{Represents, ListAt}
 use Rattle.list_laws.specs.Values.{Given, Holds}
-use Rattle.list_laws.proofs.Blocks.{found_set, found_there, reads_field, reads_item}
+use Rattle.list_laws.proofs.Blocks.{found_set, found_there}
 use Rattle.list_laws.proofs.Fetched.{fetched}
-use Rattle.list_laws.proofs.Lengths.{HeadShape, HeadFound, count_fits}
+use Rattle.list_laws.proofs.Lengths.{count_fits}
 use Rattle.list_laws.proofs.Lowered.{list_comes, two_come, first_of_two_is_list}
 use Rattle.list_laws.proofs.Passing.{Pays, none_passed, sets_more, sets_last, is_set_at, is_kept_at, operand_kept, behind, calls_at, throws_at, fails_at}
 use Rattle.list_laws.proofs.Places.{PlaceGoes, place_is}
 use Rattle.list_laws.proofs.There.{Entered, entered}
-use Rattle.list_laws.proofs.Valued.{Listing, Absent, list_or_none, word_held, stays_typed, stays_there, stays_held, held_set, each_long, each_at}
+use Rattle.list_laws.proofs.Valued.{Listing, Absent, list_or_none, word_held, stays_typed, stays_there, stays_held, each_long}
 
 -- ---- what is asked for
 

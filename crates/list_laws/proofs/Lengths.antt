@@ -1,20 +1,18 @@
 -- The length of a list is read.
-use Rattle.std.proofs.Common.{◌≡◌, ◌<◌, ◌≤◌, ℕ, ◌+◌, ◌^◌, ◌⊎◌, inl, inr, Bool, true, false, List, [], ◌∷◌, ◌++◌, length, Option, Some, None, Ok, pos, refl, sym, ap, ◌∙◌, subst, arith, append_assoc, length-append}
+use Rattle.std.proofs.Common.{◌≡◌, ◌<◌, ◌≤◌, ℕ, ◌+◌, ◌^◌, ◌⊎◌, inl, inr, true, List, [], ◌∷◌, ◌++◌, length, Option, Some, None, pos, refl, sym, ap, ◌∙◌, subst, arith, append_assoc, length-append}
 use Rattle.ann_element.specs.declared.element.Element.{Element}
-use Rattle.rpy_base.specs.declared.outcome.FailName.TheVariants as fail
 use Rattle.csub_tree.specs.State.{Value, Word, Core}
 use Rattle.csub_tree.specs.Layout.{shape_at, shape_over}
 use Rattle.csub_tree.specs.Statement.{read, operand}
 use Rattle.csub_tree.specs.declared.tree.COperand.TheVariants.{Var}
-use Rattle.rpy_tree.specs.Value.{Value as Meant, Word as MeantWord, Ref, Nothing}
+use Rattle.rpy_tree.specs.Value.{Value as Meant, Word as MeantWord}
 use Rattle.rpy_meaning.specs.declared.row.RowOp.TheVariants as row
 use Rattle.rpy_meaning.specs.Operations.{op as meant_op}
 use Rattle.rpy_meaning.specs.Tree.{Program}
-use Rattle.rpy_meaning.specs.World.{World, Answer, Gives, Throws, Fails, failure}
+use Rattle.rpy_meaning.specs.World.{World, Gives}
 use Rattle.rpy_meaning.specs.Methods.{object_length}
 use Rattle.ll_code.specs.State.{Frame, State, At}
 use Rattle.ll_code.specs.Machine.{shapes_of}
-use Rattle.ll_code.specs.declared.program.LlType.{LlType}
 use Rattle.ll_code.specs.declared.program.LlType.TheVariants as type
 use Rattle.ll_code.specs.declared.program.LlOp.{LlOp}
 use Rattle.ll_code.specs.declared.program.LlOp.TheVariants as op
@@ -27,15 +25,13 @@ use Rattle.ll_texts.specs.Texts.{found}
 use Rattle.ll_texts.proofs.Numbers.{fits_count}
 use Rattle.rtyper_layout.specs.declared.kind.Kind.TheVariants as kind
 use Rattle.rtyper_layout.specs.Kinds.{kind_seen}
-use Rattle.rtyper_data.specs.Converting.{give}
-use Rattle.rtyper_data.specs.Seen.{Around, Operand, Place, kind_of, type_of, type_at, Writing, writing}
+use Rattle.rtyper_data.specs.Seen.{Around, Operand, Place, kind_of, type_at, Writing, writing}
 use Rattle.list_shape.specs.Shapes.{taking}
 use Rattle.rtyper_list.specs.Items.{shape_in, len, length_in, give_length}
 use Rattle.rtyper_list.specs.Lowering.{lowered, of_some, first_of_one, lower_list_op}
-use Rattle.rtyper_list.specs.Operands.{of_list, list_of, pointed, there_in}
+use Rattle.rtyper_list.specs.Operands.{of_list, list_of, pointed}
 use Rattle.lower_laws.specs.Asked.{all_asked}
-use Rattle.lower_laws.specs.Done.{HasStructs}
-use Rattle.lower_laws.specs.Values.{AllBelow, is_plain}
+use Rattle.lower_laws.specs.Values.{is_plain}
 use Rattle.lower_laws.proofs.Doing.{after}
 use Rattle.lower_laws.proofs.Single.{sets, gives_word}
 use Rattle.lower_laws.proofs.Typing.{place_of_words}
@@ -43,11 +39,11 @@ use Rattle.list_laws.specs.Asked.{HasAll}
 use Rattle.list_laws.specs.Done.{Follows, HasLists, IsDone, references}
 use Rattle.list_laws.specs.Ghost.{Ghost}
 use Rattle.list_laws.specs.Lists.{there_asks, LengthsAreRead}
-use Rattle.list_laws.specs.Represents.{Represents, ListAt, head_block}
+use Rattle.list_laws.specs.Represents.{Represents, head_block}
 use Rattle.list_laws.specs.Values.{Given, Plain, word, Holds, Stands}
 use Rattle.list_laws.proofs.Blocks.{found_set, found_there, reads_field}
 use Rattle.list_laws.proofs.Lowered.{list_comes, one_comes, first_is_list}
-use Rattle.list_laws.proofs.Passing.{sets_more, sets_last, is_set_at, both_passed, behind}
+use Rattle.list_laws.proofs.Passing.{sets_more, sets_last, is_set_at}
 use Rattle.list_laws.proofs.There.{Entered, entered}
 use Rattle.list_laws.proofs.Valued.{Listing, Absent, list_or_none, each_long}
 

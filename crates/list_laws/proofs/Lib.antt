@@ -1,6 +1,7 @@
 pub mod Blocks
 pub mod Calling
 pub mod Changing
+pub mod Copying
 pub mod Displayed
 pub mod Fetched
 pub mod Growing
@@ -12,6 +13,7 @@ pub mod Making
 pub mod Passing
 pub mod Places
 pub mod Present
+pub mod Roomed
 pub mod Rows
 pub mod Stored
 pub mod There

@@ -8,12 +8,11 @@ use Rattle.ll_texts.specs.Texts.{found}
 use Rattle.rpy_tree.specs.Value.{Value as Meant, Listed, Heap}
 use Rattle.rtyper_layout.specs.declared.layout.Layout.{Layout}
 use Rattle.rtyper_layout.specs.Layout.{is_list}
-use Rattle.list_laws.specs.Ghost.{Ghost, Grown, Home, Use, Stays, Head, Array, use_of}
+use Rattle.list_laws.specs.Ghost.{Ghost, Grown, Home, Stays, Head, Array, use_of}
 use Rattle.list_laws.specs.Represents.{Represents, ListAt, HasRoom, head_block, array_block}
 use Rattle.list_laws.specs.Values.{EachHolds}
 use Rattle.list_laws.proofs.Changing.{less_room}
 use Rattle.list_laws.proofs.Growing.{get_more, use_grows, each_grows}
-use Rattle.list_laws.proofs.Valued.{each_long}
 
 -- ---- lists with more behind
 
@@ -32,7 +31,7 @@ module _ {A : Type 0} where
   get_second (x ∷ xs) a b (suc n) h = get_second xs a b n (omega (arith, h))
 
   -- what stands there stood there, or is the last
-  last_one : (xs : List A) (a : A) (n : ℕ) (u : A) → slice_get (xs ++ a ∷ []) n ≡ Some u → (slice_get xs n ≡ Some u) ⊎ ((n ≡ length xs) × (u ≡ a))
+  pub last_one : (xs : List A) (a : A) (n : ℕ) (u : A) → slice_get (xs ++ a ∷ []) n ≡ Some u → (slice_get xs n ≡ Some u) ⊎ ((n ≡ length xs) × (u ≡ a))
   last_one [] a zero u h = inr (refl, (let q : a ≡ u = cc in sym q))
   last_one [] a (suc n) u h = absurd (cc)
   last_one (x ∷ xs) a zero u h = inl h

@@ -1,5 +1,5 @@
 -- The graph that makes a list of so many items, which are still to be set.
-use Rattle.std.proofs.Common.{◌≡◌, ◌≤◌, ℕ, ◌+◌, ◌==◌, true, false, List, [], ◌∷◌, ◌++◌, length, Option, Some, None, Ok, pos, refl, sym, ap, ◌∙◌, subst, arith, append_assoc, length-append}
+use Rattle.std.proofs.Common.{◌≡◌, ℕ, ◌+◌, false, List, [], ◌∷◌, ◌++◌, length, Option, Some, None, pos, refl, ap, ◌∙◌, arith}
 use Rattle.std.specs.Prelude.{slice_get, slice_set, slice_index_or, cond, replicate}
 use Rattle.csub_tree.specs.State.{Value, Unset, Word, Ptr, Block, Core, Made, Onward, Stuck}
 use Rattle.csub_tree.specs.Layout.{Shape, shape_at, shape_over, place}
@@ -7,7 +7,6 @@ use Rattle.csub_tree.specs.Operation.{is_unset}
 use Rattle.csub_tree.specs.Statement.{read, operand, on_block, reached, set_field, stored as stores}
 use Rattle.csub_tree.specs.declared.stuck.StuckReason.TheVariants.{Unset as IsUnset}
 use Rattle.csub_tree.specs.declared.tree.COperand.{COperand}
-use Rattle.csub_tree.specs.declared.tree.COperand.TheVariants.{Var}
 use Rattle.ll_code.specs.State.{Frame, Calling, At, Goes, Tells}
 use Rattle.ll_code.specs.Machine.{step, goes_on, shapes_of}
 use Rattle.ll_code.specs.declared.program.LlOp.{LlOp}
@@ -16,7 +15,7 @@ use Rattle.ll_code.specs.declared.program.LlExit.{LlExit}
 use Rattle.ll_code.specs.declared.program.LlProgram.{LlProgram}
 use Rattle.ll_leads.specs.Path.{Leads, Stay, Go, reference_in}
 use Rattle.ll_leads.proofs.Joined.{leads_then, leads_more}
-use Rattle.ll_leads.proofs.Ways.{on, tell, many, enter, makes}
+use Rattle.ll_leads.proofs.Ways.{tell, many, enter, makes}
 use Rattle.ll_texts.proofs.Writing.{newest, put_newest}
 use Rattle.rtyper_layout.specs.declared.layout.Layout.{Layout}
 use Rattle.rtyper_layout.specs.Types.{word}

@@ -1,5 +1,5 @@
 -- The graph that gives a value which is not `None`, and fails, or raises, where it is.
-use Rattle.std.proofs.Common.{◌≡◌, ℕ, Bool, true, false, ◌||◌, List, [], ◌∷◌, Ok, refl, ap, ◌∙◌}
+use Rattle.std.proofs.Common.{◌≡◌, ℕ, Bool, true, false, ◌||◌, List, [], ◌∷◌, Ok, refl, ap}
 use Rattle.std.specs.Prelude.{if◌then◌else◌}
 use Rattle.rpy_base.specs.declared.outcome.FailName.TheVariants as fail
 use Rattle.csub_tree.specs.State.{Value, Flag, Null, Core}

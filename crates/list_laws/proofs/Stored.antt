@@ -1,15 +1,15 @@
 -- An item is stored in a list.
-use Rattle.std.proofs.Common.{◌≡◌, ◌<◌, ◌≤◌, ℕ, zero, suc, ◌+◌, ◌^◌, ◌⊎◌, inl, inr, Bool, true, false, ◌||◌, List, [], ◌∷◌, ◌++◌, length, Option, Some, None, Ok, ℤ, pos, refl, sym, ap, ◌∙◌, subst, arith, append_assoc, length-append}
-use Rattle.std.specs.Prelude.{slice_get, slice_set, option_and_then, if◌then◌else◌}
+use Rattle.std.proofs.Common.{◌≡◌, ◌<◌, ◌≤◌, ℕ, zero, suc, ◌+◌, ◌^◌, ◌⊎◌, inl, inr, Bool, true, false, ◌||◌, List, [], ◌∷◌, ◌++◌, length, Option, Some, None, ℤ, pos, refl, sym, ap, ◌∙◌, subst, arith, append_assoc, length-append}
+use Rattle.std.specs.Prelude.{slice_get, slice_set, if◌then◌else◌}
 use Rattle.std.proofs.lemmas.List.{append-nil, length-set}
 use Rattle.ann_element.specs.declared.element.Element.{Element}
 use Rattle.rpy_base.specs.Word.{Fits}
 use Rattle.rpy_base.specs.declared.outcome.FailName.TheVariants as fail
-use Rattle.csub_tree.specs.State.{Value, Unset, Word, Core}
+use Rattle.csub_tree.specs.State.{Value, Word, Core}
 use Rattle.csub_tree.specs.Operation.{is_unset}
 use Rattle.csub_tree.specs.Statement.{read, operand, operands, any_unset}
 use Rattle.csub_tree.specs.declared.tree.COperand.{COperand}
-use Rattle.csub_tree.specs.declared.tree.COperand.TheVariants.{Var, Const}
+use Rattle.csub_tree.specs.declared.tree.COperand.TheVariants.{Var}
 use Rattle.rpy_tree.specs.Value.{Value as Meant, Word as MeantWord, Ref, Listed}
 use Rattle.rpy_meaning.specs.declared.row.Covers.{Covers}
 use Rattle.rpy_meaning.specs.declared.row.RowOp.TheVariants as row
@@ -32,7 +32,6 @@ use Rattle.ll_leads.proofs.Ways.{on}
 use Rattle.ll_texts.specs.Texts.{found}
 use Rattle.rtyper_layout.specs.declared.kind.Kind.{Kind}
 use Rattle.rtyper_layout.specs.declared.kind.Kind.TheVariants as kind
-use Rattle.rtyper_layout.specs.Kinds.{kind_seen}
 use Rattle.rtyper_layout.specs.Layout.{is_list}
 use Rattle.rtyper_layout.specs.Types.{word, type_of as element_type}
 use Rattle.rtyper_data.specs.declared.body.Body.{Body}
@@ -43,7 +42,7 @@ use Rattle.rtyper_data.specs.declared.small.Listed.TheVariants as listed
 use Rattle.rtyper_data.specs.Converting.{by_small, given, give}
 use Rattle.rtyper_data.specs.Finding.{small_number}
 use Rattle.rtyper_data.specs.Lowering.{lower_op, never_comes}
-use Rattle.rtyper_data.specs.Seen.{Around, Operand, Place, kind_of, type_of, type_at, Writing, writing}
+use Rattle.rtyper_data.specs.Seen.{Around, Operand, Place, kind_of, type_of, Writing, writing}
 use Rattle.list_shape.specs.declared.shape.Shape.{Shape}
 use Rattle.list_shape.specs.Shapes.{item_of, shape_of, taking}
 use Rattle.rtyper_list.specs.Items.{shape_in, store, stored, placed}
@@ -58,7 +57,7 @@ use Rattle.lower_laws.proofs.Single.{sets}
 use Rattle.lower_laws.proofs.Stayed.{field_is, stays_comes as plainly_comes}
 use Rattle.lower_laws.proofs.Tupled.{given_same}
 use Rattle.list_laws.specs.Asked.{HasList, HasAll}
-use Rattle.list_laws.specs.Done.{Came, Follows, HasLists, IsDone, references}
+use Rattle.list_laws.specs.Done.{Follows, HasLists, IsDone, references}
 use Rattle.list_laws.specs.Ghost.{Ghost, Use, Head, Array, use_of}
 use Rattle.list_laws.specs.Lists.{Stays, Plainly, AsList, AsMaybe, IsList, there_asks, ItemsAreStored}
 use Rattle.list_laws.specs.Represents.{Represents, ListAt, HasRoom, head_block, array_block}
@@ -306,7 +305,7 @@ module _ (kept : ℕ → Option Element) (around : Around) (place : Place) (a b 
         low : k < length (here.values ++ here.spare)
         low = (let l = each_long here.each in let s : length (here.values ++ here.spare) ≡ length here.values + length here.spare = length-append here.values here.spare in omega (arith, below, l, s))
 
-        wrote : Written p arguments sets_item (puts ∷ rest) e frames core2 here.array (record (array_block n (here.values ++ here.spare)) { items = slice_set (here.values ++ here.spare) k value })
+        wrote : Written p arguments 1 sets_item (puts ∷ rest) e frames core2 here.array (record (array_block n (here.values ++ here.spare)) { items = slice_set (here.values ++ here.spare) k value })
         wrote = writes_item p arguments (puts ∷ rest) e frames core2 (word (n + 1)) m2 (Var m1) c.x 1 (array_block n (here.values ++ here.spare)) k value (structs.arrays n struct) refl (is_kept_at core1 m2 m1 here.array (λ q. omega (arith, m2_is, q)) ∙ is_set_at core m1 (Word (pos k)) (omega (arith, room))) low
             (operand_kept passed c.x under ∙ value_at) value_set here.array (is_set_at core1 m2 here.array (omega (arith, room, long1, m2_is))) here.array_is
 

@@ -1,13 +1,13 @@
 -- A list that has to be there, in a variable: `None` fails, or raises.
-use Rattle.std.proofs.Common.{◌≡◌, ◌<◌, ◌≤◌, ℕ, ◌+◌, ◌||◌, Bool, true, false, List, [], ◌∷◌, ◌++◌, length, Option, Some, None, Ok, refl, sym, ap, ◌∙◌, subst, arith}
-use Rattle.std.specs.Prelude.{cond, slice_set}
+use Rattle.std.proofs.Common.{◌≡◌, ◌<◌, ◌≤◌, ℕ, ◌+◌, ◌||◌, Bool, true, false, List, [], ◌∷◌, ◌++◌, length, Option, Some, Ok, refl, sym, ap, ◌∙◌, subst, arith}
+use Rattle.std.specs.Prelude.{cond}
 use Rattle.ann_element.specs.declared.element.Element.{Element}
 use Rattle.rpy_base.specs.declared.outcome.FailName.TheVariants as fail
 use Rattle.csub_tree.specs.State.{Value, Flag, Null, Core}
 use Rattle.csub_tree.specs.Operation.{is_unset, compared}
-use Rattle.csub_tree.specs.Statement.{operand, operands, any_unset}
+use Rattle.csub_tree.specs.Statement.{operand}
 use Rattle.csub_tree.specs.declared.stuck.StuckReason.TheVariants.{Unset as IsUnset}
-use Rattle.ll_code.specs.State.{Frame, State, Calling, At, Goes, Sticks}
+use Rattle.ll_code.specs.State.{Frame, Calling, At, Goes, Sticks}
 use Rattle.ll_code.specs.Machine.{waiting}
 use Rattle.ll_code.specs.declared.program.LlType.{LlType}
 use Rattle.ll_code.specs.declared.program.LlOp.{LlOp}
@@ -15,14 +15,11 @@ use Rattle.ll_code.specs.declared.program.LlOp.TheVariants as op
 use Rattle.ll_code.specs.declared.program.LlExit.{LlExit}
 use Rattle.ll_code.specs.declared.program.LlProgram.{LlProgram}
 use Rattle.ll_build.specs.declared.needs.Numbers.{Numbers}
-use Rattle.ll_leads.specs.Path.{Leads}
 use Rattle.ll_leads.proofs.Ways.{on, one, call}
-use Rattle.ll_texts.proofs.Following.{failed}
 use Rattle.rpy_meaning.specs.World.{World, failure}
 use Rattle.rtyper_layout.specs.declared.kind.Kind.{Kind}
 use Rattle.rtyper_layout.specs.declared.kind.Kind.TheVariants as kind
 use Rattle.rtyper_data.specs.declared.body.Body.{Body}
-use Rattle.rtyper_data.specs.declared.found.Found.{Found}
 use Rattle.rtyper_data.specs.declared.small.Small.TheVariants as small
 use Rattle.rtyper_data.specs.Converting.{by_small, present}
 use Rattle.rtyper_data.specs.Finding.{small_number}

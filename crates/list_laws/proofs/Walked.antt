@@ -1,10 +1,9 @@
 -- Walks over lists: whether they go on, and the item that they have come to.
-use Rattle.std.proofs.Common.{◌≡◌, ◌<◌, ◌≤◌, ℕ, ◌+◌, ◌^◌, ◌⊎◌, inl, inr, Bool, true, false, List, [], ◌∷◌, ◌++◌, length, Option, Some, None, Ok, ℤ, pos, negsuc, refl, sym, ap, ◌∙◌, subst, arith, append_assoc, length-append}
+use Rattle.std.proofs.Common.{◌≡◌, ◌<◌, ◌≤◌, ℕ, ◌+◌, ◌⊎◌, inl, inr, Bool, true, List, [], ◌∷◌, ◌++◌, length, Option, Some, None, ℤ, pos, negsuc, refl, sym, ap, ◌∙◌, subst, arith, append_assoc, length-append}
 use Rattle.std.specs.Prelude.{slice_get, nat_lt}
-use Rattle.std.proofs.lemmas.List.{length-set}
 use Rattle.ann_element.specs.declared.element.Element.{Element}
 use Rattle.csub_tree.specs.State.{Value, Word, Flag, Core}
-use Rattle.csub_tree.specs.Operation.{is_unset, binary_of}
+use Rattle.csub_tree.specs.Operation.{binary_of}
 use Rattle.csub_tree.specs.Statement.{read, operand}
 use Rattle.csub_tree.specs.declared.tree.CBinary.TheVariants as binary
 use Rattle.csub_tree.specs.declared.tree.COperand.{COperand}
@@ -14,8 +13,8 @@ use Rattle.rpy_meaning.specs.declared.row.Covers.{Covers}
 use Rattle.rpy_meaning.specs.declared.row.RowOp.TheVariants as row
 use Rattle.rpy_meaning.specs.Operations.{op as meant_op}
 use Rattle.rpy_meaning.specs.Tree.{Program}
-use Rattle.rpy_meaning.specs.World.{World, Answer, Gives, Bad, on_list, flag, if_some, bad, give}
-use Rattle.ll_code.specs.State.{Frame, State, At}
+use Rattle.rpy_meaning.specs.World.{World, Answer, Gives, on_list, flag, if_some, bad, give}
+use Rattle.ll_code.specs.State.{Frame, At}
 use Rattle.ll_code.specs.declared.program.LlType.{LlType}
 use Rattle.ll_code.specs.declared.program.LlType.TheVariants as type
 use Rattle.ll_code.specs.declared.program.LlOp.{LlOp}
@@ -24,7 +23,6 @@ use Rattle.ll_code.specs.declared.program.LlExit.{LlExit}
 use Rattle.ll_code.specs.declared.program.LlProgram.{LlProgram}
 use Rattle.ll_leads.specs.Path.{Leads}
 use Rattle.ll_leads.proofs.Ways.{on, gives}
-use Rattle.ll_texts.specs.Texts.{found}
 use Rattle.rtyper_layout.specs.declared.kind.Kind.TheVariants as kind
 use Rattle.rtyper_layout.specs.Kinds.{kind_seen}
 use Rattle.rtyper_layout.specs.Layout.{is_list}
@@ -46,15 +44,15 @@ use Rattle.lower_laws.proofs.Typing.{place_of_flags}
 use Rattle.list_laws.specs.Done.{Follows, HasLists, IsDone, references}
 use Rattle.list_laws.specs.Ghost.{Ghost}
 use Rattle.list_laws.specs.Lists.{Stays, IsList, WalksGoOn, WalksGive}
-use Rattle.list_laws.specs.Represents.{Represents, ListAt, head_block, array_block}
+use Rattle.list_laws.specs.Represents.{Represents, ListAt, head_block}
 use Rattle.list_laws.specs.Values.{Given, Holds, Plain, Stands, flag as a_flag}
-use Rattle.list_laws.proofs.Blocks.{found_set, reads_field, reads_item}
+use Rattle.list_laws.proofs.Blocks.{found_set, reads_field}
 use Rattle.list_laws.proofs.Fetched.{fetched}
 use Rattle.list_laws.proofs.Indexed.{three_behind}
 use Rattle.list_laws.proofs.Lengths.{HeadShape, HeadFound}
 use Rattle.list_laws.proofs.Lowered.{list_comes, two_come, first_of_two_is_list}
-use Rattle.list_laws.proofs.Passing.{sets_more, sets_last, is_set_at, is_kept_at, operand_kept}
-use Rattle.list_laws.proofs.Valued.{Listing, Absent, list_or_none, word_held, stays_typed, stays_there, stays_held, held_set, each_at}
+use Rattle.list_laws.proofs.Passing.{sets_more, sets_last, is_set_at, operand_kept}
+use Rattle.list_laws.proofs.Valued.{Listing, Absent, list_or_none, word_held, stays_typed, stays_there, stays_held}
 use Rattle.list_laws.proofs.Variables.{InVariable, in_variable}
 
 pub two_behind : {A : Type 0} (xs ys : List A) (a b : A) → ((xs ++ ys) ++ a ∷ []) ++ b ∷ [] ≡ xs ++ (ys ++ a ∷ b ∷ [])

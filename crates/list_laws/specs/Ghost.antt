@@ -1,6 +1,6 @@
 -- What blocks and statics are for, and where objects stand. All of it only grows: whatever is written into blocks, nothing else stands for
 -- other values than before.
-use Rattle.std.specs.Prelude.{◌≡◌, ℕ, List, ◌++◌, Option, Some, None, slice_get}
+use Rattle.std.specs.Prelude.{◌≡◌, ℕ, List, ◌++◌, Option, None, slice_get}
 use Rattle.csub_tree.specs.State.{Value, Ptr, Static, Block}
 
 -- it stays what it is, as a string and a tuple do; it is the first one of the list of this number, or an array of it; or it is none of these

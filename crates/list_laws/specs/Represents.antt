@@ -1,5 +1,5 @@
 -- When blocks and statics are the objects of a heap: each list has a head, with its length and its array.
-use Rattle.std.specs.Prelude.{◌≡◌, ◌≤◌, ◌<◌, ◌^◌, ℕ, ◌+◌, ◌*◌, pos, Bool, true, false, List, [], ◌∷◌, ◌++◌, length, Option, Some, slice_get}
+use Rattle.std.specs.Prelude.{◌≡◌, ◌<◌, ◌^◌, ℕ, ◌+◌, ◌*◌, pos, true, false, List, [], ◌∷◌, ◌++◌, length, Option, Some, slice_get}
 use Rattle.ann_element.specs.declared.element.Element.{Element}
 use Rattle.csub_tree.specs.State.{Value, Word, Block}
 use Rattle.ll_held.specs.Held.{is_reference}
@@ -8,7 +8,7 @@ use Rattle.rpy_tree.specs.Value.{Value as Meant, Listed, Heap}
 use Rattle.rtyper_layout.specs.declared.layout.Layout.{Layout}
 use Rattle.rtyper_layout.specs.Layout.{is_list}
 use Rattle.rtyper_layout.specs.Types.{word}
-use Rattle.list_laws.specs.Ghost.{Ghost, Home, use_of, Stays, Head, Array}
+use Rattle.list_laws.specs.Ghost.{Ghost, use_of, Stays, Head, Array}
 use Rattle.list_laws.specs.Values.{EachHolds}
 
 -- the head of a list of so many items, and an array

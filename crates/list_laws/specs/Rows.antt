@@ -1,5 +1,5 @@
 -- A heap with one list of two words, and blocks that represent it: an array with a spare place, and a head.
-use Rattle.std.specs.Prelude.{ℕ, pos, negsuc, List, [], ◌∷◌, Option, Some, None}
+use Rattle.std.specs.Prelude.{ℕ, pos, negsuc, List, [], ◌∷◌, Option, Some}
 use Rattle.ann_element.specs.declared.element.Element.{Element}
 use Rattle.ann_element.specs.declared.element.Element.TheVariants as element
 use Rattle.csub_tree.specs.State.{Unset, Word, Ptr, Block}
