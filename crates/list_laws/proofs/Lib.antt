@@ -1,3 +1,6 @@
+pub mod Appended
+pub mod Appending
+pub mod Appends
 pub mod Blocks
 pub mod Calling
 pub mod Changing
@@ -5,6 +8,7 @@ pub mod Copying
 pub mod Displayed
 pub mod Fetched
 pub mod Growing
+pub mod Held
 pub mod Indexed
 pub mod Lengths
 pub mod Lowered

@@ -76,7 +76,7 @@ use Rattle.list_laws.proofs.Writing.{Written, writes_item}
 
 -- ---- kinds
 
-stays_comes : (around : Around) (a : Operand) (to : Option Element) → Stays around.layout a.element to → Comes a
+pub stays_comes : (around : Around) (a : Operand) (to : Option Element) → Stays around.layout a.element to → Comes a
 stays_comes around a to (Plainly s) = plainly_comes s
 stays_comes around a to (AsList n f t k l) = ap never_comes k
 stays_comes around a to (AsMaybe n f t k l) = ap never_comes k

@@ -4,6 +4,7 @@ use Rattle.ann_element.specs.declared.element.Element.{Element}
 use Rattle.ll_code.specs.declared.program.LlType.{LlType}
 use Rattle.ll_code.specs.declared.program.LlType.TheVariants as type
 use Rattle.rpy_meaning.specs.declared.row.Covers.{Covers}
+use Rattle.rpy_meaning.specs.declared.row.RowOp.{RowOp}
 use Rattle.rpy_meaning.specs.declared.row.RowOp.TheVariants as row
 use Rattle.rtyper_layout.specs.declared.kind.Kind.TheVariants as kind
 use Rattle.rtyper_layout.specs.declared.layout.Layout.{Layout}
@@ -69,6 +70,11 @@ EmptyListsAreMade = (kept : ℕ → Option Element) (around : Around) (place : P
 abbrev pub ItemsAreStored : Type 0
 ItemsAreStored = (kept : ℕ → Option Element) (around : Around) (place : Place) (a b c : Operand) (w : Writing) (n : ℕ) (item : Element) → IsList around kept a.element n item → kind_of b ≡ kind.Word → Stays around.layout c.element (Some item) → Stays around.layout c.element place.element
     → IsDone kept around row.StoreIndex w.found.covered (there_asks around a w.found.covered ++ Make (small.Listed (listed.Place n w.found.covered.index)) ∷ []) place (a ∷ b ∷ c ∷ []) w
+
+-- an item is appended, at its cost; a full array is made anew
+abbrev pub ItemsAreAppended : RowOp → Type 0
+ItemsAreAppended o = (kept : ℕ → Option Element) (around : Around) (place : Place) (a b : Operand) (w : Writing) (n : ℕ) (item : Element) → IsList around kept a.element n item → Stays around.layout b.element (Some item) → kind_seen place.element ≡ kind.Nothing
+    → IsDone kept around o w.found.covered (there_asks around a w.found.covered ++ Make (small.Listed (listed.Append n)) ∷ []) place (a ∷ b ∷ []) w
 
 -- the item at an index
 abbrev pub ItemsAreRead : Type 0
