@@ -1,55 +1,43 @@
 -- An item is appended to a list.
-use Rattle.std.proofs.Common.{◌≡◌, ◌<◌, ◌≤◌, ℕ, ◌+◌, ◌-◌, ◌^◌, ◌⊎◌, inl, inr, Bool, true, false, ◌||◌, List, [], ◌∷◌, ◌++◌, length, Option, Some, None, pos, refl, sym, ap, ◌∙◌, subst, arith, append_assoc, length-append}
-use Rattle.std.specs.Prelude.{slice_get, slice_set, nat_lt, if◌then◌else◌, cond, codes}
+use Rattle.std.proofs.Common.{◌≡◌, ◌<◌, ◌≤◌, ℕ, ◌+◌, ◌-◌, Bool, true, false, ◌||◌, List, [], ◌∷◌, ◌++◌, length, Option, Some, None, refl, sym, ap, ◌∙◌, subst, arith}
+use Rattle.std.specs.Prelude.{slice_get, slice_set, nat_lt, if◌then◌else◌, cond}
 use Rattle.std.proofs.lemmas.Bool.Decides.{nat_tests}
 use Rattle.std.proofs.lemmas.List.{append-nil, length-set}
 use Rattle.ann_element.specs.declared.element.Element.{Element}
-use Rattle.rpy_base.specs.declared.outcome.FailName.TheVariants as fail
 use Rattle.csub_tree.specs.State.{Value, Unset, Flag, Core}
 use Rattle.csub_tree.specs.Operation.{is_unset}
-use Rattle.csub_tree.specs.Statement.{read, operand, operands, any_unset}
+use Rattle.csub_tree.specs.Statement.{operand, operands, any_unset}
 use Rattle.csub_tree.specs.declared.stuck.StuckReason.TheVariants.{Unset as IsUnset}
 use Rattle.csub_tree.specs.declared.tree.COperand.{COperand}
-use Rattle.csub_tree.specs.declared.tree.COperand.TheVariants.{Var}
-use Rattle.rpy_tree.specs.Value.{Value as Meant, Nothing, Ref, Listed, Object}
-use Rattle.rpy_meaning.specs.declared.row.Covers.{Covers}
-use Rattle.rpy_meaning.specs.declared.row.RowOp.{RowOp}
-use Rattle.rpy_meaning.specs.declared.row.RowOp.TheVariants as row
-use Rattle.rpy_meaning.specs.Operations.{op as meant_op, object_method}
-use Rattle.rpy_meaning.specs.Tree.{Program}
-use Rattle.rpy_meaning.specs.World.{World, Answer, Gives, Throws, Fails, Lacks, Enters, Bad, failure}
+use Rattle.rpy_tree.specs.Value.{Value as Meant, Nothing, Listed}
+use Rattle.rpy_meaning.specs.World.{World, Answer, Gives, Lacks}
 use Rattle.ll_code.specs.State.{Frame, State, Calling, At, Goes, Sticks}
 use Rattle.ll_code.specs.Machine.{waiting}
-use Rattle.ll_code.specs.declared.program.LlType.{LlType}
 use Rattle.ll_code.specs.declared.program.LlType.TheVariants as type
 use Rattle.ll_code.specs.declared.program.LlOp.{LlOp}
 use Rattle.ll_code.specs.declared.program.LlOp.TheVariants as op
 use Rattle.ll_code.specs.declared.program.LlExit.{LlExit}
 use Rattle.ll_code.specs.declared.program.LlProgram.{LlProgram}
-use Rattle.ll_build.specs.declared.needs.Numbers.{Numbers}
 use Rattle.ll_held.specs.Held.{times}
-use Rattle.ll_held.specs.Places.{IsPlaced}
 use Rattle.ll_held.specs.Roots.{roots}
-use Rattle.ll_leads.specs.Memory.{forgotten}
 use Rattle.ll_leads.specs.Path.{Leads}
 use Rattle.ll_leads.proofs.Joined.{leads_then, leads_more}
-use Rattle.ll_leads.proofs.Ways.{on, one, rests}
+use Rattle.ll_leads.proofs.Ways.{on, one}
 use Rattle.rtyper_layout.specs.declared.kind.Kind.TheVariants as kind
 use Rattle.rtyper_layout.specs.Kinds.{kind_seen}
 use Rattle.rtyper_layout.specs.Layout.{is_list}
-use Rattle.rtyper_data.specs.Seen.{Around, Operand, Place}
-use Rattle.lower_laws.specs.Values.{IsBelow}
+use Rattle.rtyper_data.specs.Seen.{Around, Place}
 use Rattle.lower_laws.proofs.Doing.{after}
 use Rattle.lower_laws.proofs.Single.{sets}
 use Rattle.rtyper_data.specs.Converting.{default_operand}
 use Rattle.list_laws.specs.Asked.{HasAppend}
-use Rattle.list_laws.specs.Done.{Came, Follows, HasLists, references}
+use Rattle.list_laws.specs.Done.{Follows, HasLists}
 use Rattle.list_laws.specs.Ghost.{Ghost}
 use Rattle.list_laws.specs.Represents.{Represents, ListAt}
 use Rattle.list_laws.specs.Values.{Holds, Alone}
-use Rattle.list_laws.proofs.Appended.{Appended, appended, append_lacks}
+use Rattle.list_laws.proofs.Appended.{appended, append_lacks}
 use Rattle.list_laws.proofs.Blocks.{found_set}
-use Rattle.list_laws.proofs.Calling.{Returns, back, calls_back}
+use Rattle.list_laws.proofs.Calling.{back, calls_back}
 use Rattle.list_laws.proofs.Held.{call_holds}
 use Rattle.list_laws.proofs.Passing.{is_set_at, is_kept_at}
 use Rattle.list_laws.proofs.Valued.{held_set}

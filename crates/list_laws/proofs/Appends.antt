@@ -1,11 +1,10 @@
 -- Items are appended by the method of lists and by comprehensions.
-use Rattle.std.proofs.Common.{◌≡◌, ◌<◌, ◌≤◌, ℕ, ◌+◌, ◌-◌, ◌⊎◌, inl, inr, Bool, true, false, ◌||◌, List, [], ◌∷◌, ◌++◌, length, Option, Some, None, refl, sym, ap, ◌∙◌, subst, arith, append_assoc, length-append}
+use Rattle.std.proofs.Common.{◌≡◌, ◌<◌, ◌≤◌, ℕ, ◌+◌, ◌-◌, ◌⊎◌, inl, inr, Bool, true, false, ◌||◌, List, [], ◌∷◌, ◌++◌, length, Option, Some, None, refl, sym, ap, ◌∙◌, subst, arith, append_assoc}
 use Rattle.std.specs.Prelude.{slice_get, slice_set, nat_lt, if◌then◌else◌, codes}
 use Rattle.std.proofs.lemmas.List.{append-nil, length-set}
 use Rattle.ann_element.specs.declared.element.Element.{Element}
 use Rattle.rpy_base.specs.declared.outcome.FailName.TheVariants as fail
 use Rattle.csub_tree.specs.State.{Value, Null, Core}
-use Rattle.csub_tree.specs.Operation.{is_unset, compared}
 use Rattle.csub_tree.specs.Statement.{operand}
 use Rattle.csub_tree.specs.declared.tree.COperand.{COperand}
 use Rattle.csub_tree.specs.declared.tree.COperand.TheVariants.{Var}
@@ -31,7 +30,6 @@ use Rattle.rtyper_layout.specs.declared.kind.Kind.TheVariants as kind
 use Rattle.rtyper_layout.specs.Kinds.{kind_seen}
 use Rattle.rtyper_layout.specs.Layout.{is_list}
 use Rattle.rtyper_layout.specs.Types.{word, type_of as element_type}
-use Rattle.rtyper_data.specs.declared.body.Body.{Body}
 use Rattle.rtyper_data.specs.declared.found.Found.{Found}
 use Rattle.rtyper_data.specs.declared.small.Small.{Small}
 use Rattle.rtyper_data.specs.declared.small.Small.TheVariants as small
@@ -40,11 +38,11 @@ use Rattle.rtyper_data.specs.Converting.{by_small, present, given, default_opera
 use Rattle.rtyper_data.specs.Finding.{small_number}
 use Rattle.rtyper_data.specs.Lowering.{lower_op}
 use Rattle.rtyper_data.specs.Placing.{says_nothing}
-use Rattle.rtyper_data.specs.Seen.{Around, Operand, Place, kind_of, type_of, type_at, with_op, Writing, writing}
+use Rattle.rtyper_data.specs.Seen.{Around, Operand, Place, kind_of, type_of, with_op, Writing, writing}
 use Rattle.list_shape.specs.Shapes.{item_of, taking}
 use Rattle.rtyper_list.specs.Lowering.{lowered, of_some, first_of_two, method_of, method_of_two, method_of_list, lower_list_op}
 use Rattle.rtyper_list.specs.Methods.{append, item_given, method, of_two}
-use Rattle.rtyper_list.specs.Operands.{of_list, of_list_or_none, is_list as is_list_operand, list_of, pointed, there, done_by}
+use Rattle.rtyper_list.specs.Operands.{of_list, of_list_or_none, list_of, pointed, there, done_by}
 use Rattle.lower_laws.specs.Asked.{Ask, Make, all_asked, HasSmall}
 use Rattle.lower_laws.specs.Values.{AllBelow}
 use Rattle.lower_laws.proofs.Doing.{after}
@@ -57,12 +55,12 @@ use Rattle.list_laws.specs.Ghost.{Ghost}
 use Rattle.list_laws.specs.Lists.{Stays, IsList, if_missing, there_asks, ItemsAreAppended}
 use Rattle.list_laws.specs.Represents.{Represents, ListAt}
 use Rattle.list_laws.specs.Values.{Given, Holds}
-use Rattle.list_laws.proofs.Appending.{after_append, calls, here, does}
+use Rattle.list_laws.proofs.Appending.{after_append, does}
 use Rattle.list_laws.proofs.Blocks.{found_set, found_there}
 use Rattle.list_laws.proofs.Held.{gives_placed, gives_holds}
 use Rattle.list_laws.proofs.Indexed.{asked_both, has_first, has_more}
 use Rattle.list_laws.proofs.Lowered.{list_comes, two_come, first_of_two_is_list}
-use Rattle.list_laws.proofs.Passing.{Passed, none_passed, sets_more, is_set_at, operand_kept, behind, calls_at, throws_at, fails_at}
+use Rattle.list_laws.proofs.Passing.{none_passed, sets_more, is_set_at, operand_kept, behind, calls_at, throws_at, fails_at}
 use Rattle.list_laws.proofs.Present.{present_comes, present_flies, present_fails}
 use Rattle.list_laws.proofs.Stored.{stays_comes}
 use Rattle.list_laws.proofs.Valued.{Listing, Absent, list_or_none, stays_typed, stays_there, stays_held}

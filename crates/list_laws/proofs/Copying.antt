@@ -26,7 +26,6 @@ use Rattle.ll_texts.proofs.Numbers.{adds, subs}
 use Rattle.ll_texts.proofs.Reading.{below_length, get_mid}
 use Rattle.ll_texts.proofs.Writing.{newest, put_newest, put_mid}
 use Rattle.rtyper_layout.specs.declared.layout.Layout.{Layout}
-use Rattle.rtyper_data.specs.declared.body.Body.{Body}
 use Rattle.rtyper_data.specs.declared.found.Found.{Found}
 use Rattle.rtyper_data.specs.Converting.{value_as, converted}
 use Rattle.rtyper_data.specs.Numbers.{word as word_operand}

@@ -1,13 +1,11 @@
 -- Room for further items: where there is none, the items go into another array.
-use Rattle.std.proofs.Common.{◌≡◌, ◌<◌, ◌≤◌, ◌⊎◌, inl, inr, ℕ, zero, suc, ◌+◌, ◌-◌, ◌*◌, ◌/◌, ◌^◌, ◌||◌, Bool, true, false, List, [], ◌∷◌, ◌++◌, length, Option, Some, None, Ok, pos, refl, sym, ap, ◌∙◌, subst, arith, append_assoc, length-append}
+use Rattle.std.proofs.Common.{◌≡◌, ◌<◌, ◌≤◌, ◌⊎◌, inl, inr, ℕ, zero, suc, ◌+◌, ◌/◌, ◌^◌, ◌||◌, Bool, true, false, List, [], ◌∷◌, ◌++◌, length, Option, Some, None, Ok, pos, refl, sym, ap, ◌∙◌, subst, arith, length-append}
 use Rattle.std.specs.Prelude.{slice_get, slice_set, slice_index_or, replicate, nat_le, int_le}
-use Rattle.std.proofs.Math.Nat.{div-mul-le_self}
 use Rattle.std.proofs.lemmas.Bool.Decides.{nat_tests}
 use Rattle.std.proofs.lemmas.List.{append-nil}
 use Rattle.ann_element.specs.declared.element.Element.{Element}
 use Rattle.csub_tree.specs.State.{Value, Unset, Word, Flag, Ptr, Static, Block, Core}
 use Rattle.csub_tree.specs.Operation.{is_unset, binary_of}
-use Rattle.csub_tree.specs.Statement.{read, operands}
 use Rattle.csub_tree.specs.Layout.{Shape}
 use Rattle.csub_tree.specs.declared.tree.CBinary.TheVariants as binary
 use Rattle.csub_tree.specs.declared.tree.COperand.TheVariants.{Var}
@@ -22,7 +20,7 @@ use Rattle.ll_texts.specs.Texts.{found}
 use Rattle.ll_texts.proofs.Numbers.{adds}
 use Rattle.ll_texts.proofs.Reading.{below_length}
 use Rattle.ll_texts.proofs.Writing.{newest}
-use Rattle.rpy_tree.specs.Value.{Value as Meant, Listed, Object, Heap}
+use Rattle.rpy_tree.specs.Value.{Value as Meant, Listed, Heap}
 use Rattle.rtyper_layout.specs.declared.layout.Layout.{Layout}
 use Rattle.rtyper_layout.specs.Layout.{is_list}
 use Rattle.rtyper_layout.specs.Types.{word}
@@ -31,10 +29,10 @@ use Rattle.rtyper_data.specs.declared.small.Small.TheVariants as small
 use Rattle.rtyper_data.specs.Finding.{small_number}
 use Rattle.list_shape.specs.Shapes.{item_of}
 use Rattle.list_helpers.specs.Changing.{room, room_graph, room_asks, room_grows, room_types}
-use Rattle.list_laws.specs.Asked.{HasRoom as HasRoomGraph}
+use Rattle.list_laws.specs.Asked.{MakesRoom}
 use Rattle.list_laws.specs.Done.{HasLists}
-use Rattle.list_laws.specs.Ghost.{Ghost, Grown, Home, Use, Stays, Head, Array, use_of}
-use Rattle.list_laws.specs.Represents.{Represents, ListAt, HasRoom, AreEmpty, head_block, array_block}
+use Rattle.list_laws.specs.Ghost.{Ghost, Grown, Use, Stays, Head, Array, use_of}
+use Rattle.list_laws.specs.Represents.{Represents, ListAt, AreEmpty, head_block, array_block}
 use Rattle.list_laws.specs.Values.{EachHolds, Empty, More}
 use Rattle.list_laws.proofs.Blocks.{found_set, reads_field}
 use Rattle.list_laws.proofs.Calling.{Returns, calls_back}
@@ -106,7 +104,7 @@ pub record Roomed (p : LlProgram) (args : List (List ℕ)) (layout : Layout) (ke
   pub few : length blocks ≤ length core.blocks + 1
   pub returns : (waits : List Frame) → Returns p args (length items + 1) (Calling f (head ∷ Word (pos more) ∷ []) waits core) Unset waits (record core { blocks = blocks; statics = statics })
 
-module _ (p : LlProgram) (args : List (List ℕ)) (layout : Layout) (kept : ℕ → Option Element) (raised : ℕ → Value) (structs : HasLists p layout) (n : ℕ) (struct : is_list layout n ≡ true) (f : ℕ) (has : HasRoomGraph p layout raised n f)
+module _ (p : LlProgram) (args : List (List ℕ)) (layout : Layout) (kept : ℕ → Option Element) (raised : ℕ → Value) (structs : HasLists p layout) (n : ℕ) (struct : is_list layout n ≡ true) (f : ℕ) (has : MakesRoom p layout raised n f)
     (g : Ghost) (heap : Heap) (left : ℕ) (core : Core) (r : Represents layout kept g heap left core.blocks core.statics) (i : ℕ) (head : Value) (home : slice_get g.homes i ≡ Some (record { struct = n; head = head })) (l : ListAt layout (kept n) g heap left core.blocks core.statics n i head) (more : ℕ) where
   abbrev count : ℕ
   count = length l.items

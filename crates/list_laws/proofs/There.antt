@@ -1,21 +1,18 @@
 -- A list that has to be there, in a variable: `None` fails, or raises.
 use Rattle.std.proofs.Common.{◌≡◌, ◌<◌, ◌≤◌, ℕ, ◌+◌, ◌||◌, Bool, true, false, List, [], ◌∷◌, ◌++◌, length, Option, Some, Ok, refl, sym, ap, ◌∙◌, subst, arith}
-use Rattle.std.specs.Prelude.{cond}
 use Rattle.ann_element.specs.declared.element.Element.{Element}
 use Rattle.rpy_base.specs.declared.outcome.FailName.TheVariants as fail
 use Rattle.csub_tree.specs.State.{Value, Flag, Null, Core}
 use Rattle.csub_tree.specs.Operation.{is_unset, compared}
 use Rattle.csub_tree.specs.Statement.{operand}
-use Rattle.csub_tree.specs.declared.stuck.StuckReason.TheVariants.{Unset as IsUnset}
-use Rattle.ll_code.specs.State.{Frame, Calling, At, Goes, Sticks}
-use Rattle.ll_code.specs.Machine.{waiting}
+use Rattle.ll_code.specs.State.{Frame, At}
 use Rattle.ll_code.specs.declared.program.LlType.{LlType}
 use Rattle.ll_code.specs.declared.program.LlOp.{LlOp}
 use Rattle.ll_code.specs.declared.program.LlOp.TheVariants as op
 use Rattle.ll_code.specs.declared.program.LlExit.{LlExit}
 use Rattle.ll_code.specs.declared.program.LlProgram.{LlProgram}
 use Rattle.ll_build.specs.declared.needs.Numbers.{Numbers}
-use Rattle.ll_leads.proofs.Ways.{on, one, call}
+use Rattle.ll_leads.proofs.Ways.{call}
 use Rattle.rpy_meaning.specs.World.{World, failure}
 use Rattle.rtyper_layout.specs.declared.kind.Kind.{Kind}
 use Rattle.rtyper_layout.specs.declared.kind.Kind.TheVariants as kind
@@ -33,7 +30,7 @@ use Rattle.list_laws.specs.Asked.{HasAll}
 use Rattle.list_laws.specs.Done.{Follows}
 use Rattle.list_laws.specs.Ghost.{Ghost}
 use Rattle.list_laws.specs.Lists.{if_missing, there_asks}
-use Rattle.list_laws.proofs.Passing.{none_passed, sets_more, is_set_at, Went}
+use Rattle.list_laws.proofs.Passing.{none_passed, sets_more, is_set_at, throws_at, fails_at, Went}
 use Rattle.list_laws.proofs.Present.{present_comes, present_flies, present_fails}
 use Rattle.list_laws.proofs.Variables.{InVariable, in_variable}
 
@@ -103,27 +100,8 @@ module _ (around : Around) (a : Operand) (w : Writing) where
       missing_follows : (kept : ℕ → Option Element) (place : Place) (later rest : List LlOp) (e : LlExit) (frames : List Frame) (g : Ghost) (most : ℕ) (world : World) → operand core.vars a.x ≡ Null
           → (c : Bool) → HasSmall p around.layout raised (small.Present (type_of around a) c) number
           → Follows kept around place p arguments (At (op.Call (Some m) number (a.x ∷ []) ∷ (later ++ rest)) e frames core) rest e frames core g raised most m world (failure c 9 fail.Attribute world)
-      missing_follows kept place later rest e frames g most world low true s =
-          let frame : Frame = waiting core (Some m) (later ++ rest) e in
-          let flies = present_flies p around.layout arguments raised (type_of around a) number core s (frame ∷ frames) in
-          record {
-            frame = frame;
-            end = flies.end;
-            leads = on (one (ap (λ x. cond (is_unset x || false) (Sticks IsUnset) (Goes (Calling number (x ∷ []) (frame ∷ frames) core))) low) refl) flies.leads;
-            memory = flies.same;
-            left = later;
-            ops = refl;
-            exit = refl;
-            others = λ k under. refl;
-            room = refl;
-            function = refl;
-            block = refl;
-            same = refl;
-          }
-      missing_follows kept place later rest e frames g most world low false s =
-          let frame : Frame = waiting core (Some m) (later ++ rest) e in
-          let ends = present_fails p around.layout arguments raised (type_of around a) number core s (frame ∷ frames) in
-          record { last = ends.last; leads = on (one (ap (λ x. cond (is_unset x || false) (Sticks IsUnset) (Goes (Calling number (x ∷ []) (frame ∷ frames) core))) low) refl) ends.leads; ends = ends.ends }
+      missing_follows kept place later rest e frames g most world low true s = throws_at (ap (λ x. x ∷ []) low) refl later rest (present_flies p around.layout arguments raised (type_of around a) number core s)
+      missing_follows kept place later rest e frames g most world low false s = fails_at (ap (λ x. x ∷ []) low) refl (later ++ rest) (present_fails p around.layout arguments raised (type_of around a) number core s)
 
     by_present : Entered around a w
     by_present = record {

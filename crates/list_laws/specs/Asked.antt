@@ -25,7 +25,7 @@ pub record HasList (p : LlProgram) (layout : Layout) (raised : ℕ → Value) (l
   pub raises : AllRaise p raised (raised_by listed) made
 
 -- the graph that makes room, and what it copies items by
-pub record HasRoom (p : LlProgram) (layout : Layout) (raised : ℕ → Value) (n f : ℕ) : Type 0 where
+pub record MakesRoom (p : LlProgram) (layout : Layout) (raised : ℕ → Value) (n f : ℕ) : Type 0 where
   pub made : Found
   pub graph : slice_get p.graphs f ≡ Some (list_graph layout (Room n) made).0
   pub copies : HasList p layout raised (Copy (word (n + 1)) (word (n + 1))) (small_number (small.Listed (Copy (word (n + 1)) (word (n + 1)))) made).0
@@ -34,7 +34,7 @@ pub record HasRoom (p : LlProgram) (layout : Layout) (raised : ℕ → Value) (n
 pub record HasAppend (p : LlProgram) (layout : Layout) (raised : ℕ → Value) (n f : ℕ) : Type 0 where
   pub made : Found
   pub graph : slice_get p.graphs f ≡ Some (list_graph layout (Append n) made).0
-  pub room : HasRoom p layout raised n (small_number (small.Listed (Room n)) made).0
+  pub room : MakesRoom p layout raised n (small_number (small.Listed (Room n)) made).0
 
 abbrev pub Has : LlProgram → Layout → Numbers → (ℕ → Value) → Core → Ask → Found → Type 0
 Has p layout numbers raised core (Make (small.Listed (Append n))) found = HasAppend p layout raised n (small_number (small.Listed (Append n)) found).0

@@ -1,5 +1,7 @@
 // Laws of operations on lists as they are lowered.
-ghost use Rattle.list_laws.specs.Lists.{EmptyListsAreMade, ItemsAreRead, ItemsAreStored, LengthsAreRead, WalksGive, WalksGoOn};
+ghost use Rattle.std.specs.Prelude.{ℕ, Option, codes};
+ghost use Rattle.rpy_meaning.specs.declared.row.RowOp.TheVariants as row;
+ghost use Rattle.list_laws.specs.Lists.{EmptyListsAreMade, ItemsAreAppended, ItemsAreRead, ItemsAreStored, LengthsAreRead, WalksGive, WalksGoOn};
 ghost use Rattle.list_laws.specs.Rows.{TwoWords};
 
 /// The length of a list; where the list may be missing, `None` fails, or raises.
@@ -25,6 +27,13 @@ pub fn two_words_are_a_list()
 /// An item that is stored at an index, in every list that the blocks represent: no other list changes.
 pub fn items_are_stored()
     ensures { ItemsAreStored }
+{}
+
+/// An item that is appended, by the method and by a comprehension, at its cost: where the array is full, the items go
+/// into another one first.
+pub fn items_are_appended()
+    ensures method { (site : Option ℕ) → ItemsAreAppended (row.Method (codes "append") site) }
+    ensures comprehension { ItemsAreAppended row.AddItem }
 {}
 
 /// Whether a walk over a list goes on, as the list is then, and the item that it has come to.
