@@ -62,9 +62,9 @@ WalksGive = (kept : ℕ → Option Element) (around : Around) (place : Place) (a
     → IsDone kept around (row.Item None) covers [] place (a ∷ b ∷ []) w
 
 -- a list without items is made, at its cost
-abbrev pub EmptyListsAreMade : Type 0
-EmptyListsAreMade = (kept : ℕ → Option Element) (around : Around) (place : Place) (w : Writing) (covers : Covers) (site n : ℕ) → of_list (kind_seen place.element) ≡ true → type_seen around.layout place.element ≡ type.Ptr n → is_list around.layout n ≡ true
-    → IsDone kept around (row.List site) covers (Make (small.Listed (listed.Make n)) ∷ []) place [] w
+abbrev pub EmptyListsAreMade : RowOp → Type 0
+EmptyListsAreMade o = (kept : ℕ → Option Element) (around : Around) (place : Place) (w : Writing) (covers : Covers) (n : ℕ) → of_list (kind_seen place.element) ≡ true → type_seen around.layout place.element ≡ type.Ptr n → is_list around.layout n ≡ true
+    → IsDone kept around o covers (Make (small.Listed (listed.Make n)) ∷ []) place [] w
 
 -- an item is stored; the value of that is the item
 abbrev pub ItemsAreStored : Type 0

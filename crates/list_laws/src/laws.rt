@@ -14,9 +14,10 @@ pub fn items_are_read()
     ensures { ItemsAreRead }
 {}
 
-/// A list without items.
+/// A list without items, by a display of none, and what a comprehension begins with.
 pub fn empty_lists_are_made()
-    ensures { EmptyListsAreMade }
+    ensures display { (site : ℕ) → EmptyListsAreMade (row.List site) }
+    ensures comprehension { (site : ℕ) → EmptyListsAreMade (row.Comprehension site) }
 {}
 
 /// Two blocks represent a heap with one list of two words.
