@@ -24,4 +24,5 @@ pub mod There
 pub mod Valued
 pub mod Variables
 pub mod Walked
+pub mod Walking
 pub mod Writing

@@ -52,6 +52,11 @@ abbrev pub LengthsAreRead : Type 0
 LengthsAreRead = (kept : ℕ → Option Element) (around : Around) (place : Place) (a : Operand) (w : Writing) → of_list (kind_of a) ≡ true → kind_seen place.element ≡ kind.Word
     → IsDone kept around row.Len w.found.covered (there_asks around a w.found.covered) place (a ∷ []) w
 
+-- what is walked is the list itself
+abbrev pub WalksBegin : Type 0
+WalksBegin = (kept : ℕ → Option Element) (around : Around) (place : Place) (a : Operand) (w : Writing) (site n : ℕ) → of_list (kind_of a) ≡ true → of_list (kind_seen place.element) ≡ true → type_of around a ≡ type.Ptr n → type_seen around.layout place.element ≡ type.Ptr n
+    → IsDone kept around (row.Walk site) w.found.covered (there_asks around a w.found.covered) place (a ∷ []) w
+
 -- whether a walk goes on, and the item that it has come to
 abbrev pub WalksGoOn : Type 0
 WalksGoOn = (kept : ℕ → Option Element) (around : Around) (place : Place) (a b : Operand) (w : Writing) (covers : Covers) → of_list (kind_of a) ≡ true → kind_of b ≡ kind.Word → kind_seen place.element ≡ kind.Flag

@@ -1,7 +1,7 @@
 // Laws of operations on lists as they are lowered.
 ghost use Rattle.std.specs.Prelude.{ℕ, Option, codes};
 ghost use Rattle.rpy_meaning.specs.declared.row.RowOp.TheVariants as row;
-ghost use Rattle.list_laws.specs.Lists.{EmptyListsAreMade, ItemsAreAppended, ItemsAreRead, ItemsAreStored, LengthsAreRead, WalksGive, WalksGoOn};
+ghost use Rattle.list_laws.specs.Lists.{EmptyListsAreMade, ItemsAreAppended, ItemsAreRead, ItemsAreStored, LengthsAreRead, WalksBegin, WalksGive, WalksGoOn};
 ghost use Rattle.list_laws.specs.Rows.{TwoWords};
 
 /// The length of a list; where the list may be missing, `None` fails, or raises.
@@ -37,8 +37,9 @@ pub fn items_are_appended()
     ensures comprehension { ItemsAreAppended row.AddItem }
 {}
 
-/// Whether a walk over a list goes on, as the list is then, and the item that it has come to.
+/// What is walked of a list, whether the walk goes on, as the list is then, and the item that it has come to.
 pub fn walks_are_done()
+    ensures begin { WalksBegin }
     ensures on { WalksGoOn }
     ensures item { WalksGive }
 {}
