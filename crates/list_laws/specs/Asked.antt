@@ -1,0 +1,47 @@
+-- Graphs of lists that are asked for stand at their numbers.
+use Rattle.std.specs.Prelude.{◌≡◌, ℕ, ◌+◌, List, [], ◌∷◌, Some, slice_get}
+use Rattle.csub_tree.specs.State.{Value, Core}
+use Rattle.ll_code.specs.declared.program.LlProgram.{LlProgram}
+use Rattle.ll_build.specs.declared.needs.Numbers.{Numbers}
+use Rattle.rtyper_layout.specs.declared.layout.Layout.{Layout}
+use Rattle.rtyper_layout.specs.Types.{word}
+use Rattle.rtyper_data.specs.declared.found.Found.{Found}
+use Rattle.rtyper_data.specs.declared.small.Listed.{Listed}
+use Rattle.rtyper_data.specs.declared.small.Listed.TheVariants.{Place, Room, Append, Copy}
+use Rattle.rtyper_data.specs.declared.small.Small.TheVariants as small
+use Rattle.rtyper_data.specs.Finding.{small_number}
+use Rattle.list_helpers.specs.Listing.{list_graph}
+use Rattle.lower_laws.specs.Asked.{Ask, Make, number_of, Has as HasOther, AllRaise, if_raised}
+
+-- the classes of what a graph of lists raises
+abbrev pub raised_by : Listed → List ℕ
+raised_by (Place l raises) = if_raised raises 6
+raised_by other = []
+
+-- the graph, which calls no other graph of lists, has this number, and what it raises is raised
+pub record HasList (p : LlProgram) (layout : Layout) (raised : ℕ → Value) (listed : Listed) (f : ℕ) : Type 0 where
+  pub made : Found
+  pub graph : slice_get p.graphs f ≡ Some (list_graph layout listed made).0
+  pub raises : AllRaise p raised (raised_by listed) made
+
+-- the graph that makes room, and what it copies items by
+pub record MakesRoom (p : LlProgram) (layout : Layout) (raised : ℕ → Value) (n f : ℕ) : Type 0 where
+  pub made : Found
+  pub graph : slice_get p.graphs f ≡ Some (list_graph layout (Room n) made).0
+  pub copies : HasList p layout raised (Copy (word (n + 1)) (word (n + 1))) (small_number (small.Listed (Copy (word (n + 1)) (word (n + 1)))) made).0
+
+-- the graph that appends, and what it makes room by
+pub record HasAppend (p : LlProgram) (layout : Layout) (raised : ℕ → Value) (n f : ℕ) : Type 0 where
+  pub made : Found
+  pub graph : slice_get p.graphs f ≡ Some (list_graph layout (Append n) made).0
+  pub room : MakesRoom p layout raised n (small_number (small.Listed (Room n)) made).0
+
+abbrev pub Has : LlProgram → Layout → Numbers → (ℕ → Value) → Core → Ask → Found → Type 0
+Has p layout numbers raised core (Make (small.Listed (Append n))) found = HasAppend p layout raised n (small_number (small.Listed (Append n)) found).0
+Has p layout numbers raised core (Make (small.Listed graph)) found = HasList p layout raised graph (small_number (small.Listed graph) found).0
+Has p layout numbers raised core ask found = HasOther p layout numbers raised core ask found
+
+-- what is asked for stands at its numbers
+abbrev pub HasAll : LlProgram → Layout → Numbers → (ℕ → Value) → Core → List Ask → Found → Type 0
+HasAll p layout numbers raised core [] found = Unit {0}
+HasAll p layout numbers raised core (a ∷ asks) found = Has p layout numbers raised core a found × HasAll p layout numbers raised core asks (number_of a found).1

@@ -1,0 +1,45 @@
+// Laws of operations on lists as they are lowered.
+ghost use Rattle.std.specs.Prelude.{ℕ, Option, codes};
+ghost use Rattle.rpy_meaning.specs.declared.row.RowOp.TheVariants as row;
+ghost use Rattle.list_laws.specs.Lists.{EmptyListsAreMade, ItemsAreAppended, ItemsAreRead, ItemsAreStored, LengthsAreRead, WalksBegin, WalksGive, WalksGoOn};
+ghost use Rattle.list_laws.specs.Rows.{TwoWords};
+
+/// The length of a list; where the list may be missing, `None` fails, or raises.
+pub fn lengths_are_read()
+    ensures { LengthsAreRead }
+{}
+
+/// The item at an index, which counts from the end where it is below zero; outside it fails, or raises.
+pub fn items_are_read()
+    ensures { ItemsAreRead }
+{}
+
+/// A list without items, by a display of none, and what a comprehension begins with.
+pub fn empty_lists_are_made()
+    ensures display { (site : ℕ) → EmptyListsAreMade (row.List site) }
+    ensures comprehension { (site : ℕ) → EmptyListsAreMade (row.Comprehension site) }
+{}
+
+/// Two blocks represent a heap with one list of two words.
+pub fn two_words_are_a_list()
+    ensures { TwoWords }
+{}
+
+/// An item that is stored at an index, in every list that the blocks represent: no other list changes.
+pub fn items_are_stored()
+    ensures { ItemsAreStored }
+{}
+
+/// An item that is appended, by the method and by a comprehension, at its cost: where the array is full, the items go
+/// into another one first.
+pub fn items_are_appended()
+    ensures method { (site : Option ℕ) → ItemsAreAppended (row.Method (codes "append") site) }
+    ensures comprehension { ItemsAreAppended row.AddItem }
+{}
+
+/// What is walked of a list, whether the walk goes on, as the list is then, and the item that it has come to.
+pub fn walks_are_done()
+    ensures begin { WalksBegin }
+    ensures on { WalksGoOn }
+    ensures item { WalksGive }
+{}

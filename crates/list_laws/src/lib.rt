@@ -1,0 +1,10 @@
+//! Operations on lists do what they are in the meaning of programs once they are lowered: in every low-level program,
+//! over every memory that represents the heap, whatever comes behind them in their block and whatever waits.
+#![tactic(auto)]
+
+mod laws;
+
+pub use laws::{
+    empty_lists_are_made, items_are_appended, items_are_read, items_are_stored, lengths_are_read,
+    two_words_are_a_list, walks_are_done,
+};
