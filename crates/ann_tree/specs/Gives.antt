@@ -169,6 +169,10 @@ module _ (p : Whole) (sites : List (Option Object)) (a : Annotation) (n : ℕ) w
       × At empty (λ g. Pairs dict g full)
       × At full (λ g. Acts node true row.Copy (dict ∷ []) g x q)
 
+  -- the first turn is that of a walk over y from z on
+  abbrev pub Starts : Shape → Shape → Environment → Shape → Shape → Point → Type 0
+  Starts y z e over place q = Fits y over × Fits z place × LeadsTo e q
+
   -- what is walked, and the place in it: at the head there is an item, or none is left; and then the next place
   abbrev pub Walks : ℕ → Option ℤ → (Environment → Shape → Point → Type 0) → Shape → Shape → Point → Point → Point → Point → Type 0
   Walks node step Bind over place head begin next after =
@@ -259,12 +263,21 @@ module _ (p : Whole) (sites : List (Option Object)) (a : Annotation) (n : ℕ) w
     -- what a loop or comprehension walks, and the first place in it; a range is walked as its end and its first number
     pub Begins : List Handler → ℕ → Subject → Environment → Shape → Shape → Point → Type 0
     Begins hs node (Over site l) e over place q =
-        (x : Shape) × (behind walked : Point)
+        (x y z : Shape) × (behind walked last : Point)
         × Gives hs l e x behind
-        × At behind (λ g. Acts node false (row.Walk site) (x ∷ []) g over walked)
-        × At walked (λ g. Acts node false (row.Word (pos 0)) [] g place q)
-    Begins hs node (UpTo l) e over place q = (behind : Point) × Gives hs l e over behind × At behind (λ g. Acts node false (row.Word (pos 0)) [] g place q)
-    Begins hs node (FromTo l r step) e over place q = (behind : Point) × Gives hs l e place behind × At behind (λ g. Gives hs r g over q)
+        × At behind (λ g. Acts node false (row.Walk site) (x ∷ []) g y walked)
+        × At walked (λ g. Acts node false (row.Word (pos 0)) [] g z last)
+        × At last (λ g. Starts y z g over place q)
+    Begins hs node (UpTo l) e over place q =
+        (y z : Shape) × (behind last : Point)
+        × Gives hs l e y behind
+        × At behind (λ g. Acts node false (row.Word (pos 0)) [] g z last)
+        × At last (λ g. Starts y z g over place q)
+    Begins hs node (FromTo l r step) e over place q =
+        (y z : Shape) × (behind last : Point)
+        × Gives hs l e z behind
+        × At behind (λ g. Gives hs r g y last)
+        × At last (λ g. Starts y z g over place q)
 
     pub Guards : List Handler → ℕ → Condition → Testing
     Guards hs node Always e so other = LeadsTo e so
