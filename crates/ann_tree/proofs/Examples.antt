@@ -1,22 +1,21 @@
 -- The worked programs: their annotations are closed and free.
-use Rattle.std.proofs.Common.{◌≡◌, refl, ℕ, zero, suc, ◌<◌, ◌⊎◌, inl, inr, ℤ, pos, Bool, true, false, List, [], ◌∷◌, Option, Some, None, arith}
+use Rattle.std.proofs.Common.{◌≡◌, refl, ap, subst, ℕ, zero, suc, inl, inr, ℤ, pos, Bool, true, false, List, [], ◌∷◌, Some, None, arith}
 use Rattle.std.proofs.lemmas.Bool.{false≢true}
-use Rattle.rpy_tree.specs.Value.{Object}
 use Rattle.rpy_meaning.specs.declared.row.RowOp.{RowOp}
 use Rattle.rpy_meaning.specs.declared.row.RowOp.TheVariants as row
-use Rattle.ann_lattice.specs.Shape.{Width, Any, One, OrNone, Shape, Nothing, NoneOnly, Truth, Num, Str, Lst}
+use Rattle.ann_lattice.specs.Shape.{Any, One, OrNone, Shape, Nothing, NoneOnly, Truth, Num, Str, Lst}
 use Rattle.ann_lattice.specs.Kind.{is_nothing}
-use Rattle.ann_lattice.specs.Order.{Below, least, none as none_below, none_str, truth, num, str, list}
-use Rattle.flow_space.specs.Tree.{Expr, Apply, Exprs, none, more, Name, Augment, If, Return, Local, Try, clause, no_clauses, done, line}
+use Rattle.ann_lattice.specs.Order.{Below, least, none as none_below, none_str, truth, num, str, list, clash}
+use Rattle.flow_space.specs.Tree.{Apply, Exprs, none, more, Name, Augment, If, Return, Local, done, line}
 use Rattle.rpy_tree.specs.declared.syntax.CmpOp.TheVariants as cmp
 use Rattle.rpy_tree.specs.declared.syntax.BinOp.TheVariants as bin
-use Rattle.ann_tree.specs.Annotation.{Annotation, Environment, Point, Never, With, bind, narrow, within, IsBelow, Handler, IsFree}
-use Rattle.ann_tree.specs.Gives.{Operates, Fits, LeadsTo, Gives, GivesAll, Test}
+use Rattle.ann_tree.specs.Annotation.{Annotation, Environment, Point, Never, Away, With, bind, narrow, within, At, IsBelow, Handler, IsFree}
+use Rattle.ann_tree.specs.Gives.{Operates, LeadsTo, Gives, GivesAll, Test, Acts, AppliedAt}
 use Rattle.ann_lattice.specs.Join.{is_clash}
 use Rattle.ann_rules.specs.Hold.{AllHold}
 use Rattle.ann_rules.specs.Rules.{entry_needs, site_needs, numbered}
-use Rattle.ann_tree.specs.Examples.{whole, objects, places, parts, annotated, counted_elements, asked_elements, guarded_elements, word, text, x, set_x, compare, counting, counted, asking, asked, guarding, guarded}
-use Rattle.ann_tree.specs.Leaves.{Leaves, LeavesAll}
+use Rattle.ann_tree.specs.Examples.{whole, objects, places, parts, annotated, counted_elements, asked_elements, guarded_elements, word, text, x, set_x, compare, counting, counted, asking, asked, guarding, guarded, returning, mistaken}
+use Rattle.ann_tree.specs.Leaves.{Leaves, LeavesAll, Returns, GoesTo}
 use Rattle.ann_tree.specs.Closed.{before, IsClosed, IsClosedIn}
 
 -- ---- environments of two locals
@@ -89,7 +88,7 @@ in_counted : (node : ℕ) (z : ℤ) (e : Environment) (y t : Shape) (v : Bool) �
     → Gives whole objects counted 2 [] (word node z) e y (With (env t v))
 in_counted node z e y t v does is leads below same = operation (Num false) counted_elements [] node (row.Word z) none [] e (Num false) y t v leads does is below same
 
-first_line : Leaves whole objects counted 0 2 [] (set_x 2 (word 3 (pos 0)) 4) (before whole objects counted 0 counting) (record { next = With a_word; broken = Never; continued = Never; returned = Never })
+first_line : Leaves whole objects counted 0 2 [] (set_x 2 (word 3 (pos 0)) 4) (before whole objects counted 0 counting) (record { next = With a_word; broken = Away; continued = Away; returned = Away })
 first_line = (
   Num false,
   With (env Nothing true),
@@ -119,7 +118,7 @@ test = inl (
 )
 
 turn : LeavesAll whole objects counted 0 2 [] (line (Augment 11 (Name 9 1) (row.Binary bin.Add (Some 1)) (word 10 (pos 1))) done) a_word
-    (within (record { next = With a_word; broken = Never; continued = Never; returned = Never }) (With a_word) (With a_word))
+    (within (record { next = With a_word; broken = Away; continued = Away; returned = Away }) (With a_word) (With a_word))
 turn = (
   With a_word,
   tt,
@@ -142,7 +141,6 @@ turn = (
 counting_body : IsClosedIn whole objects counted 0 counting
 counting_body reached = (
   Never,
-  With a_word,
   (
     With a_word,
     tt,
@@ -153,7 +151,7 @@ counting_body reached = (
         With a_word,
         tt,
         (With a_word, With a_word, still, test, turn),
-        (tt, (Never, tt, (Num false, With a_word, x_in_counted 12 refl, ((λ lt. (int, tt)), still)), tt)),
+        (tt, (Never, tt, (Num false, With a_word, x_in_counted 12 refl, ((λ lt. (int, tt)), tt)), tt)),
       ),
     ),
   ),
@@ -220,7 +218,7 @@ any_int = num true true tt
 abbrev with_x : Shape → Point
 with_x s = With (env s false)
 
-asking_first : Leaves whole objects asked 0 2 [] (set_x 2 (Apply 3 true row.None none) 4) (before whole objects asked 0 asking) (record { next = with_x NoneOnly; broken = Never; continued = Never; returned = Never })
+asking_first : Leaves whole objects asked 0 2 [] (set_x 2 (Apply 3 true row.None none) 4) (before whole objects asked 0 asking) (record { next = with_x NoneOnly; broken = Away; continued = Away; returned = Away })
 asking_first = (
   NoneOnly,
   With (env Nothing true),
@@ -241,7 +239,7 @@ a_word_in_asked : (node : ℕ) (z : ℤ) (s : Shape) → Operates whole objects 
 a_word_in_asked node z s does is same = operation (Num true) asked_elements [] node (row.Word z) none [] (env s false) (Num false) (Num false) s false (unchanged s same) does is int same
 
 asking_if : Leaves whole objects asked 0 2 [] (If 8 (compare 7 (word 5 (pos 1)) (word 6 (pos 2))) (line (set_x 9 (text 10 (97 ∷ [])) 11) done) done) (env NoneOnly false)
-    (record { next = with_x (Str OrNone); broken = Never; continued = Never; returned = Never })
+    (record { next = with_x (Str OrNone); broken = Away; continued = Away; returned = Away })
 asking_if = (
   with_x NoneOnly,
   with_x NoneOnly,
@@ -277,7 +275,7 @@ asking_if = (
 -- where x is `None` it is nothing else, and behind the test it is a string
 asking_none : Leaves whole objects asked 0 2 []
     (If 15 (Apply 14 true (row.Compare cmp.Is) (more (x 12) (more (Apply 13 true row.None none) none))) (line (Return 17 (word 16 (pos 0))) done) done) (env (Str OrNone) false)
-    (record { next = with_x (Str Any); broken = Never; continued = Never; returned = with_x (Str OrNone) })
+    (record { next = with_x (Str Any); broken = Away; continued = Away; returned = Away })
 asking_none = (
   with_x NoneOnly,
   with_x (Str Any),
@@ -312,7 +310,7 @@ asking_none = (
       Num false,
       with_x NoneOnly,
       a_word_in_asked 16 (pos 0) NoneOnly (refl, λ h. ((int, tt), tt)) refl no_value,
-      ((λ lt. (num false true tt, tt)), to NoneOnly (Str OrNone) false false none_str (λ h. h)),
+      ((λ lt. (num false true tt, tt)), tt),
     ),
     tt,
   ),
@@ -320,20 +318,19 @@ asking_none = (
 )
 
 asking_last : Leaves whole objects asked 0 2 [] (Return 20 (Apply 19 true row.ToInt (more (x 18) none))) (env (Str Any) false)
-    (record { next = Never; broken = Never; continued = Never; returned = with_x (Str OrNone) })
+    (record { next = Never; broken = Away; continued = Away; returned = Away })
 asking_last = (
   Num true,
   with_x (Str Any),
   operation (Num true) asked_elements [] 19 row.ToInt (more (x 18) none) (Str Any ∷ []) (env (Str Any) false) (Num true) (Num true) (Str Any) false
       (with_x (Str Any), reading (Num true) asked_elements [] 18 (Str Any) (Str Any) (Str Any) false (refl, λ h. ((string, tt), tt)) refl string string, unchanged (Str Any) string)
       (refl, λ h. ((any_int, tt), tt)) refl any_int string,
-  ((λ lt. (any_int, tt)), to (Str Any) (Str OrNone) false false (str Any OrNone tt) (λ h. h)),
+  ((λ lt. (any_int, tt)), tt),
 )
 
 asking_body : IsClosedIn whole objects asked 0 asking
 asking_body reached = (
   Never,
-  with_x (Str OrNone),
   (
     with_x NoneOnly,
     tt,
@@ -410,7 +407,7 @@ first_argument =
 
 -- the handler is above the environments before and behind the statement of the body
 in_body : LeavesAll whole objects guarded 0 2 catching (line (set_x 3 (Apply 6 true (row.Index (Some (pos 0))) (more (Local 4 0) (more (word 5 (pos 0)) none))) 7) done) begin_guarding
-    (record { next = with_x (Str Any); broken = Never; continued = Never; returned = with_x (Str Any) })
+    (record { next = with_x (Str Any); broken = Away; continued = Away; returned = Away })
 in_body = (
   with_x (Str Any),
   (begins_maybe, tt),
@@ -428,7 +425,7 @@ in_body = (
 )
 
 in_clause : LeavesAll whole objects guarded 0 2 [] (line (set_x 9 (text 10 (48 ∷ [])) 11) done) maybe
-    (record { next = with_x (Str Any); broken = Never; continued = Never; returned = with_x (Str Any) })
+    (record { next = with_x (Str Any); broken = Away; continued = Away; returned = Away })
 in_clause = (
   with_x (Str Any),
   tt,
@@ -442,20 +439,19 @@ in_clause = (
 )
 
 guarding_last : Leaves whole objects guarded 0 2 [] (Return 14 (Apply 13 true row.ToInt (more (x 12) none))) (env (Str Any) false)
-    (record { next = Never; broken = Never; continued = Never; returned = with_x (Str Any) })
+    (record { next = Never; broken = Away; continued = Away; returned = Away })
 guarding_last = (
   Num true,
   with_x (Str Any),
   operation (Num true) guarded_elements [] 13 row.ToInt (more (x 12) none) (Str Any ∷ []) (env (Str Any) false) (Num true) (Num true) (Str Any) false
       (with_x (Str Any), reading (Num true) guarded_elements [] 12 (Str Any) (Str Any) (Str Any) false (refl, λ h. ((string, tt), tt)) refl string string, unchanged (Str Any) string)
       (refl, λ h. ((any_int, tt), tt)) refl any_int string,
-  ((λ lt. (any_int, tt)), unchanged (Str Any) string),
+  ((λ lt. (any_int, tt)), tt),
 )
 
 guarding_body : IsClosedIn whole objects guarded 0 guarding
 guarding_body reached = (
   Never,
-  with_x (Str Any),
   (
     with_x (Str Any),
     tt,
@@ -478,3 +474,43 @@ guarding_is_closed = record {
   sites_are = sites_hold (Num true);
   free = are_free (Num true) guarded_elements refl;
 }
+
+-- ---- what is not closed
+
+abbrev is_not : RowOp → Bool
+is_not row.Not = true
+is_not other = false
+
+no_string : (y : Shape) → Under (Num false) y → Under y (Str Any) → ⊥
+no_string y (num c d l) h = elim h [ ]
+no_string y (clash z o q l m) h = elim h [ ]
+
+-- a point that is led to is reached
+led : (e : Environment) (q : Point) (P : Environment → Type 0) → LeadsTo whole objects mistaken 2 e q → At q P → (g : Environment) × P g
+led e Never P h holds = absurd h
+led e (With g) P h holds = (g, holds)
+
+-- the literal gives a word, and leads on
+literal_gives : (e : Environment) (y : Shape) (q : Point) → Gives whole objects mistaken 2 [] (word 2 (pos 1)) e y q → (g : Environment) × Under (Num false) y × LeadsTo whole objects mistaken 2 g q
+literal_gives e y q (xs, inl h) = given xs h
+  where
+    acted : (g : Environment) → Acts whole objects mistaken 2 2 true (row.Word (pos 1)) [] g y q → (d : Environment) × Under (Num false) y × LeadsTo whole objects mistaken 2 d q
+    acted g (z, does, is, on) = let next = on (ap is_nothing is) in (g, subst (λ u. Under u y) is next.0, next.1)
+
+    given : (xs : List Shape) → AppliedAt whole objects mistaken 2 2 true (row.Word (pos 1)) (GivesAll whole objects mistaken 2 [] none) e xs y q → (g : Environment) × Under (Num false) y × LeadsTo whole objects mistaken 2 g q
+    given [] (behind, leads, at_behind) =
+        let r = led e behind (λ g. Acts whole objects mistaken 2 2 true (row.Word (pos 1)) [] g y q) leads at_behind in
+        acted r.0 r.1
+    given (w ∷ xs) (behind, leads, at_behind) = absurd leads
+literal_gives e y q (xs, inr h) = absurd (false≢true (ap is_not h.0))
+
+mistaken_body : IsClosedIn whole objects mistaken 0 returning → ⊥
+mistaken_body closed =
+    let body = (closed refl).1 in
+    let leaves = body.2 in
+    let gives = literal_gives (before whole objects mistaken 0 returning) leaves.0 leaves.1 leaves.2 in
+    let returns = led gives.0 leaves.1 (λ g. Returns whole objects mistaken 0 2 leaves.0 × GoesTo whole objects mistaken 0 2 g Away) gives.2 leaves.3 in
+    no_string leaves.0 gives.1 (returns.1.0 (omega arith)).0
+
+pub mistaken_is_not_closed : IsClosed whole objects mistaken (returning ∷ []) → ⊥
+mistaken_is_not_closed closed = mistaken_body (closed.functions_are 0)

@@ -1,5 +1,5 @@
 -- Annotations of trees, and the environments before and after the parts of a tree.
-use Rattle.std.specs.Prelude.{◌≡◌, ◌<◌, ℕ, ◌==◌, ◌&&◌, not, nat_lt, nat_le, if◌then◌else◌, Bool, true, false, List, [], ◌∷◌, ◌++◌, Option, Some, None}
+use Rattle.std.specs.Prelude.{◌≡◌, ◌<◌, ℕ, ◌==◌, ◌&&◌, not, nat_lt, nat_le, if◌then◌else◌, Bool, true, false, List, [], ◌∷◌, Option, Some, None}
 use Rattle.rpy_tree.specs.declared.program.ClassInfo.{ClassInfo}
 use Rattle.ann_lattice.specs.Shape.{Shape, Nothing, Inst}
 use Rattle.ann_lattice.specs.Order.{Below}
@@ -33,6 +33,11 @@ pub data Point : Type 0 where
   Never : Point
   With : Environment → Point
 
+-- where a statement leaves for: a point, or out of the function, where nothing is asked of it
+pub data Goal : Type 0 where
+  Away : Goal
+  Towards : Point → Goal
+
 abbrev pub elements_with : (ℕ → Shape) → ℕ → Shape → ℕ → Shape
 elements_with elements i x j = if j == i then x else elements j
 
@@ -55,16 +60,16 @@ At (With e) holds = holds e
 
 -- ---- where statements and exceptions go
 
--- the points to which a statement goes on: the next one, behind the loop, at the next turn of the loop, and with a value out of the function
+-- where a statement goes on to: the next point, behind the loop, the next turn of the loop, and with a value out of the function
 pub record Exits : Type 0 where
   pub next : Point
-  pub broken : Point
-  pub continued : Point
-  pub returned : Point
+  pub broken : Goal
+  pub continued : Goal
+  pub returned : Goal
 
 -- in a loop
 abbrev pub within : Exits → Point → Point → Exits
-within t turn behind = record { next = turn; broken = behind; continued = turn; returned = t.returned }
+within t turn behind = record { next = turn; broken = Towards behind; continued = Towards turn; returned = t.returned }
 
 -- the point before what takes an exception, perhaps with a local that is bound to it and the class that it has then
 pub record Handler : Type 0 where
@@ -94,6 +99,10 @@ module _ (k : List ClassInfo) (same : List ℕ) (n : ℕ) where
   abbrev pub Leads : Environment → Point → Type 0
   Leads e Never = ⊥
   Leads e (With g) = IsBelow e g
+
+  abbrev pub LeavesFor : Environment → Goal → Type 0
+  LeavesFor e Away = Unit {0}
+  LeavesFor e (Towards q) = Leads e q
 
   -- an exception may come here: each handler is above
   abbrev pub Seen : List Handler → Environment → Type 0

@@ -1,5 +1,5 @@
 -- Annotations that are closed under all that the trees of a program ask, and free of conflict.
-use Rattle.std.specs.Prelude.{◌≡◌, ℕ, ◌+◌, if◌then◌else◌, Bool, true, List, [], ◌∷◌, length, slice_get, Option, Some, None}
+use Rattle.std.specs.Prelude.{◌≡◌, ℕ, ◌+◌, if◌then◌else◌, true, List, [], length, slice_get, Option, Some, None}
 use Rattle.rpy_tree.specs.Value.{Object}
 use Rattle.ann_lattice.specs.Shape.{NoneOnly}
 use Rattle.ann_lattice.specs.Assign.{at, mark}
@@ -7,7 +7,7 @@ use Rattle.ann_rules.specs.Program.{Whole}
 use Rattle.ann_rules.specs.Rules.{entry_needs, site_needs, numbered}
 use Rattle.ann_rules.specs.Hold.{AllHold}
 use Rattle.flow_space.specs.Tree.{Function}
-use Rattle.ann_tree.specs.Annotation.{Annotation, Environment, Point, at_start, At, IsFree}
+use Rattle.ann_tree.specs.Annotation.{Annotation, Environment, Point, Away, at_start, At, IsFree}
 use Rattle.ann_tree.specs.Leaves.{Returns, LeavesAll}
 
 -- how many locals are bound when a function starts
@@ -19,13 +19,12 @@ module _ (p : Whole) (sites : List (Option Object)) (a : Annotation) where
   abbrev pub before : ℕ → Function → Environment
   before f function = at_start (λ i. at a.parts (p.places.param f i)) (length function.defaults) (bound function)
 
-  -- The body of a reached function, with the elements of its parameters; where its end is reached it returns `None`. Nothing is asked of where a
-  -- `return` leads behind it.
+  -- the body of a reached function, with the elements of its parameters; where its end is reached it returns `None`
   abbrev pub IsClosedIn : ℕ → Function → Type 0
   IsClosedIn f function =
       mark a.parts (p.places.reached f) ≡ true
-      → (end behind : Point)
-      × LeavesAll p sites a f function.locals [] function.body (before f function) (record { next = end; broken = end; continued = end; returned = behind })
+      → (end : Point)
+      × LeavesAll p sites a f function.locals [] function.body (before f function) (record { next = end; broken = Away; continued = Away; returned = Away })
       × At end (λ g. Returns p sites a f function.locals NoneOnly)
 
   abbrev pub IfFunction : ℕ → Option Function → Type 0

@@ -1,5 +1,5 @@
 -- Three programs of one function, each with an annotation.
-use Rattle.std.specs.Prelude.{ℕ, ℤ, pos, Bool, true, false, List, [], ◌∷◌, get_or, Option, Some, None}
+use Rattle.std.specs.Prelude.{ℕ, ℤ, pos, true, false, List, [], ◌∷◌, get_or, Option, Some, None}
 use Rattle.rpy_tree.specs.Value.{Object}
 use Rattle.rpy_tree.specs.declared.program.Site.{Site}
 use Rattle.rpy_tree.specs.declared.syntax.BinOp.TheVariants as bin
@@ -8,7 +8,7 @@ use Rattle.rpy_meaning.specs.declared.row.RowOp.TheVariants as row
 use Rattle.ann_lattice.specs.Shape.{Any, One, OrNone, Shape, Nothing, NoneOnly, Truth, Num, Str, Lst}
 use Rattle.ann_lattice.specs.Assign.{Assignment}
 use Rattle.ann_rules.specs.Program.{Places, Whole}
-use Rattle.flow_space.specs.Tree.{Expr, Local, Apply, Exprs, none, more, Target, Name, Targets, no_targets, more_targets, Stmt, Return, Assign, Augment, If, While, Try, Block, done, line, no_clauses, clause, Function}
+use Rattle.flow_space.specs.Tree.{Expr, Local, Apply, none, more, Name, no_targets, more_targets, Stmt, Return, Assign, Augment, If, While, Try, Block, done, line, no_clauses, clause, Function}
 use Rattle.ann_tree.specs.Annotation.{Annotation}
 
 -- ---- the entry point has one parameter, and the program besides its list of arguments one site
@@ -146,3 +146,13 @@ guarded_elements =
 
 abbrev pub guarded : Annotation
 guarded = annotated (Num true) guarded_elements
+
+-- ---- what is not closed
+
+-- return 1
+abbrev pub returning : Function
+returning = entry_point (line (Return 3 (word 2 (pos 1))) done)
+
+-- where what is returned were a string
+abbrev pub mistaken : Annotation
+mistaken = annotated (Str Any) (Nothing ∷ Nothing ∷ Num false ∷ [])

@@ -1,23 +1,25 @@
 -- What an annotation must be for the expressions and targets that are reached. A part is read in the environment before it: it asks what its
 -- operations ask, what it gives is below an element, and the environment behind it is below that of a point.
-use Rattle.std.specs.Prelude.{◌≡◌, ◌⊎◌, ℕ, suc, ℤ, pos, ◌||◌, Bool, true, false, List, [], ◌∷◌, Option, Some, None}
+use Rattle.std.specs.Prelude.{◌≡◌, ◌⊎◌, ℕ, suc, ℤ, pos, ◌||◌, Bool, true, false, List, [], ◌∷◌, get_or, Option, Some, None}
 use Rattle.rpy_tree.specs.declared.program.Const.{Const}
 use Rattle.rpy_tree.specs.Value.{Value, Object}
 use Rattle.rpy_meaning.specs.declared.row.RowOp.{RowOp}
 use Rattle.rpy_meaning.specs.declared.row.RowOp.TheVariants as row
 use Rattle.rpy_meaning.specs.Operations.{constant}
-use Rattle.ann_lattice.specs.Shape.{Shape, Truth}
+use Rattle.ann_lattice.specs.Shape.{Shape, Nothing, Truth}
 use Rattle.ann_lattice.specs.Order.{Below}
 use Rattle.ann_lattice.specs.Join.{is_clash}
 use Rattle.ann_lattice.specs.Kind.{is_nothing, some_nothing}
-use Rattle.ann_lattice.specs.Assign.{Need, Set, Under, Holds}
+use Rattle.ann_lattice.specs.Assign.{Set, Under, Holds}
 use Rattle.ann_rules.specs.Program.{Whole}
 use Rattle.ann_rules.specs.Asks.{asks}
 use Rattle.ann_rules.specs.Rules.{asked, goes}
 use Rattle.ann_rules.specs.Hold.{AllHold}
-use Rattle.flow_space.specs.Tree.{Expr, Local, Constant, Apply, And, Or, Display, Comprehension, Exprs, none, more, Pairs, no_pairs, pair, Subject, Over, UpTo, FromTo, Condition, Always, Where, Target, Name, Attribute, Item, Parts, Targets, no_targets, more_targets}
-use Rattle.ann_tree.specs.Annotation.{Annotation, Environment, Point, Never, With, bind, narrow, At, Handler, Leads, Seen}
-use Rattle.ann_tree.specs.Tells.{Telling, tells, beside}
+use Rattle.rpy_meaning.specs.Meaning.{target_count}
+use Rattle.flow_stands.specs.Stands as stands
+use Rattle.flow_space.specs.Tree.{Expr, Local, Constant, Apply, And, Or, Display, Comprehension, Exprs, none, more, Pairs, no_pairs, pair, Subject, Over, UpTo, FromTo, Condition, Always, Where, Target, Name, Attribute, Item, Parts, Targets, no_targets, more_targets, plain_subject, plain_targets}
+use Rattle.ann_tree.specs.Annotation.{Annotation, Environment, Point, bind, narrow, At, Handler, Leads, Seen}
+use Rattle.ann_tree.specs.Tells.{Telling, tells}
 
 -- an expression, or a test of one: in an environment, the elements, and the points behind it
 abbrev pub Giving : Type 1
@@ -44,18 +46,21 @@ plainly q = record { to = q; value = None }
 abbrev pub with_value : Point → Shape → Way
 with_value q x = record { to = q; value = Some x }
 
+-- the element beside a local that a test tells of, of those of the test's operands
+abbrev pub beside : Option ℕ → List Shape → List Shape
+beside None xs = []
+beside (Some place) xs = get_or xs place Nothing ∷ []
+
 abbrev pub is_raise : RowOp → Bool
 is_raise row.Raise = true
 is_raise other = false
 
 abbrev pub count : Targets → ℕ
-count no_targets = 0
-count (more_targets t ts) = suc (count ts)
+count parts = target_count (plain_targets parts)
 
+-- the step of a range
 abbrev pub step_of : Subject → Option ℤ
-step_of (Over site e) = None
-step_of (UpTo e) = Some (pos 1)
-step_of (FromTo a e step) = Some step
+step_of subject = stands.step_of (plain_subject subject)
 
 -- The program, whose graphs are not read here; what its sites hold before the run; and the part's function, which has n locals.
 module _ (p : Whole) (sites : List (Option Object)) (a : Annotation) (n : ℕ) where

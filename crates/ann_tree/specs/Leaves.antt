@@ -7,7 +7,7 @@ use Rattle.ann_lattice.specs.Shape.{Shape}
 use Rattle.ann_lattice.specs.Assign.{Up, Holds}
 use Rattle.ann_rules.specs.Program.{Whole}
 use Rattle.flow_space.specs.Tree.{Expr, Target, Name, Attribute, Item, Parts, Targets, no_targets, more_targets, Stmt, Pass, Break, Continue, Return, Do, Assign, Augment, If, While, For, Try, Finally, Block, done, line, Clauses, no_clauses, clause}
-use Rattle.ann_tree.specs.Annotation.{Annotation, Environment, Point, bind, At, Exits, within, Handler, handlers}
+use Rattle.ann_tree.specs.Annotation.{Annotation, Environment, Point, Goal, Towards, LeavesFor, bind, At, Exits, within, Handler, handlers}
 use Rattle.ann_tree.specs.Gives as part
 use Rattle.ann_tree.specs.Gives.{step_of}
 
@@ -15,6 +15,9 @@ use Rattle.ann_tree.specs.Gives.{step_of}
 module _ (p : Whole) (sites : List (Option Object)) (a : Annotation) (f n : ℕ) where
   abbrev pub LeadsTo : Environment → Point → Type 0
   LeadsTo e q = part.LeadsTo p sites a n e q
+
+  abbrev pub GoesTo : Environment → Goal → Type 0
+  GoesTo e q = LeavesFor p.tables.classes a.parts.same n e q
 
   abbrev pub SeenBy : List Handler → Environment → Type 0
   SeenBy hs e = part.SeenBy p sites a n hs e
@@ -64,9 +67,9 @@ module _ (p : Whole) (sites : List (Option Object)) (a : Annotation) (f n : ℕ)
     -- in environment e the statement leads on to t
     pub Leaves : List Handler → Stmt → Environment → Exits → Type 0
     Leaves hs (Pass node) e t = LeadsTo e t.next
-    Leaves hs (Break node) e t = LeadsTo e t.broken
-    Leaves hs (Continue node) e t = LeadsTo e t.continued
-    Leaves hs (Return node l) e t = (x : Shape) × (behind : Point) × Gives hs l e x behind × At behind (λ g. Returns x × LeadsTo g t.returned)
+    Leaves hs (Break node) e t = GoesTo e t.broken
+    Leaves hs (Continue node) e t = GoesTo e t.continued
+    Leaves hs (Return node l) e t = (x : Shape) × (behind : Point) × Gives hs l e x behind × At behind (λ g. Returns x × GoesTo g t.returned)
     Leaves hs (Do node l) e t = (x : Shape) × Gives hs l e x t.next
     Leaves hs (Assign node ts l) e t = (x : Shape) × (behind : Point) × Gives hs l e x behind × At behind (λ g. BindsEach hs ts g x t.next)
     Leaves hs (Augment node target o l) e t = Augments hs node target o l e t.next
@@ -92,15 +95,15 @@ module _ (p : Whole) (sites : List (Option Object)) (a : Annotation) (f n : ℕ)
         × Handles hs clauses own t
         × LeavesAll (own ++ hs) body e (record t { next = after })
         × At after (λ g. LeavesAll hs other g t)
-    -- the last part is passed once for each kind of exit; nothing is asked of where the pass by exception ends
+    -- the last part is passed once for each kind of exit, and behind the pass its exit is left for; the exception is raised again
     Leaves hs (Finally node body last) e t =
-        (next broken continued returned raised nowhere : Point)
-        × LeavesAll (record { point = raised; bound = None } ∷ hs) body e (record { next = next; broken = broken; continued = continued; returned = returned })
+        (next broken continued returned raised : Point)
+        × LeavesAll (record { point = raised; bound = None } ∷ hs) body e (record { next = next; broken = Towards broken; continued = Towards continued; returned = Towards returned })
         × At next (λ g. LeavesAll hs last g t)
-        × At broken (λ g. LeavesAll hs last g (record t { next = t.broken }))
-        × At continued (λ g. LeavesAll hs last g (record t { next = t.continued }))
-        × At returned (λ g. LeavesAll hs last g (record t { next = t.returned }))
-        × At raised (λ g. LeavesAll hs last g (record t { next = nowhere }))
+        × At broken (λ g. (behind : Point) × LeavesAll hs last g (record t { next = behind }) × At behind (λ h. GoesTo h t.broken))
+        × At continued (λ g. (behind : Point) × LeavesAll hs last g (record t { next = behind }) × At behind (λ h. GoesTo h t.continued))
+        × At returned (λ g. (behind : Point) × LeavesAll hs last g (record t { next = behind }) × At behind (λ h. GoesTo h t.returned))
+        × At raised (λ g. (behind : Point) × LeavesAll hs last g (record t { next = behind }))
 
     -- handlers are above the environments before and after each statement
     pub LeavesAll : List Handler → Block → Environment → Exits → Type 0

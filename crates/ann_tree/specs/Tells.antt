@@ -1,11 +1,10 @@
 -- What a test tells of a local in each of its branches; `not`, `and` and `or` pass it on.
-use Rattle.std.specs.Prelude.{ℕ, ◌==◌, ◌||◌, not, if◌then◌else◌, Bool, true, false, List, [], ◌∷◌, get_or, Option, Some, None}
+use Rattle.std.specs.Prelude.{ℕ, ◌==◌, ◌||◌, not, if◌then◌else◌, Bool, true, false, Option, Some, None}
 use Rattle.rpy_tree.specs.Value as value
 use Rattle.rpy_tree.specs.declared.syntax.CmpOp.{CmpOp}
 use Rattle.rpy_tree.specs.declared.syntax.CmpOp.TheVariants as cmp
 use Rattle.rpy_meaning.specs.declared.row.RowOp.{RowOp}
 use Rattle.rpy_meaning.specs.declared.row.RowOp.TheVariants as row
-use Rattle.ann_lattice.specs.Shape.{Shape, Nothing}
 use Rattle.flow_space.specs.Tree.{Expr, Local, Constant, Apply, And, Or, Display, Comprehension, Exprs, none, more, Pairs, no_pairs, pair, Subject, Over, UpTo, FromTo, Condition, Always, Where, Target, Name, Attribute, Item, Parts, Targets, no_targets, more_targets}
 
 -- the operation that narrows the local, and which operand of the comparison stands beside it, if one does
@@ -108,8 +107,3 @@ abbrev pub tells : Expr → Bool → Option Telling
 tells (Local node i) way = of_truth i way
 tells (Apply node value o es) way = of_operation o es way
 tells other way = None
-
--- the element beside the local, of those of the test's operands
-abbrev pub beside : Option ℕ → List Shape → List Shape
-beside None xs = []
-beside (Some place) xs = get_or xs place Nothing ∷ []

@@ -3,4 +3,6 @@
 
 mod laws;
 
-pub use laws::{a_handler_is_closed, a_loop_is_closed, a_test_for_none_is_closed};
+pub use laws::{
+    a_handler_is_closed, a_loop_is_closed, a_test_for_none_is_closed, a_wrong_result_is_not_closed,
+};
