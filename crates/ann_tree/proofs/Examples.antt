@@ -6,7 +6,7 @@ use Rattle.rpy_meaning.specs.declared.row.RowOp.TheVariants as row
 use Rattle.ann_lattice.specs.Shape.{Any, One, OrNone, Shape, Nothing, NoneOnly, Truth, Num, Str, Lst}
 use Rattle.ann_lattice.specs.Kind.{is_nothing}
 use Rattle.ann_lattice.specs.Order.{Below, least, none as none_below, none_str, truth, num, str, list, clash}
-use Rattle.flow_space.specs.Tree.{Apply, Exprs, none, more, Name, Augment, If, Return, Local, done, line}
+use Rattle.flow_space.specs.Tree.{Apply, Exprs, none, more, Name, Augment, If, Return, Local, done, line, Function}
 use Rattle.rpy_tree.specs.declared.syntax.CmpOp.TheVariants as cmp
 use Rattle.rpy_tree.specs.declared.syntax.BinOp.TheVariants as bin
 use Rattle.ann_tree.specs.Annotation.{Annotation, Environment, Point, Never, Away, With, bind, narrow, within, At, IsBelow, Handler, IsFree}
@@ -16,7 +16,7 @@ use Rattle.ann_rules.specs.Hold.{AllHold}
 use Rattle.ann_rules.specs.Rules.{entry_needs, site_needs, numbered}
 use Rattle.ann_tree.specs.Examples.{whole, objects, places, parts, annotated, counted_elements, asked_elements, guarded_elements, word, text, x, set_x, compare, counting, counted, asking, asked, guarding, guarded, returning, mistaken}
 use Rattle.ann_tree.specs.Leaves.{Leaves, LeavesAll, Returns, GoesTo}
-use Rattle.ann_tree.specs.Closed.{before, IsClosed, IsClosedIn}
+use Rattle.ann_tree.specs.Closed.{before, HasPlaces, IsClosed, IsClosedIn}
 
 -- ---- environments of two locals
 
@@ -166,6 +166,13 @@ string = str Any Any tt
 nothing : Under Nothing Nothing
 nothing = least Nothing
 
+-- each part has its place
+are_placed : (result : Shape) (elements : List Shape) (function : Function) → HasPlaces whole objects (annotated result elements) (function ∷ [])
+are_placed result elements function = record {
+  of_functions = elim [ zero ↦ (omega arith, omega arith, λ i lt. omega arith) | suc f ↦ tt ];
+  of_sites = elim [ zero ↦ λ lt. (omega arith, omega arith) | suc zero ↦ λ lt. (omega arith, omega arith) | suc (suc s) ↦ λ lt. absurd (omega (arith, lt)) ];
+}
+
 entry_holds : (result : Shape) → AllHold [] (parts result) (entry_needs whole (parts result))
 entry_holds result = ((λ lt. (string, tt)), ((λ lt. (arguments, tt)), ((λ lt. refl), tt)))
 
@@ -195,6 +202,7 @@ are_free result elements free = record {
 
 pub counting_is_closed : IsClosed whole objects counted (counting ∷ [])
 counting_is_closed = record {
+  placed = are_placed (Num false) counted_elements counting;
   entry = entry_holds (Num false);
   functions_are = elim [ zero ↦ counting_body | suc f ↦ tt ];
   sites_are = sites_hold (Num false);
@@ -358,6 +366,7 @@ asking_body reached = (
 
 pub asking_is_closed : IsClosed whole objects asked (asking ∷ [])
 asking_is_closed = record {
+  placed = are_placed (Num true) asked_elements asking;
   entry = entry_holds (Num true);
   functions_are = elim [ zero ↦ asking_body | suc f ↦ tt ];
   sites_are = sites_hold (Num true);
@@ -469,6 +478,7 @@ guarding_body reached = (
 
 pub guarding_is_closed : IsClosed whole objects guarded (guarding ∷ [])
 guarding_is_closed = record {
+  placed = are_placed (Num true) guarded_elements guarding;
   entry = entry_holds (Num true);
   functions_are = elim [ zero ↦ guarding_body | suc f ↦ tt ];
   sites_are = sites_hold (Num true);
