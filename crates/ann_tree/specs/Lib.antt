@@ -1,0 +1,6 @@
+pub mod Annotation
+pub mod Tells
+pub mod Gives
+pub mod Leaves
+pub mod Closed
+pub mod Examples
