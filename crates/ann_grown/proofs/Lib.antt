@@ -2,3 +2,4 @@
 pub mod Meeting
 pub mod Asked
 pub mod Naming
+pub mod Forming

@@ -5,13 +5,14 @@ use Rattle.std.proofs.lemmas.List.{length-set, get_or-set_other}
 use Rattle.rpy_tree.specs.declared.program.ClassInfo.{ClassInfo}
 use Rattle.ann_lattice.specs.Shape.{Shape, Nothing}
 use Rattle.ann_lattice.specs.Join.{join, is_clash}
-use Rattle.ann_lattice.specs.Assign.{Assignment, at, Need, Up, Set, raised, raise, meet, Grown, begin, step, Free, IsTable}
+use Rattle.ann_lattice.specs.Assign.{Assignment, at, Need, Up, Set, raised, raise, meet, Grown, begin, step, Fits, Free, IsTable}
 use Rattle.ann_lattice.proofs.Tables.{meet_table}
 use Rattle.ann_laws.proofs.Calls.{above_clash}
 use Rattle.ann_laws.proofs.Pairs.{no}
 use Rattle.ann_rules.specs.Program.{Whole}
 use Rattle.ann_rules.specs.Rules.{needs, rules, no_need}
 use Rattle.ann_rules.proofs.Mono.{grown_by_rules}
+use Rattle.ann_grown.proofs.Forming.{grown_above, grown_formed}
 use Rattle.ann_grown.specs.Partial.{Basis, IsPartial, NoneFree, IsOne, IsAsked, IsFirst, clash_at, Keeps, Meets}
 
 same_number : (c d : ℕ) → (c ≡ d) ⊎ (c ≢ d)
@@ -174,8 +175,14 @@ partial_grown p spots start a basis g = record {
   cells = grown_cells p start a g;
   marks = grown_marks p start a g;
   table = grown_table p start basis.table a g;
+  above = grown_above p spots start basis a g;
+  formed = grown_formed p spots start basis a g;
   least = grown_by_rules p basis.classes spots start basis.placed basis.table a g;
 }
+
+-- and where it is free of conflict
+pub fits_grown : (p : Whole) (spots : ℕ → Bool) (start a : Assignment) → IsPartial p spots start a → Free spots a → Fits p.tables.classes start a
+fits_grown p spots start a h free = record { cells = h.cells; marks = h.marks; table = h.table; above = h.above; formed = h.formed free }
 
 -- and where it is the first conflict
 pub partial_first : (p : Whole) (spots : ℕ → Bool) (start a : Assignment) (c : ℕ) → Basis p spots start → IsFirst p spots start a c → IsPartial p spots start a

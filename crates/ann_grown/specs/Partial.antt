@@ -1,24 +1,28 @@
 -- Assignments that grow step by step, each below all that are closed and free of conflict; and the first conflict.
 use Rattle.std.specs.Prelude.{◌≡◌, ◌⊎◌, ◌&&◌, if◌then◌else◌, ℕ, Bool, true, List, [], ◌∷◌, length, map, Option, Some, None}
 use Rattle.ann_lattice.specs.Join.{is_clash}
-use Rattle.ann_lattice.specs.Assign.{Assignment, Need, Up, Set, at, meet, Grown, Fits, Closed, Free, IsTable, IsLeast}
-use Rattle.ann_lattice.specs.Laws.{named}
+use Rattle.ann_lattice.specs.Assign.{Assignment, Less, Need, Up, Set, at, meet, Grown, Fits, Closed, Free, IsTable, IsLeast}
+use Rattle.ann_lattice.specs.Laws.{IsFormed, named}
 use Rattle.ann_laws.specs.Rows.{HasClasses}
 use Rattle.ann_rules.specs.Program.{Whole}
 use Rattle.ann_rules.specs.Rules.{needs, rules}
 use Rattle.ann_rules.specs.Hold.{IsPlaced}
 
--- what growing rests on: the classes are a tree, each part has its cell, and the sites of the start are a table
+-- what growing rests on: the classes are a tree, each part has its cell, the sites of the start are a table, and its elements are well-formed
 pub record Basis (p : Whole) (spots : ℕ → Bool) (start : Assignment) : Type 0 where
   pub classes : HasClasses p.tables
   pub placed : IsPlaced p spots start
   pub table : IsTable (length start.same) start.same
+  pub formed : (c : ℕ) → IsFormed (at start c)
 
--- as many cells and marks as the start, and below each assignment above the start that is closed and free
+-- as many cells and marks as the start, above the start, below each assignment above the start that is closed and free, and well-formed while it is
+-- free itself
 pub record IsPartial (p : Whole) (spots : ℕ → Bool) (start a : Assignment) : Type 0 where
   pub cells : length a.cells ≡ length start.cells
   pub marks : length a.marks ≡ length start.marks
   pub table : IsTable (length start.same) a.same
+  pub above : Less p.tables.classes start a
+  pub formed : Free spots a → (c : ℕ) → IsFormed (at a c)
   pub least : IsLeast p.tables.classes (rules p) spots start a
 
 -- no assignment above the start is closed and free

@@ -1,7 +1,7 @@
 // Laws of growing step by step, over all programs, graphs and assignments.
 ghost use Rattle.std.specs.Prelude.{◌≡◌, ℕ, Bool, true, false};
 ghost use Rattle.ann_lattice.specs.Join.{is_clash};
-ghost use Rattle.ann_lattice.specs.Assign.{Assignment, Need, Up, Set, Grown, Free, at, meet};
+ghost use Rattle.ann_lattice.specs.Assign.{Assignment, Need, Up, Set, Grown, Fits, Free, at, meet};
 ghost use Rattle.ann_rules.specs.Program.{Whole};
 ghost use Rattle.ann_rules.specs.Rules.{rules};
 ghost use Rattle.ann_grown.specs.Partial.{Basis, IsPartial, NoneFree, IsAsked, Keeps};
@@ -9,6 +9,11 @@ ghost use Rattle.ann_grown.specs.Partial.{Basis, IsPartial, NoneFree, IsAsked, K
 /// What such steps lead to is below each closed, free assignment.
 pub fn what_is_grown_is_partial()
     ensures { (p : Whole) (spots : ℕ → Bool) (start a : Assignment) → Basis p spots start → Grown p.tables.classes (rules p) start a → IsPartial p spots start a }
+{}
+
+/// Where that is free of conflict, it is above the start and well-formed, as closed, free assignments are.
+pub fn what_grows_without_conflict_fits()
+    ensures { (p : Whole) (spots : ℕ → Bool) (start a : Assignment) → IsPartial p spots start a → Free spots a → Fits p.tables.classes start a }
 {}
 
 /// A need that is asked is a step, if its cell is in no conflict behind it.

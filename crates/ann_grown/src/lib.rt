@@ -4,4 +4,7 @@
 
 mod laws;
 
-pub use laws::{a_conflict_leaves_none_free, what_is_asked_is_a_step, what_is_grown_is_partial};
+pub use laws::{
+    a_conflict_leaves_none_free, what_grows_without_conflict_fits, what_is_asked_is_a_step,
+    what_is_grown_is_partial,
+};

@@ -10,6 +10,7 @@ use Rattle.class_desc.specs.Tables.{Tables}
 use Rattle.ann_element.specs.Sites.{alone, below, leader}
 use Rattle.ann_lattice.specs.Shape.{Nothing}
 use Rattle.ann_lattice.specs.Join.{is_clash}
+use Rattle.ann_lattice.specs.Laws.{IsFormed}
 use Rattle.ann_lattice.specs.Assign.{Assignment, Rules, Grown, begin, step, at, Free, IsTable}
 use Rattle.ann_lattice.proofs.Tables.{meet_table}
 use Rattle.ann_laws.specs.Rows.{HasClasses}
@@ -35,8 +36,21 @@ use Rattle.ann_settled.specs.Settled as spec
 use Rattle.ann_settled.specs.declared.settle.Unsettled.{Unsettled}
 use Rattle.ann_settled.specs.declared.settle.Unsettled.TheVariants as unsettled
 
+empty_cell : (n c : ℕ) → get_or (replicate n Nothing) c Nothing ≡ Nothing
+empty_cell zero c = refl
+empty_cell (suc n) zero = refl
+empty_cell (suc n) (suc c) = empty_cell n c
+
+nothing_formed : IsFormed Nothing
+nothing_formed = record { sound = refl; shallow = omega arith }
+
 pub basis : (p : Program) (gs : Graphs) (t : Tables) → HasClasses t → 0 < length p.sites → spec.Basis p (planned p gs t)
-basis p gs t classes lt = record { classes = classes; placed = is_placed p gs t; table = alone_table p.sites lt }
+basis p gs t classes lt = record {
+  classes = classes;
+  placed = is_placed p gs t;
+  table = alone_table p.sites lt;
+  formed = λ c. subst IsFormed (sym (empty_cell (planned p gs t).cells c)) nothing_formed;
+}
 
 -- ---- marks
 
@@ -50,11 +64,6 @@ or_second false b c f e = f e
 
 within_or_past : (c n : ℕ) → (c < n) ⊎ (n ≤ c)
 within_or_past c n = grind arith
-
-empty_cell : (n c : ℕ) → get_or (replicate n Nothing) c Nothing ≡ Nothing
-empty_cell zero c = refl
-empty_cell (suc n) zero = refl
-empty_cell (suc n) (suc c) = empty_cell n c
 
 module _ (q : Planned) (marks : List Bool) (h : AreSpots q.plan q.cells marks) where
   spot_on : (c : ℕ) → spots_in marks c ≡ true → spots q.plan c ≡ true

@@ -4,7 +4,7 @@ use Rattle.rpy_tree.specs.declared.program.Program.{Program}
 use Rattle.flow_graph.specs.declared.graph.Graphs.{Graphs}
 use Rattle.class_desc.specs.Tables.{Tables}
 use Rattle.ann_element.specs.declared.annotation.Annotation.{Annotation}
-use Rattle.ann_lattice.specs.Assign.{Assignment, Closed, Free, IsLeast}
+use Rattle.ann_lattice.specs.Assign.{Assignment, Closed, Free, Fits, IsLeast}
 use Rattle.ann_laws.specs.Rows.{HasClasses}
 use Rattle.ann_rules.specs.Rules.{rules}
 use Rattle.ann_grown.specs.Partial as partial
@@ -94,11 +94,12 @@ Closes p q (Err (unsettled.Conflict t)) = NoneFree p q × IsMet p q.plan (begin 
 Closes p q (Err unsettled.NoMem) = Unit {0}
 
 -- The annotation is what stands in these cells and marks, one for each part of the program; all that the rules of its graphs ask holds there; no
--- parameter, result, attribute, item, key or result of an operation is in conflict; and it is below each assignment of which that holds. What is said
--- of others rests on classes that are a tree and on a site, which each program has.
+-- parameter, result, attribute, item, key or result of an operation is in conflict; its elements are well-formed; and it is below each assignment of
+-- which that holds. What is said of others, and of elements, rests on classes that are a tree and on a site, which each program has.
 pub record IsSettled (p : Program) (gs : Graphs) (t : Tables) (n : Annotation) (s : State) : Type 0 where
   pub read : IsRead (planned p gs t) s n
   pub closed : IsClosed (planned p gs t) s
+  pub fits : HasClasses t → 0 < length p.sites → Fits t.classes (start (planned p gs t)) (assignment s)
   pub least : HasClasses t → 0 < length p.sites → IsLeast t.classes (rules (whole (planned p gs t).plan)) (spots (planned p gs t).plan) (start (planned p gs t)) (assignment s)
 
 -- no assignment is closed under them and free of conflict

@@ -10,7 +10,7 @@ ghost use Rattle.ann_layout.specs.Layout.{plan, planned};
 ghost use Rattle.ann_places.specs.Spots.{spots, start};
 
 /// Where the classes of a program are a tree and it has a site, growing has its basis: each part has its
-/// place, and the sites are a table.
+/// place, the sites are a table, and the start is well-formed.
 pub fn growing_has_a_basis()
     ensures { (p : Program) (gs : Graphs) (t : Tables) → HasClasses t → 0 < length p.sites → Basis (whole (plan p gs t)) (spots (plan p gs t)) (start (planned p gs t)) }
 {}

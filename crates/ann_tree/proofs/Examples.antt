@@ -1,27 +1,39 @@
 -- The worked programs: their annotations are closed and free.
 use Rattle.std.proofs.Common.{◌≡◌, refl, ap, subst, ℕ, zero, suc, inl, inr, ℤ, pos, Bool, true, false, List, [], ◌∷◌, Some, None, arith}
-use Rattle.std.proofs.lemmas.Bool.{false≢true}
+use Rattle.std.specs.Prelude.{nat_le, ◌&&◌}
+use Rattle.std.proofs.lemmas.Bool.{false≢true, leb-true}
 use Rattle.rpy_meaning.specs.declared.row.RowOp.{RowOp}
 use Rattle.rpy_meaning.specs.declared.row.RowOp.TheVariants as row
 use Rattle.ann_lattice.specs.Shape.{Any, One, OrNone, Shape, Nothing, NoneOnly, Truth, Num, Str, Lst}
 use Rattle.ann_lattice.specs.Kind.{is_nothing}
 use Rattle.ann_lattice.specs.Order.{Below, least, none as none_below, none_str, truth, num, str, list, clash}
-use Rattle.flow_space.specs.Tree.{Apply, Exprs, none, more, Name, Augment, If, Return, Local, done, line, Function}
+use Rattle.flow_trees.specs.Tells.{by_ways}
+use Rattle.flow_trees.specs.Tree.{Apply, Exprs, none, more, Name, Augment, If, Return, Local, done, line, Function}
 use Rattle.rpy_tree.specs.declared.syntax.CmpOp.TheVariants as cmp
 use Rattle.rpy_tree.specs.declared.syntax.BinOp.TheVariants as bin
-use Rattle.ann_tree.specs.Annotation.{Annotation, Environment, Point, Never, Away, With, bind, narrow, within, At, IsBelow, Handler, IsFree}
-use Rattle.ann_tree.specs.Gives.{Operates, LeadsTo, Gives, GivesAll, Test, Acts, AppliedAt}
-use Rattle.ann_lattice.specs.Join.{is_clash}
+use Rattle.ann_tree.specs.Annotation.{Annotation, Environment, Point, Never, Away, With, bind, narrow, within, At, Passes, IsBelow, Handler, IsFree}
+use Rattle.ann_tree.specs.Gives.{Operates, LeadsTo, SeenBy, Gives, GivesAll, Test, Acts, AppliedAt}
+use Rattle.ann_lattice.specs.Join.{is_clash, depth}
+use Rattle.ann_lattice.specs.Laws.{IsFormed, is_sound}
+use Rattle.ann_lattice.proofs.Ordered.{and_left, and_right}
 use Rattle.ann_rules.specs.Hold.{AllHold}
 use Rattle.ann_rules.specs.Rules.{entry_needs, site_needs, numbered}
 use Rattle.ann_tree.specs.Examples.{whole, objects, places, parts, annotated, counted_elements, asked_elements, guarded_elements, word, text, x, set_x, compare, counting, counted, asking, asked, guarding, guarded, returning, mistaken}
 use Rattle.ann_tree.specs.Leaves.{Leaves, LeavesAll, Returns, GoesTo}
 use Rattle.ann_tree.specs.Closed.{before, HasPlaces, IsClosed, IsClosedIn}
 
+-- ---- well-formed elements
+
+abbrev is_flat : Shape → Bool
+is_flat x = is_sound x && nat_le (depth x) 8
+
+flat : {x : Shape} → is_flat x ≡ true → IsFormed x
+flat {x} h = record { sound = and_left (is_sound x) (nat_le (depth x) 8) h; shallow = leb-true (depth x) 8 (and_right (is_sound x) (nat_le (depth x) 8) h) }
+
 -- ---- environments of two locals
 
 abbrev Under : Shape → Shape → Type 0
-Under s t = Below [] (0 ∷ 1 ∷ []) s t
+Under s t = Passes [] (0 ∷ 1 ∷ []) s t
 
 abbrev OfLocal : Environment → Environment → ℕ → Type 0
 OfLocal e g i = Under (e.element i) (g.element i) × (e.unbound i ≡ true → g.unbound i ≡ true)
@@ -36,7 +48,7 @@ abbrev env : Shape → Bool → Environment
 env s u = record { element = λ i. elim i [ zero ↦ Lst 0 false | suc j ↦ s ]; unbound = λ i. elim i [ zero ↦ false | suc j ↦ u ] }
 
 arguments : Under (Lst 0 false) (Lst 0 false)
-arguments = list 0 0 false false refl tt
+arguments = (list 0 0 false false refl tt, λ h. h)
 
 to : (s t : Shape) (u v : Bool) → Under s t → (u ≡ true → v ≡ true) → IsBelow [] (0 ∷ 1 ∷ []) 2 (env s u) (env t v)
 to s t u v below bound = both (env s u) (env t v) (arguments, λ h. h) (below, bound)
@@ -56,22 +68,22 @@ module _ (result : Shape) (elements : List Shape) (hs : List Handler) where
 
   -- an operation on what its operands give
   operation : (node : ℕ) (o : RowOp) (es : Exprs) (xs : List Shape) (e : Environment) (w y t : Shape) (v : Bool)
-      → GivesAll whole objects a 2 hs es e xs (With (env t v)) → Operates whole objects a 2 o node xs w → w ≡ a.element node → Under w y → Under t t
+      → GivesAll whole objects a 2 hs es e xs (With (env t v)) → SeenBy whole objects a 2 hs (env t v) → by_ways o es ≡ false → Operates whole objects a 2 o node xs w → w ≡ a.element node → Under w y → Under t t
       → Gives whole objects a 2 hs (Apply node true o es) e y (With (env t v))
-  operation node o es xs e w y t v operands does is below same = (xs, inl (With (env t v), operands, (w, does, is, λ h. (below, to t t v v same (λ h. h)))))
+  operation node o es xs e w y t v operands seen plain does is below same = (xs, inl (plain, (With (env t v), operands, (seen, (w, does, is, λ h. (below, to t t v v same (λ h. h)))))))
 
   -- the second local
-  reading : (node : ℕ) (s w y : Shape) (u : Bool) → Operates whole objects a 2 row.Copy node (s ∷ []) w → w ≡ a.element node → Under w y → Under s s
+  reading : (node : ℕ) (s w y : Shape) (u : Bool) → SeenBy whole objects a 2 hs (env s u) → Operates whole objects a 2 row.Copy node (s ∷ []) w → w ≡ a.element node → Under w y → Under s s
       → Gives whole objects a 2 hs (x node) (env s u) y (With (env s u))
-  reading node s w y u does is below same = (λ h lt. absurd (omega (arith, lt)), (w, does, is, λ h. (below, to s s u u same (λ h. h))))
+  reading node s w y u seen does is below same = (λ h lt. absurd (omega (arith, lt)), (seen, (w, does, is, λ h. (below, to s s u u same (λ h. h)))))
 
 -- ---- a loop
 
 int : Under (Num false) (Num false)
-int = num false false tt
+int = (num false false tt, λ h. h)
 
 bool : Under (Truth None) (Truth None)
-bool = truth None None tt
+bool = (truth None None tt, λ h. h)
 
 -- the second local is a word
 abbrev a_word : Environment
@@ -86,35 +98,38 @@ operates_as a o node xs z = Operates whole objects a 2 o node xs z
 in_counted : (node : ℕ) (z : ℤ) (e : Environment) (y t : Shape) (v : Bool) → operates_as counted (row.Word z) node [] (Num false) → Num false ≡ counted.element node
     → LeadsTo whole objects counted 2 e (With (env t v)) → Under (Num false) y → Under t t
     → Gives whole objects counted 2 [] (word node z) e y (With (env t v))
-in_counted node z e y t v does is leads below same = operation (Num false) counted_elements [] node (row.Word z) none [] e (Num false) y t v leads does is below same
+in_counted node z e y t v does is leads below same = operation (Num false) counted_elements [] node (row.Word z) none [] e (Num false) y t v leads tt refl does is below same
 
 first_line : Leaves whole objects counted 0 2 [] (set_x 2 (word 3 (pos 0)) 4) (before whole objects counted 0 counting) (record { next = With a_word; broken = Away; continued = Away; returned = Away })
 first_line = (
   Num false,
   With (env Nothing true),
-  in_counted 3 (pos 0) (before whole objects counted 0 counting) (Num false) Nothing true (refl, λ h. ((int, tt), tt)) refl
-      (both (before whole objects counted 0 counting) (env Nothing true) (arguments, λ h. h) (least Nothing, λ h. h)) int (least Nothing),
+  in_counted 3 (pos 0) (before whole objects counted 0 counting) (Num false) Nothing true (refl, (λ h. ((int.0, tt), tt)), λ h. flat refl) refl
+      (both (before whole objects counted 0 counting) (env Nothing true) (arguments, λ h. h) ((least Nothing, λ h. h), λ h. h)) int (least Nothing, λ h. h),
   (
     With a_word,
-    ((refl, λ h. ((int, tt), tt)), λ h. (bound_to Nothing (Num false) (Num false) true false int, tt)),
+    (tt, (refl, (λ h. ((int.0, tt), tt)), λ h. flat refl), λ h. bound_to Nothing (Num false) (Num false) true false int),
     still,
   ),
 )
 
 x_in_counted : (node : ℕ) → Num false ≡ counted.element node → Gives whole objects counted 2 [] (x node) a_word (Num false) (With a_word)
-x_in_counted node is = reading (Num false) counted_elements [] node (Num false) (Num false) (Num false) false (refl, λ h. ((int, tt), tt)) is int int
+x_in_counted node is = reading (Num false) counted_elements [] node (Num false) (Num false) (Num false) false tt (refl, (λ h. ((int.0, tt), tt)), λ h. flat refl) is int int
 
 sides : GivesAll whole objects counted 2 [] (more (x 5) (more (word 6 (pos 10)) none)) a_word (Num false ∷ Num false ∷ []) (With a_word)
-sides = (With a_word, x_in_counted 5 refl, (With a_word, in_counted 6 (pos 10) a_word (Num false) (Num false) false (refl, λ h. ((int, tt), tt)) refl still int int, still))
+sides = (With a_word, x_in_counted 5 refl, (With a_word, in_counted 6 (pos 10) a_word (Num false) (Num false) false (refl, (λ h. ((int.0, tt), tt)), λ h. flat refl) refl still int int, still))
 
 -- where the test is false, x is at least 10, and so not below zero
 test : Test whole objects counted 2 [] 8 (compare 7 (x 5) (word 6 (pos 10))) a_word (With a_word) (With a_word)
 test = inl (
-  Num false ∷ Num false ∷ [],
-  Truth None,
-  With a_word,
-  inl (With a_word, sides, (Truth None, (refl, λ h. ((bool, tt), tt)), refl, λ h. (bool, still))),
-  (Truth None, (refl, λ h. ((bool, tt), tt)), (λ h. still), (λ h. (Num false, (refl, λ h. ((int, tt), tt)), narrow_to (Num false) (Num false) (Num false) false false int (λ h. h)))),
+  refl,
+  (
+    Num false ∷ Num false ∷ [],
+    Truth None,
+    With a_word,
+    inl (refl, (With a_word, sides, (tt, (Truth None, (refl, (λ h. ((bool.0, tt), tt)), λ h. flat refl), refl, λ h. (bool, still))))),
+    (tt, Truth None, (refl, (λ h. ((bool.0, tt), tt)), λ h. flat refl), (λ h. still), (λ h. (Num false, (refl, (λ h. ((int.0, tt), tt)), λ h. flat refl), narrow_to (Num false) (Num false) (Num false) false false int (λ h. h)))),
+  ),
 )
 
 turn : LeavesAll whole objects counted 0 2 [] (line (Augment 11 (Name 9 1) (row.Binary bin.Add (Some 1)) (word 10 (pos 1))) done) a_word
@@ -130,10 +145,10 @@ turn = (
     With a_word,
     With a_word,
     (λ h lt. absurd (omega (arith, lt))),
-    (Num false, (refl, λ h. ((int, tt), tt)), tt, λ h. (int, still)),
-    in_counted 10 (pos 1) a_word (Num false) (Num false) false (refl, λ h. ((int, tt), tt)) refl still int int,
-    (Num false, (refl, λ h. ((int, tt), tt)), tt, λ h. (int, still)),
-    ((refl, λ h. ((int, tt), tt)), λ h. (bound_to (Num false) (Num false) (Num false) false false int, tt)),
+    (tt, (Num false, (refl, (λ h. ((int.0, tt), tt)), λ h. flat refl), tt, λ h. (int, still))),
+    in_counted 10 (pos 1) a_word (Num false) (Num false) false (refl, (λ h. ((int.0, tt), tt)), λ h. flat refl) refl still int int,
+    (tt, (Num false, (refl, (λ h. ((int.0, tt), tt)), λ h. flat refl), tt, λ h. (int, still))),
+    (tt, (refl, (λ h. ((int.0, tt), tt)), λ h. flat refl), λ h. bound_to (Num false) (Num false) (Num false) false false int),
   ),
   (tt, still),
 )
@@ -150,8 +165,8 @@ counting_body reached = (
       (
         With a_word,
         tt,
-        (With a_word, With a_word, still, test, turn),
-        (tt, (Never, tt, (Num false, With a_word, x_in_counted 12 refl, ((λ lt. (int, tt)), tt)), tt)),
+        (With a_word, With a_word, still, test, (tt, turn)),
+        (tt, (Never, tt, (Num false, With a_word, x_in_counted 12 refl, ((λ lt. (int.0, tt)), tt)), tt)),
       ),
     ),
   ),
@@ -161,10 +176,10 @@ counting_body reached = (
 -- ---- the rest of the program
 
 string : Under (Str Any) (Str Any)
-string = str Any Any tt
+string = (str Any Any tt, λ h. h)
 
 nothing : Under Nothing Nothing
-nothing = least Nothing
+nothing = (least Nothing, λ h. h)
 
 -- each part has its place
 are_placed : (result : Shape) (elements : List Shape) (function : Function) → HasPlaces whole objects (annotated result elements) (function ∷ [])
@@ -174,18 +189,18 @@ are_placed result elements function = record {
 }
 
 entry_holds : (result : Shape) → AllHold [] (parts result) (entry_needs whole (parts result))
-entry_holds result = ((λ lt. (string, tt)), ((λ lt. (arguments, tt)), ((λ lt. refl), tt)))
+entry_holds result = ((λ lt. (string.0, tt)), ((λ lt. (arguments.0, tt)), ((λ lt. refl), tt)))
 
 sites_hold : (result : Shape) → AllHold [] (parts result) (numbered whole (parts result) (site_needs whole (parts result)) 0 whole.sites)
 sites_hold result = (
-  (λ lt. (string, tt)),
+  (λ lt. (string.0, tt)),
   (
-    (λ lt. (string, tt)),
+    (λ lt. (string.0, tt)),
     (
-      (λ lt. (nothing, tt)),
+      (λ lt. (nothing.0, tt)),
       (
-        (λ lt. (nothing, tt)),
-        ((λ lt. (nothing, tt)), ((λ lt. (nothing, tt)), ((λ lt. (nothing, tt)), ((λ lt. (nothing, tt)), tt)))),
+        (λ lt. (nothing.0, tt)),
+        ((λ lt. (nothing.0, tt)), ((λ lt. (nothing.0, tt)), ((λ lt. (nothing.0, tt)), ((λ lt. (nothing.0, tt)), tt)))),
       ),
     ),
   ),
@@ -212,16 +227,16 @@ counting_is_closed = record {
 -- ---- a test for `None`
 
 no_value : Under NoneOnly NoneOnly
-no_value = none_below
+no_value = (none_below, λ h. h)
 
 text_or_none : Under (Str OrNone) (Str OrNone)
-text_or_none = str OrNone OrNone tt
+text_or_none = (str OrNone OrNone tt, λ h. h)
 
 char : Under (Str One) (Str One)
-char = str One One tt
+char = (str One One tt, λ h. h)
 
 any_int : Under (Num true) (Num true)
-any_int = num true true tt
+any_int = (num true true tt, λ h. h)
 
 abbrev with_x : Shape → Point
 with_x s = With (env s false)
@@ -231,10 +246,10 @@ asking_first = (
   NoneOnly,
   With (env Nothing true),
   operation (Num true) asked_elements [] 3 row.None none [] (before whole objects asked 0 asking) NoneOnly NoneOnly Nothing true
-      (both (before whole objects asked 0 asking) (env Nothing true) (arguments, λ h. h) (nothing, λ h. h)) (refl, λ h. ((no_value, tt), tt)) refl no_value nothing,
+      (both (before whole objects asked 0 asking) (env Nothing true) (arguments, λ h. h) (nothing, λ h. h)) tt refl (refl, (λ h. ((no_value.0, tt), tt)), λ h. flat refl) refl no_value nothing,
   (
     with_x NoneOnly,
-    ((refl, λ h. ((no_value, tt), tt)), λ h. (bound_to Nothing NoneOnly NoneOnly true false no_value, tt)),
+    (tt, (refl, (λ h. ((no_value.0, tt), tt)), λ h. flat refl), λ h. bound_to Nothing NoneOnly NoneOnly true false no_value),
     to NoneOnly NoneOnly false false no_value (λ h. h),
   ),
 )
@@ -244,7 +259,7 @@ unchanged s same = to s s false false same (λ h. h)
 
 a_word_in_asked : (node : ℕ) (z : ℤ) (s : Shape) → Operates whole objects asked 2 (row.Word z) node [] (Num false) → Num false ≡ asked.element node → Under s s
     → Gives whole objects asked 2 [] (word node z) (env s false) (Num false) (with_x s)
-a_word_in_asked node z s does is same = operation (Num true) asked_elements [] node (row.Word z) none [] (env s false) (Num false) (Num false) s false (unchanged s same) does is int same
+a_word_in_asked node z s does is same = operation (Num true) asked_elements [] node (row.Word z) none [] (env s false) (Num false) (Num false) s false (unchanged s same) tt refl does is int same
 
 asking_if : Leaves whole objects asked 0 2 [] (If 8 (compare 7 (word 5 (pos 1)) (word 6 (pos 2))) (line (set_x 9 (text 10 (97 ∷ [])) 11) done) done) (env NoneOnly false)
     (record { next = with_x (Str OrNone); broken = Away; continued = Away; returned = Away })
@@ -252,19 +267,25 @@ asking_if = (
   with_x NoneOnly,
   with_x NoneOnly,
   inl (
-    Num false ∷ Num false ∷ [],
-    Truth None,
-    with_x NoneOnly,
-    inl (
+    refl,
+    (
+      Num false ∷ Num false ∷ [],
+      Truth None,
       with_x NoneOnly,
-      (
-        with_x NoneOnly,
-        a_word_in_asked 5 (pos 1) NoneOnly (refl, λ h. ((int, tt), tt)) refl no_value,
-        (with_x NoneOnly, a_word_in_asked 6 (pos 2) NoneOnly (refl, λ h. ((int, tt), tt)) refl no_value, unchanged NoneOnly no_value),
+      inl (
+        refl,
+        (
+          with_x NoneOnly,
+          (
+            with_x NoneOnly,
+            a_word_in_asked 5 (pos 1) NoneOnly (refl, (λ h. ((int.0, tt), tt)), λ h. flat refl) refl no_value,
+            (with_x NoneOnly, a_word_in_asked 6 (pos 2) NoneOnly (refl, (λ h. ((int.0, tt), tt)), λ h. flat refl) refl no_value, unchanged NoneOnly no_value),
+          ),
+          (tt, (Truth None, (refl, (λ h. ((bool.0, tt), tt)), λ h. flat refl), refl, λ h. (bool, unchanged NoneOnly no_value))),
+        ),
       ),
-      (Truth None, (refl, λ h. ((bool, tt), tt)), refl, λ h. (bool, unchanged NoneOnly no_value)),
+      (tt, Truth None, (refl, (λ h. ((bool.0, tt), tt)), λ h. flat refl), (λ h. unchanged NoneOnly no_value), (λ h. unchanged NoneOnly no_value)),
     ),
-    (Truth None, (refl, λ h. ((bool, tt), tt)), (λ h. unchanged NoneOnly no_value), (λ h. unchanged NoneOnly no_value)),
   ),
   (
     with_x (Str One),
@@ -272,12 +293,12 @@ asking_if = (
     (
       Str One,
       with_x NoneOnly,
-      operation (Num true) asked_elements [] 10 (row.Str (97 ∷ [])) none [] (env NoneOnly false) (Str One) (Str One) NoneOnly false (unchanged NoneOnly no_value) (refl, λ h. ((char, tt), tt)) refl char no_value,
-      (with_x (Str One), ((refl, λ h. ((char, tt), tt)), λ h. (bound_to NoneOnly (Str One) (Str One) false false char, tt)), unchanged (Str One) char),
+      operation (Num true) asked_elements [] 10 (row.Str (97 ∷ [])) none [] (env NoneOnly false) (Str One) (Str One) NoneOnly false (unchanged NoneOnly no_value) tt refl (refl, (λ h. ((char.0, tt), tt)), λ h. flat refl) refl char no_value,
+      (with_x (Str One), (tt, (refl, (λ h. ((char.0, tt), tt)), λ h. flat refl), λ h. bound_to NoneOnly (Str One) (Str One) false false char), unchanged (Str One) char),
     ),
-    (tt, to (Str One) (Str OrNone) false false (str One OrNone tt) (λ h. h)),
+    (tt, to (Str One) (Str OrNone) false false (str One OrNone tt, λ h. flat refl) (λ h. h)),
   ),
-  to NoneOnly (Str OrNone) false false none_str (λ h. h),
+  to NoneOnly (Str OrNone) false false (none_str, λ h. flat refl) (λ h. h),
 )
 
 -- where x is `None` it is nothing else, and behind the test it is a string
@@ -288,27 +309,34 @@ asking_none = (
   with_x NoneOnly,
   with_x (Str Any),
   inl (
-    Str OrNone ∷ NoneOnly ∷ [],
-    Truth None,
-    with_x (Str OrNone),
-    inl (
+    refl,
+    (
+      Str OrNone ∷ NoneOnly ∷ [],
+      Truth None,
       with_x (Str OrNone),
-      (
-        with_x (Str OrNone),
-        reading (Num true) asked_elements [] 12 (Str OrNone) (Str OrNone) (Str OrNone) false (refl, λ h. ((text_or_none, tt), tt)) refl text_or_none text_or_none,
+      inl (
+        refl,
         (
           with_x (Str OrNone),
-          operation (Num true) asked_elements [] 13 row.None none [] (env (Str OrNone) false) NoneOnly NoneOnly (Str OrNone) false (unchanged (Str OrNone) text_or_none) (refl, λ h. ((no_value, tt), tt)) refl no_value text_or_none,
-          unchanged (Str OrNone) text_or_none,
+          (
+            with_x (Str OrNone),
+            reading (Num true) asked_elements [] 12 (Str OrNone) (Str OrNone) (Str OrNone) false tt (refl, (λ h. ((text_or_none.0, tt), tt)), λ h. flat refl) refl text_or_none text_or_none,
+            (
+              with_x (Str OrNone),
+              operation (Num true) asked_elements [] 13 row.None none [] (env (Str OrNone) false) NoneOnly NoneOnly (Str OrNone) false (unchanged (Str OrNone) text_or_none) tt refl (refl, (λ h. ((no_value.0, tt), tt)), λ h. flat refl) refl no_value text_or_none,
+              unchanged (Str OrNone) text_or_none,
+            ),
+          ),
+          (tt, (Truth None, (refl, (λ h. ((bool.0, tt), tt)), λ h. flat refl), refl, λ h. (bool, unchanged (Str OrNone) text_or_none))),
         ),
       ),
-      (Truth None, (refl, λ h. ((bool, tt), tt)), refl, λ h. (bool, unchanged (Str OrNone) text_or_none)),
-    ),
-    (
-      Truth None,
-      (refl, λ h. ((bool, tt), tt)),
-      (λ h. (NoneOnly, (refl, λ h. ((no_value, tt), tt)), narrow_to (Str OrNone) NoneOnly NoneOnly false false no_value (λ h. h))),
-      (λ h. (Str Any, (refl, λ h. ((string, tt), tt)), narrow_to (Str OrNone) (Str Any) (Str Any) false false string (λ h. h))),
+      (
+        tt,
+        Truth None,
+        (refl, (λ h. ((bool.0, tt), tt)), λ h. flat refl),
+        (λ h. (NoneOnly, (refl, (λ h. ((no_value.0, tt), tt)), λ h. flat refl), narrow_to (Str OrNone) NoneOnly NoneOnly false false no_value (λ h. h))),
+        (λ h. (Str Any, (refl, (λ h. ((string.0, tt), tt)), λ h. flat refl), narrow_to (Str OrNone) (Str Any) (Str Any) false false string (λ h. h))),
+      ),
     ),
   ),
   (
@@ -317,7 +345,7 @@ asking_none = (
     (
       Num false,
       with_x NoneOnly,
-      a_word_in_asked 16 (pos 0) NoneOnly (refl, λ h. ((int, tt), tt)) refl no_value,
+      a_word_in_asked 16 (pos 0) NoneOnly (refl, (λ h. ((int.0, tt), tt)), λ h. flat refl) refl no_value,
       ((λ lt. (num false true tt, tt)), tt),
     ),
     tt,
@@ -331,9 +359,9 @@ asking_last = (
   Num true,
   with_x (Str Any),
   operation (Num true) asked_elements [] 19 row.ToInt (more (x 18) none) (Str Any ∷ []) (env (Str Any) false) (Num true) (Num true) (Str Any) false
-      (with_x (Str Any), reading (Num true) asked_elements [] 18 (Str Any) (Str Any) (Str Any) false (refl, λ h. ((string, tt), tt)) refl string string, unchanged (Str Any) string)
-      (refl, λ h. ((any_int, tt), tt)) refl any_int string,
-  ((λ lt. (any_int, tt)), tt),
+      (with_x (Str Any), reading (Num true) asked_elements [] 18 (Str Any) (Str Any) (Str Any) false tt (refl, (λ h. ((string.0, tt), tt)), λ h. flat refl) refl string string, unchanged (Str Any) string)
+      tt refl (refl, (λ h. ((any_int.0, tt), tt)), λ h. flat refl) refl any_int string,
+  ((λ lt. (any_int.0, tt)), tt),
 )
 
 asking_body : IsClosedIn whole objects asked 0 asking
@@ -398,21 +426,24 @@ still_unbound = to Nothing Nothing true true nothing (λ h. h)
 begins_unbound : IsBelow [] (0 ∷ 1 ∷ []) 2 begin_guarding unbound_x
 begins_unbound = both begin_guarding unbound_x (arguments, λ h. h) (nothing, λ h. h)
 
+unbound_maybe : IsBelow [] (0 ∷ 1 ∷ []) 2 unbound_x maybe × Unit {0}
+unbound_maybe = (to Nothing (Str Any) true true (least (Str Any), λ h. flat refl) (λ h. h), tt)
+
 begins_maybe : IsBelow [] (0 ∷ 1 ∷ []) 2 begin_guarding maybe
-begins_maybe = both begin_guarding maybe (arguments, λ h. h) (least (Str Any), λ h. h)
+begins_maybe = both begin_guarding maybe (arguments, λ h. h) ((least (Str Any), λ h. flat refl), λ h. h)
 
 first_argument : Gives whole objects guarded 2 catching (Apply 6 true (row.Index (Some (pos 0))) (more (Local 4 0) (more (word 5 (pos 0)) none))) begin_guarding (Str Any) (With unbound_x)
 first_argument =
     operation (Num true) guarded_elements catching 6 (row.Index (Some (pos 0))) (more (Local 4 0) (more (word 5 (pos 0)) none)) (Lst 0 false ∷ Num false ∷ []) begin_guarding (Str Any) (Str Any) Nothing true (
       With unbound_x,
-      ((λ h lt. absurd (omega (arith, lt))), (Lst 0 false, (refl, λ h. ((arguments, tt), tt)), refl, λ h. (arguments, begins_unbound))),
+      ((λ h lt. absurd (omega (arith, lt))), ((begins_maybe, tt), (Lst 0 false, (refl, (λ h. ((arguments.0, tt), tt)), λ h. flat refl), refl, λ h. (arguments, begins_unbound)))),
       (
         With unbound_x,
-        operation (Num true) guarded_elements catching 5 (row.Word (pos 0)) none [] unbound_x (Num false) (Num false) Nothing true still_unbound (refl, λ h. ((int, tt), tt)) refl int nothing,
+        operation (Num true) guarded_elements catching 5 (row.Word (pos 0)) none [] unbound_x (Num false) (Num false) Nothing true still_unbound unbound_maybe refl (refl, (λ h. ((int.0, tt), tt)), λ h. flat refl) refl int nothing,
         still_unbound,
       ),
     )
-    (refl, λ h. ((least (Str Any), (string, tt)), tt)) refl string nothing
+    unbound_maybe refl (refl, (λ h. ((least (Str Any), (string.0, tt)), tt)), λ h. flat refl) refl string nothing
 
 -- the handler is above the environments before and behind the statement of the body
 in_body : LeavesAll whole objects guarded 0 2 catching (line (set_x 3 (Apply 6 true (row.Index (Some (pos 0))) (more (Local 4 0) (more (word 5 (pos 0)) none))) 7) done) begin_guarding
@@ -426,7 +457,7 @@ in_body = (
     first_argument,
     (
       with_x (Str Any),
-      ((refl, λ h. ((string, tt), tt)), λ h. (bound_to Nothing (Str Any) (Str Any) true false string, (bound_to Nothing (Str Any) (Str Any) true true string, tt))),
+      (unbound_maybe, (refl, (λ h. ((string.0, tt), tt)), λ h. flat refl), λ h. (bound_to Nothing (Str Any) (Str Any) true false string)),
       unchanged (Str Any) string,
     ),
   ),
@@ -441,8 +472,8 @@ in_clause = (
   (
     Str One,
     With maybe,
-    operation (Num true) guarded_elements [] 10 (row.Str (48 ∷ [])) none [] maybe (Str One) (Str One) (Str Any) true same_maybe (refl, λ h. ((char, tt), tt)) refl char string,
-    (with_x (Str Any), ((refl, λ h. ((char, tt), tt)), λ h. (bound_to (Str Any) (Str One) (Str Any) true false (str One Any tt), tt)), unchanged (Str Any) string),
+    operation (Num true) guarded_elements [] 10 (row.Str (48 ∷ [])) none [] maybe (Str One) (Str One) (Str Any) true same_maybe tt refl (refl, (λ h. ((char.0, tt), tt)), λ h. flat refl) refl char string,
+    (with_x (Str Any), (tt, (refl, (λ h. ((char.0, tt), tt)), λ h. flat refl), λ h. bound_to (Str Any) (Str One) (Str Any) true false (str One Any tt, λ h. flat refl)), unchanged (Str Any) string),
   ),
   (tt, unchanged (Str Any) string),
 )
@@ -453,9 +484,9 @@ guarding_last = (
   Num true,
   with_x (Str Any),
   operation (Num true) guarded_elements [] 13 row.ToInt (more (x 12) none) (Str Any ∷ []) (env (Str Any) false) (Num true) (Num true) (Str Any) false
-      (with_x (Str Any), reading (Num true) guarded_elements [] 12 (Str Any) (Str Any) (Str Any) false (refl, λ h. ((string, tt), tt)) refl string string, unchanged (Str Any) string)
-      (refl, λ h. ((any_int, tt), tt)) refl any_int string,
-  ((λ lt. (any_int, tt)), tt),
+      (with_x (Str Any), reading (Num true) guarded_elements [] 12 (Str Any) (Str Any) (Str Any) false tt (refl, (λ h. ((string.0, tt), tt)), λ h. flat refl) refl string string, unchanged (Str Any) string)
+      tt refl (refl, (λ h. ((any_int.0, tt), tt)), λ h. flat refl) refl any_int string,
+  ((λ lt. (any_int.0, tt)), tt),
 )
 
 guarding_body : IsClosedIn whole objects guarded 0 guarding
@@ -487,11 +518,7 @@ guarding_is_closed = record {
 
 -- ---- what is not closed
 
-abbrev is_not : RowOp → Bool
-is_not row.Not = true
-is_not other = false
-
-no_string : (y : Shape) → Under (Num false) y → Under y (Str Any) → ⊥
+no_string : (y : Shape) → Below [] (0 ∷ 1 ∷ []) (Num false) y → Below [] (0 ∷ 1 ∷ []) y (Str Any) → ⊥
 no_string y (num c d l) h = elim h [ ]
 no_string y (clash z o q l m) h = elim h [ ]
 
@@ -502,17 +529,17 @@ led e (With g) P h holds = (g, holds)
 
 -- the literal gives a word, and leads on
 literal_gives : (e : Environment) (y : Shape) (q : Point) → Gives whole objects mistaken 2 [] (word 2 (pos 1)) e y q → (g : Environment) × Under (Num false) y × LeadsTo whole objects mistaken 2 g q
-literal_gives e y q (xs, inl h) = given xs h
+literal_gives e y q (xs, inl h) = given xs h.1
   where
-    acted : (g : Environment) → Acts whole objects mistaken 2 2 true (row.Word (pos 1)) [] g y q → (d : Environment) × Under (Num false) y × LeadsTo whole objects mistaken 2 d q
-    acted g (z, does, is, on) = let next = on (ap is_nothing is) in (g, subst (λ u. Under u y) is next.0, next.1)
+    acted : (g : Environment) → Acts whole objects mistaken 2 [] 2 true (row.Word (pos 1)) [] g y q → (d : Environment) × Under (Num false) y × LeadsTo whole objects mistaken 2 d q
+    acted g (seen, (z, does, is, on)) = let next = on (ap is_nothing is) in (g, subst (λ u. Under u y) is next.0, next.1)
 
-    given : (xs : List Shape) → AppliedAt whole objects mistaken 2 2 true (row.Word (pos 1)) (GivesAll whole objects mistaken 2 [] none) e xs y q → (g : Environment) × Under (Num false) y × LeadsTo whole objects mistaken 2 g q
+    given : (xs : List Shape) → AppliedAt whole objects mistaken 2 [] 2 true (row.Word (pos 1)) (GivesAll whole objects mistaken 2 [] none) e xs y q → (g : Environment) × Under (Num false) y × LeadsTo whole objects mistaken 2 g q
     given [] (behind, leads, at_behind) =
-        let r = led e behind (λ g. Acts whole objects mistaken 2 2 true (row.Word (pos 1)) [] g y q) leads at_behind in
+        let r = led e behind (λ g. Acts whole objects mistaken 2 [] 2 true (row.Word (pos 1)) [] g y q) leads at_behind in
         acted r.0 r.1
     given (w ∷ xs) (behind, leads, at_behind) = absurd leads
-literal_gives e y q (xs, inr h) = absurd (false≢true (ap is_not h.0))
+literal_gives e y q (xs, inr h) = absurd (false≢true h.0)
 
 mistaken_body : IsClosedIn whole objects mistaken 0 returning → ⊥
 mistaken_body closed =
@@ -520,7 +547,7 @@ mistaken_body closed =
     let leaves = body.2 in
     let gives = literal_gives (before whole objects mistaken 0 returning) leaves.0 leaves.1 leaves.2 in
     let returns = led gives.0 leaves.1 (λ g. Returns whole objects mistaken 0 2 leaves.0 × GoesTo whole objects mistaken 0 2 g Away) gives.2 leaves.3 in
-    no_string leaves.0 gives.1 (returns.1.0 (omega arith)).0
+    no_string leaves.0 gives.1.0 (returns.1.0 (omega arith)).0
 
 pub mistaken_is_not_closed : IsClosed whole objects mistaken (returning ∷ []) → ⊥
 mistaken_is_not_closed closed = mistaken_body (closed.functions_are 0)

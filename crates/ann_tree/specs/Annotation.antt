@@ -4,6 +4,7 @@ use Rattle.rpy_tree.specs.declared.program.ClassInfo.{ClassInfo}
 use Rattle.ann_lattice.specs.Shape.{Shape, Nothing, Inst}
 use Rattle.ann_lattice.specs.Order.{Below}
 use Rattle.ann_lattice.specs.Join.{is_clash}
+use Rattle.ann_lattice.specs.Laws.{IsFormed}
 use Rattle.ann_lattice.specs.Assign.{Assignment, at}
 use Rattle.ann_rules.specs.Program.{Places}
 
@@ -89,11 +90,16 @@ abbrev pub handlers : Point → Option ℕ → List ℕ → List Handler
 handlers begin local [] = []
 handlers begin local (c ∷ cs) = record { point = begin; bound = with_class local c } ∷ handlers begin local cs
 
--- ---- the order, of n locals
+-- ---- the order
 
+-- an element passes to one that is above it, and that is well-formed where it is so itself
+abbrev pub Passes : List ClassInfo → List ℕ → Shape → Shape → Type 0
+Passes k same x y = Below k same x y × (IsFormed x → IsFormed y)
+
+-- of n locals
 module _ (k : List ClassInfo) (same : List ℕ) (n : ℕ) where
   abbrev pub IsBelow : Environment → Environment → Type 0
-  IsBelow e g = (i : ℕ) → i < n → Below k same (e.element i) (g.element i) × (e.unbound i ≡ true → g.unbound i ≡ true)
+  IsBelow e g = (i : ℕ) → i < n → Passes k same (e.element i) (g.element i) × (e.unbound i ≡ true → g.unbound i ≡ true)
 
   -- the point is reached, and above the environment
   abbrev pub Leads : Environment → Point → Type 0

@@ -6,8 +6,8 @@ use Rattle.ann_lattice.specs.Assign.{at, mark}
 use Rattle.ann_rules.specs.Program.{Whole}
 use Rattle.ann_rules.specs.Rules.{entry_needs, site_needs, numbered}
 use Rattle.ann_rules.specs.Hold.{AllHold}
-use Rattle.flow_space.specs.Tree.{Function}
-use Rattle.ann_tree.specs.Annotation.{Annotation, Environment, Point, Away, at_start, At, IsFree}
+use Rattle.flow_trees.specs.Tree.{Function}
+use Rattle.ann_tree.specs.Annotation.{Annotation, Environment, Point, Away, Towards, at_start, At, IsFree}
 use Rattle.ann_tree.specs.Leaves.{Returns, LeavesAll}
 
 -- how many locals are bound when a function starts
@@ -24,7 +24,7 @@ module _ (p : Whole) (sites : List (Option Object)) (a : Annotation) where
   IsClosedIn f function =
       mark a.parts (p.places.reached f) ≡ true
       → (end : Point)
-      × LeavesAll p sites a f function.locals [] function.body (before f function) (record { next = end; broken = Away; continued = Away; returned = Away })
+      × LeavesAll p sites a f function.locals [] function.body (before f function) (record { next = end; broken = Towards end; continued = Towards end; returned = Away })
       × At end (λ g. Returns p sites a f function.locals NoneOnly)
 
   abbrev pub IfFunction : ℕ → Option Function → Type 0

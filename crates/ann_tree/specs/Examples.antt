@@ -8,7 +8,7 @@ use Rattle.rpy_meaning.specs.declared.row.RowOp.TheVariants as row
 use Rattle.ann_lattice.specs.Shape.{Any, One, OrNone, Shape, Nothing, NoneOnly, Truth, Num, Str, Lst}
 use Rattle.ann_lattice.specs.Assign.{Assignment}
 use Rattle.ann_rules.specs.Program.{Places, Whole}
-use Rattle.flow_space.specs.Tree.{Expr, Local, Apply, none, more, Name, no_targets, more_targets, Stmt, Return, Assign, Augment, If, While, Try, Block, done, line, no_clauses, clause, Function}
+use Rattle.flow_trees.specs.Tree.{Expr, Local, Apply, none, more, Name, no_targets, more_targets, Stmt, Return, Assign, Augment, If, While, Try, Block, done, line, no_clauses, clause, Function}
 use Rattle.ann_tree.specs.Annotation.{Annotation}
 
 -- ---- the entry point has one parameter, and the program besides its list of arguments one site

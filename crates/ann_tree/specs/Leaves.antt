@@ -6,7 +6,7 @@ use Rattle.rpy_meaning.specs.declared.row.RowOp.TheVariants as row
 use Rattle.ann_lattice.specs.Shape.{Shape}
 use Rattle.ann_lattice.specs.Assign.{Up, Holds}
 use Rattle.ann_rules.specs.Program.{Whole}
-use Rattle.flow_space.specs.Tree.{Expr, Target, Name, Attribute, Item, Parts, Targets, no_targets, more_targets, Stmt, Pass, Break, Continue, Return, Do, Assign, Augment, If, While, For, Try, Finally, Block, done, line, Clauses, no_clauses, clause}
+use Rattle.flow_trees.specs.Tree.{Expr, Target, Name, Attribute, Item, Parts, Targets, no_targets, more_targets, Stmt, Pass, Break, Continue, Return, Do, Assign, Augment, If, While, For, Try, Finally, Block, done, line, Clauses, no_clauses, clause}
 use Rattle.ann_tree.specs.Annotation.{Annotation, Environment, Point, Goal, Towards, LeavesFor, bind, At, Exits, within, Handler, handlers}
 use Rattle.ann_tree.specs.Gives as part
 use Rattle.ann_tree.specs.Gives.{step_of}
@@ -25,8 +25,8 @@ module _ (p : Whole) (sites : List (Option Object)) (a : Annotation) (f n : ℕ)
   abbrev pub Gives : List Handler → Expr → Environment → Shape → Point → Type 0
   Gives hs l e x q = part.Gives p sites a n hs l e x q
 
-  abbrev pub Acts : ℕ → RowOp → List Shape → Environment → Shape → Point → Type 0
-  Acts node o xs e x q = part.Acts p sites a n node false o xs e x q
+  abbrev pub Acts : List Handler → ℕ → RowOp → List Shape → Environment → Shape → Point → Type 0
+  Acts hs node o xs e x q = part.Acts p sites a n hs node false o xs e x q
 
   -- the result is above what is returned
   abbrev pub Returns : Shape → Type 0
@@ -42,26 +42,26 @@ module _ (p : Whole) (sites : List (Option Object)) (a : Annotation) (f n : ℕ)
   Augments hs node (Name at i) o r e q =
       (old y new : Shape) × (read second made : Point)
       × part.Marks p sites a n at i e
-      × Acts at row.Copy (e.element i ∷ []) e old read
+      × Acts hs at row.Copy (e.element i ∷ []) e old read
       × At read (λ g. Gives hs r g y second)
-      × At second (λ g. Acts node o (old ∷ y ∷ []) g new made)
-      × At made (λ g. part.Stores p sites a n hs at row.Copy (new ∷ []) (bind g i (a.element at)) q)
+      × At second (λ g. Acts hs node o (old ∷ y ∷ []) g new made)
+      × At made (λ g. part.Stores p sites a n hs at row.Copy (new ∷ []) g (bind g i (a.element at)) q)
   Augments hs node (Attribute at l name) o r e q =
       (x old y new : Shape) × (first read second made : Point)
       × Gives hs l e x first
-      × At first (λ g. Acts at (row.Attr name) (x ∷ []) g old read)
+      × At first (λ g. Acts hs at (row.Attr name) (x ∷ []) g old read)
       × At read (λ g. Gives hs r g y second)
-      × At second (λ g. Acts node o (old ∷ y ∷ []) g new made)
-      × At made (λ g. part.Stores p sites a n hs at (row.StoreAttr name) (x ∷ new ∷ []) g q)
+      × At second (λ g. Acts hs node o (old ∷ y ∷ []) g new made)
+      × At made (λ g. part.Stores p sites a n hs at (row.StoreAttr name) (x ∷ new ∷ []) g g q)
   Augments hs node (Item at l i) o r e q =
       (x z old y new : Shape) × (first place read second made : Point)
       × Gives hs l e x first
       × At first (λ g. Gives hs i g z place)
-      × At place (λ g. Acts at (row.Index None) (x ∷ z ∷ []) g old read)
+      × At place (λ g. Acts hs at (row.Index None) (x ∷ z ∷ []) g old read)
       × At read (λ g. Gives hs r g y second)
-      × At second (λ g. Acts node o (old ∷ y ∷ []) g new made)
-      × At made (λ g. part.Stores p sites a n hs at row.StoreIndex (x ∷ z ∷ new ∷ []) g q)
-  Augments hs node (Parts at parts) o r e q = part.Stores p sites a n hs at row.Copy [] e q
+      × At second (λ g. Acts hs node o (old ∷ y ∷ []) g new made)
+      × At made (λ g. part.Stores p sites a n hs at row.StoreIndex (x ∷ z ∷ new ∷ []) g g q)
+  Augments hs node (Parts at parts) o r e q = part.Stores p sites a n hs at row.Copy [] e e q
 
   abbrev mutual
     -- in environment e the statement leads on to t
@@ -83,27 +83,28 @@ module _ (p : Whole) (sites : List (Option Object)) (a : Annotation) (f n : ℕ)
         (head begin : Point)
         × LeadsTo e head
         × At head (λ h. part.Test p sites a n hs node l h begin t.next)
-        × At begin (λ g. LeavesAll hs body g (within t head t.next))
+        × At begin (λ g. SeenBy hs g × LeavesAll hs body g (within t head t.next))
     Leaves hs (For node target subject body) e t =
         (over place : Shape) × (head begin next : Point)
         × part.Begins p sites a n hs node subject e over place head
-        × part.Walks p sites a n node (step_of subject) (part.Binds p sites a n hs target) over place head begin next t.next
+        × part.Walks p sites a n hs node (step_of subject) (part.Binds p sites a n hs target) over place head begin next t.next
         × At begin (λ g. LeavesAll hs body g (within t next t.next))
-    -- the clauses take the exceptions of the body, and so do the handlers around
+    -- the clauses take the exceptions of the body, and so do the handlers around, but nothing goes past a bare clause
     Leaves hs (Try node body clauses other) e t =
-        (own : List Handler) × (after : Point)
-        × Handles hs clauses own t
-        × LeavesAll (own ++ hs) body e (record t { next = after })
+        (all : List Handler) × (after : Point)
+        × Handles hs clauses all t
+        × LeavesAll all body e (record t { next = after })
         × At after (λ g. LeavesAll hs other g t)
-    -- the last part is passed once for each kind of exit, and behind the pass its exit is left for; the exception is raised again
+    -- the last part takes every exception of the body, and raises it again; it is passed once for each kind of exit, and behind the pass its
+    -- exit is left for
     Leaves hs (Finally node body last) e t =
         (next broken continued returned raised : Point)
-        × LeavesAll (record { point = raised; bound = None } ∷ hs) body e (record { next = next; broken = Towards broken; continued = Towards continued; returned = Towards returned })
+        × LeavesAll (record { point = raised; bound = None } ∷ []) body e (record { next = next; broken = Towards broken; continued = Towards continued; returned = Towards returned })
         × At next (λ g. LeavesAll hs last g t)
         × At broken (λ g. (behind : Point) × LeavesAll hs last g (record t { next = behind }) × At behind (λ h. GoesTo h t.broken))
         × At continued (λ g. (behind : Point) × LeavesAll hs last g (record t { next = behind }) × At behind (λ h. GoesTo h t.continued))
         × At returned (λ g. (behind : Point) × LeavesAll hs last g (record t { next = behind }) × At behind (λ h. GoesTo h t.returned))
-        × At raised (λ g. (behind : Point) × LeavesAll hs last g (record t { next = behind }))
+        × At raised (λ g. (behind : Point) × LeavesAll hs last g (record t { next = behind }) × At behind (λ h. SeenBy hs h))
 
     -- handlers are above the environments before and after each statement
     pub LeavesAll : List Handler → Block → Environment → Exits → Type 0
@@ -114,13 +115,13 @@ module _ (p : Whole) (sites : List (Option Object)) (a : Annotation) (f n : ℕ)
         × Leaves hs s e (record t { next = after })
         × At after (λ g. SeenBy hs g × LeavesAll hs rest g t)
 
-    -- the clauses give these handlers; nothing goes past a bare one
+    -- the clauses give these handlers, with those around
     pub Handles : List Handler → Clauses → List Handler → Exits → Type 0
-    Handles hs no_clauses own t = own ≡ []
-    Handles hs (clause None local body rest) own t =
-        (begin : Point) × (own ≡ record { point = begin; bound = None } ∷ []) × At begin (λ g. LeavesAll hs body g t)
-    Handles hs (clause (Some classes) local body rest) own t =
+    Handles hs no_clauses all t = all ≡ hs
+    Handles hs (clause None local body rest) all t =
+        (begin : Point) × (all ≡ record { point = begin; bound = None } ∷ []) × At begin (λ g. LeavesAll hs body g t)
+    Handles hs (clause (Some classes) local body rest) all t =
         (begin : Point) × (others : List Handler)
-        × (own ≡ handlers begin local classes ++ others)
+        × (all ≡ handlers begin local classes ++ others)
         × At begin (λ g. LeavesAll hs body g t)
         × Handles hs rest others t

@@ -1,5 +1,4 @@
 pub mod Annotation
-pub mod Tells
 pub mod Gives
 pub mod Leaves
 pub mod Closed

@@ -1,3 +1,4 @@
 pub mod GraphText
+pub mod Owners
 pub mod Values
 pub mod Whole

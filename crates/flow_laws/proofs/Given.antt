@@ -9,7 +9,7 @@ use Rattle.flow_graph.specs.declared.graph.Block.{Block}
 use Rattle.flow_graph.specs.declared.graph.Graphs.{Graphs}
 use Rattle.flow_graph.specs.declared.graph.Op.{Op}
 use Rattle.flow_graph.specs.Values.{item, value_of, values_of, values_in, values}
-use Rattle.flow_space.specs.Ops.{Property, OfOps, OfBlocks, InFunction}
+use Rattle.flow_trees.specs.Ops.{Property, OfOps, OfBlocks, InFunction}
 use Rattle.flow_space.specs.Placed.{StandFor}
 use Rattle.flow_space.specs.Trees.{function_of}
 use Rattle.flow_laws.specs.Giving.{Gives}

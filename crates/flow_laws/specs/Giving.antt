@@ -6,7 +6,7 @@ use Rattle.flow_graph.specs.declared.graph.Block.{Block}
 use Rattle.flow_graph.specs.declared.graph.Graph.{Graph}
 use Rattle.flow_graph.specs.declared.graph.Graphs.{Graphs}
 use Rattle.flow_graph.specs.declared.graph.Op.{Op}
-use Rattle.flow_space.specs.Ops.{InFunction}
+use Rattle.flow_trees.specs.Ops.{InFunction}
 use Rattle.flow_space.specs.Trees.{function_of}
 
 -- The variable is the result of an operation in the graph of a function, which gives the value of the node, and is what a part of the

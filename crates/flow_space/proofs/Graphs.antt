@@ -12,6 +12,7 @@ use Rattle.rpy_resolved.specs.declared.tree.Stmt.{Stmt}
 use Rattle.flow_graph.specs.declared.graph.Block.{Block}
 use Rattle.flow_graph.specs.declared.graph.Graph.{Graph}
 use Rattle.flow_graph.specs.declared.graph.Graphs.{Graphs}
+use Rattle.flow_graph.specs.Owners.{HaveOwnVariables}
 use Rattle.flow_meaning.specs.Machine.{block_in}
 use Rattle.flow_stands.specs.Places.{Go, Plain, GiveBack, GiveUp, first, first_and, numbered}
 use Rattle.flow_stands.specs.Stands as stands
@@ -21,8 +22,8 @@ use Rattle.flow_space.specs.declared.statement.Ways.{Ways}
 use Rattle.resolved_meaning.specs.Programs.{value_in}
 use Rattle.resolved_meaning.specs.Trees as bare
 use Rattle.resolved_meaning.specs.Trees.{program_of}
-use Rattle.flow_space.specs.Marks as marks
-use Rattle.flow_space.specs.Ops.{OfBlocks, InBlock, InFunction}
+use Rattle.flow_trees.specs.Marks as marks
+use Rattle.flow_trees.specs.Ops.{OfBlocks, InBlock, InFunction}
 use Rattle.flow_space.specs.Trees.{function_of, block_of}
 use Rattle.flow_space.specs.Placed.{Part, Headed, ShapeAt, MarkedAt, BlockAt, GraphAt, GraphsAt, NodesAt, FlowAt, hands_of}
 use Rattle.flow_space.proofs.Forget.{function_stands}
@@ -45,9 +46,9 @@ pub graph_stands : (program : Resolved) (function : Function) (number : ℕ) (bo
     → Part c4 c5 (MarkedAt end function.locals function.node false (Plain row.None (first_and 1 0 function.locals))) → end ≡ length c4
     → Part c5 c6 (BlockAt (scope_for function.locals hands covers raising) program body begin function.locals (ways_for function.locals end returning))
     → final ≡ slice_set c6 head (numbered base count 0 false (Go (first begin count)))
-    → body ≡ function.body → hands ≡ [] → covers ≡ no_covers → length function.defaults ≤ function.locals
+    → body ≡ function.body → hands ≡ [] → covers ≡ no_covers → length function.defaults ≤ function.locals → HaveOwnVariables final
     → GraphAt program function (record { function = number; blocks = final })
-graph_stands program function number body hands covers old c1 c2 c3 c4 c5 c6 final head base count returning raising never end begin is_old headed p1 at1 n1 p2 at2 n2 p3 at3 n3 p4 at4 p5 last is_body no_hands nothing few =
+graph_stands program function number body hands covers old c1 c2 c3 c4 c5 c6 final head base count returning raising never end begin is_old headed p1 at1 n1 p2 at2 n2 p3 at3 n3 p4 at4 p5 last is_body no_hands nothing few own =
     let n = function.locals in
     let len1 : length c1 ≡ 1 = omega (arith, ap length headed.grows.1, length-append old (headed.grows.0 ∷ []), ap length is_old) in
     let zero_at : head ≡ 0 = headed.at ∙ ap length is_old in
@@ -62,26 +63,30 @@ graph_stands program function number body hands covers old c1 c2 c3 c4 c5 c6 fin
           let k = whole.stands program gs f (λ b le lt. ap (λ g. block_in g b) is) in
           let p = program_of program in
           let few2 : length (map (option_map (value_in program.sites)) function.defaults) ≤ n = let l = length-map function.defaults (option_map (value_in program.sites)) in omega (arith, l, few) in
-          let b1 = k.1.1 refl in
-          let b2 = subst (λ ss. marks.HasBlock p gs f n (record { hands = hands_of hands; default = record { to = raising; keep = 0 }; covers = covers; tried = false }) (block_of program.sites ss) begin n (record { norm = end; brk = record { to = end; keep = n }; cont = record { to = end; keep = n }; ret = record { to = returning; keep = 0 } })) is_body b1 in
-          let b3 = subst (λ hs. marks.HasBlock p gs f n (record { hands = hands_of hs; default = record { to = raising; keep = 0 }; covers = covers; tried = false }) (block_of program.sites function.body) begin n (record { norm = end; brk = record { to = end; keep = n }; cont = record { to = end; keep = n }; ret = record { to = returning; keep = 0 } })) no_hands b2 in
-          let b4 = subst (λ cs. marks.HasBlock p gs f n (record { hands = []; default = record { to = raising; keep = 0 }; covers = cs; tried = false }) (block_of program.sites function.body) begin n (record { norm = end; brk = record { to = end; keep = n }; cont = record { to = end; keep = n }; ret = record { to = returning; keep = 0 } })) nothing b3 in
-          let b5 = subst (λ j. marks.HasBlock p gs f n (record { hands = []; default = record { to = j; keep = 0 }; covers = no_covers; tried = false }) (block_of program.sites function.body) begin n (record { norm = end; brk = record { to = end; keep = n }; cont = record { to = end; keep = n }; ret = record { to = returning; keep = 0 } })) two_at b4 in
-          let b6 = subst (λ j. marks.HasBlock p gs f n stands.no_try (block_of program.sites function.body) begin n (record { norm = j; brk = record { to = j; keep = n }; cont = record { to = j; keep = n }; ret = record { to = returning; keep = 0 } })) four_at b5 in
-          let b7 = subst (λ j. marks.HasBlock p gs f n stands.no_try (block_of program.sites function.body) begin n (record { norm = 4; brk = record { to = 4; keep = n }; cont = record { to = 4; keep = n }; ret = record { to = j; keep = 0 } })) one_at b6 in (
+          let lo_is : k.2.0 ≡ 5 = let a = k.2.1.2.1.1 in omega (arith, a, four_at) in
+          let b1 = k.2.2 refl in
+          let b2 = subst (λ ss. marks.HasBlock p gs f n (record { hands = hands_of hands; default = record { to = raising; keep = 0 }; covers = covers; tried = false }) (block_of program.sites ss) begin n (record { norm = end; brk = record { to = end; keep = n }; cont = record { to = end; keep = n }; ret = record { to = returning; keep = 0 } }) k.2.0 (length final)) is_body b1 in
+          let b3 = subst (λ hs. marks.HasBlock p gs f n (record { hands = hands_of hs; default = record { to = raising; keep = 0 }; covers = covers; tried = false }) (block_of program.sites function.body) begin n (record { norm = end; brk = record { to = end; keep = n }; cont = record { to = end; keep = n }; ret = record { to = returning; keep = 0 } }) k.2.0 (length final)) no_hands b2 in
+          let b4 = subst (λ cs. marks.HasBlock p gs f n (record { hands = []; default = record { to = raising; keep = 0 }; covers = cs; tried = false }) (block_of program.sites function.body) begin n (record { norm = end; brk = record { to = end; keep = n }; cont = record { to = end; keep = n }; ret = record { to = returning; keep = 0 } }) k.2.0 (length final)) nothing b3 in
+          let b5 = subst (λ j. marks.HasBlock p gs f n (record { hands = []; default = record { to = j; keep = 0 }; covers = no_covers; tried = false }) (block_of program.sites function.body) begin n (record { norm = end; brk = record { to = end; keep = n }; cont = record { to = end; keep = n }; ret = record { to = returning; keep = 0 } }) k.2.0 (length final)) two_at b4 in
+          let b6 = subst (λ j. marks.HasBlock p gs f n stands.no_try (block_of program.sites function.body) begin n (record { norm = j; brk = record { to = j; keep = n }; cont = record { to = j; keep = n }; ret = record { to = returning; keep = 0 } }) k.2.0 (length final)) four_at b5 in
+          let b7 = subst (λ j. marks.HasBlock p gs f n stands.no_try (block_of program.sites function.body) begin n (record { norm = 4; brk = record { to = 4; keep = n }; cont = record { to = 4; keep = n }; ret = record { to = j; keep = 0 } }) k.2.0 (length final)) one_at b6 in
+          let b8 = subst (λ l. marks.HasBlock p gs f n stands.no_try (block_of program.sites function.body) begin n (stands.outside n) l (length final)) lo_is b7 in
+          let b9 = subst (λ o. marks.HasBlock p gs f n stands.no_try (block_of program.sites function.body) begin n (stands.outside n) 5 (length (marks.blocks_of o))) (sym is) b8 in (
             begin,
             few2,
-            subst (λ j. (ShapeAt j n (Go (first begin n))).stands program gs f) zero_at k.0,
-            subst (λ j. (ShapeAt j 1 GiveBack).stands program gs f) one_at k.1.0.0.0.0,
-            subst (λ j. (ShapeAt j 1 GiveUp).stands program gs f) two_at k.1.0.0.0.1,
-            subst (λ j. (ShapeAt j 0 (Go (first 3 0))).stands program gs f) three_at k.1.0.0.1,
-            subst (λ j. (MarkedAt j n function.node false (Plain row.None (first_and 1 0 n))).stands program gs f) four_at k.1.0.1,
-            b7,
+            subst (λ j. stands.Is p gs f n j n (Go (first begin n))) zero_at k.1.0,
+            subst (λ j. stands.Is p gs f n j 1 GiveBack) one_at k.2.1.1.1.1.0,
+            subst (λ j. stands.Is p gs f n j 1 GiveUp) two_at k.2.1.1.1.2.0,
+            subst (λ j. stands.Is p gs f n j 0 (Go (first 3 0))) three_at k.2.1.1.2.0,
+            (subst (λ j. (base : ℕ) × (block_in (slice_get gs.graphs f) j ≡ Some (numbered base n function.node false (Plain row.None (first_and 1 0 n))))) four_at k.2.1.2.0, (refl, refl)),
+            b9,
           );
       only = subst (λ bs. OfBlocks (λ x g w. InFunction x g w (function_of program.sites function)) bs) (sym is)
           (blocks_map (λ x g w. either (either (either (either (λ a. absurd a) (λ a. absurd a)) (λ a. absurd a)) (λ a. inl (a.0, a.1)))
           (λ a. inr (subst (λ ss. InBlock x g w (block_of program.sites ss)) is_body a)))
           whole.grows.0 (whole.only program));
+      own = own;
     }
 
 get_before : {A : Type 0} (a more : List A) (i : ℕ) → i < length a → slice_get (a ++ more) i ≡ slice_get a i
@@ -89,7 +94,7 @@ get_before [] more i lt = absurd (omega arith)
 get_before {A = A} (x ∷ a) more zero lt = refl
 get_before {A = A} (x ∷ a) more (suc i) lt = get_before a more i (omega arith)
 
-get_last : {A : Type 0} (a : List A) (x y : A) (i : ℕ) → slice_get (a ++ x ∷ []) i ≡ Some y → (i < length a × (slice_get a i ≡ Some y)) ⊎ ((i ≡ length a) × (x ≡ y))
+pub get_last : {A : Type 0} (a : List A) (x y : A) (i : ℕ) → slice_get (a ++ x ∷ []) i ≡ Some y → (i < length a × (slice_get a i ≡ Some y)) ⊎ ((i ≡ length a) × (x ≡ y))
 get_last {A = A} [] x y zero e = let z : x ≡ y = cc in inr (refl, z)
 get_last {A = A} [] x y (suc i) e = absurd (cc e)
 get_last {A = A} (w ∷ a) x y zero e = inl (omega arith, e)
@@ -130,6 +135,10 @@ only_by program gs f graph functions len all z (Some function) e = (function, e,
 only_by program gs f graph functions len all z None e =
     absurd (let lt = slice_get_within gs.graphs f graph z in let y = slice_get-get_or functions f (record { node = 0; name = []; defaults = []; takes_more = false; locals = 0; body = [] }) (omega (arith, lt, len)) in cc)
 
+own_by : (program : Resolved) (gs : Graphs) (f : ℕ) (graph : Graph) (functions : List Function) → GraphsAt program functions gs.graphs → slice_get gs.graphs f ≡ Some graph
+    → (function : Function) → slice_get functions f ≡ Some function → HaveOwnVariables graph.blocks
+own_by program gs f graph functions all z function e = (all f function graph e z).own
+
 get_map : {A B : Type 0} (g : A → B) (xs : List A) (i : ℕ) → slice_get (map g xs) i ≡ option_map g (slice_get xs i)
 get_map {A = A} {B = B} g [] i = refl
 get_map {A = A} {B = B} g (x ∷ xs) zero = refl
@@ -141,6 +150,9 @@ all_stand program gs len all = record {
       subst (λ o. marks.IfFunction (program_of program) gs f o) (sym (get_map (function_of program.sites) program.functions f))
       (stand_by program gs f program.functions len all (slice_get program.functions f) refl);
   only = λ f graph z. only_by program gs f graph program.functions len all z (slice_get program.functions f) refl;
+  own = λ f graph z.
+      let of = only_by program gs f graph program.functions len all z (slice_get program.functions f) refl in
+      own_by program gs f graph program.functions all z of.0 of.1;
 }
 
 forget_by : (program : Resolved) (gs : Graphs) (f : ℕ) (o : Option Function) → marks.IfFunction (program_of program) gs f (option_map (function_of program.sites) o)

@@ -1,6 +1,6 @@
 -- What a pattern of a slice says of it, and results.
-use Rattle.std.proofs.Common.{◌≡◌, ℕ, ◌<◌, ◌≤◌, List, [], ◌∷◌, length, get_or, drop, take, ◌-◌, Option, Some, None, refl, sym, ap, ◌∙◌, arith}
-use Rattle.std.specs.Prelude.{IfSome}
+use Rattle.std.proofs.Common.{◌≡◌, Bool, ℕ, ◌<◌, ◌≤◌, List, [], ◌∷◌, length, get_or, drop, take, ◌-◌, refl, sym, ap, ◌∙◌, arith}
+use Rattle.std.specs.Prelude.{◌||◌, ◌&&◌}
 
 pub one_item : {A : Type 0} (xs : List A) (a : A) → 1 ≤ length xs → length xs < 2 → a ≡ get_or xs 0 a → xs ≡ a ∷ []
 one_item {A = A} [] a le lt e = absurd (omega arith)
@@ -38,6 +38,8 @@ pub none_of : {A : Type 0} (xs : List A) → length xs < 1 → xs ≡ []
 none_of [] lt = refl
 none_of (x ∷ xs) lt = absurd (omega arith)
 
-pub some_map : {A : Type 0} {P Q : A → Type 0} (result : Option A) → ((x : A) → P x → Q x) → IfSome result P → IfSome result Q
-some_map None g h = h
-some_map (Some x) g h = g x h
+pub both_are : {a b c d : Bool} → a ≡ c → b ≡ d → (a && b) ≡ (c && d)
+both_are x y = λ i. x i && y i
+
+pub either_is : {a b c d : Bool} → a ≡ c → b ≡ d → (a || b) ≡ (c || d)
+either_is x y = λ i. x i || y i

@@ -6,7 +6,7 @@ use Rattle.rpy_resolved.specs.declared.tree.Clause.{Clause}
 use Rattle.rpy_resolved.specs.declared.tree.Resolved.{Resolved}
 use Rattle.resolved_meaning.specs.Trees as bare
 use Rattle.resolved_meaning.specs.Trees.{program_of}
-use Rattle.flow_space.specs.Tree.{plain_clauses}
+use Rattle.flow_trees.specs.Tree.{plain_clauses}
 use Rattle.flow_space.specs.Trees.{clauses_of}
 use Rattle.flow_space.proofs.Plain.{clauses_same}
 

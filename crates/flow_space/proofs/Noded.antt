@@ -24,8 +24,8 @@ use Rattle.rpy_tree.specs.declared.program.Site.{Site}
 use Rattle.resolved_meaning.specs.Programs.{value_in}
 use Rattle.resolved_meaning.specs.Trees.{heads}
 use Rattle.flow_stands.specs.Stands.{count}
-use Rattle.flow_space.specs.Tree as tree
-use Rattle.flow_space.specs.Tree.{plain_exprs, plain_targets}
+use Rattle.flow_trees.specs.Tree as tree
+use Rattle.flow_trees.specs.Tree.{plain_exprs, plain_targets}
 use Rattle.flow_space.specs.Trees.{Head, expr_step, subject_step, target_step, expr_of, exprs_of, pairs_of, subject_of, target_of, targets_of, condition_of, stmt_step, clause_step, stmt_of, block_of, clause_of, clauses_of}
 
 module _ (sites : List Site) where
@@ -40,7 +40,7 @@ module _ (sites : List Site) where
   pub local_is : (n : ℕ) (i : ℕ) → expr_of sites (e.Local n i) ≡ tree.Local n i
   local_is n i = ap (expr_of sites) (sym (views.rolls-Local n i)) ∙ code.fold-roll-Expr tree.Expr tree.Subject tree.Target (expr_step sites) (subject_step sites) (target_step sites) (Expr-F.Local n i)
 
-  pub constant_is : (n : ℕ) (a : Const) → expr_of sites (e.Constant n a) ≡ tree.Constant n (value_in sites a)
+  pub constant_is : (n : ℕ) (a : Const) → expr_of sites (e.Constant n a) ≡ tree.Constant n a (value_in sites a)
   constant_is n a = ap (expr_of sites) (sym (views.rolls-Constant n a)) ∙ code.fold-roll-Expr tree.Expr tree.Subject tree.Target (expr_step sites) (subject_step sites) (target_step sites) (Expr-F.Constant n a)
 
   pub apply_is : (n : ℕ) (v : Bool) (o : RowOp) (es : List Expr) → expr_of sites (e.Apply n v o es) ≡ tree.Apply n v o (exprs_of sites es)

@@ -4,13 +4,14 @@ use Rattle.std.specs.Prelude.{slice_get, slice_set, IfOk, OnOk}
 use Rattle.std.proofs.Common.{Result, Ok, Err}
 use Rattle.rpy_base.specs.declared.fault.NoMem.{NoMem}
 use Rattle.std.proofs.Math.Seq.{set-append_seam}
+use Rattle.std.proofs.lemmas.Option.{slice_get_within}
 use Rattle.rpy_resolved.specs.declared.tree.Resolved.{Resolved}
 use Rattle.flow_graph.specs.declared.graph.Block.{Block}
 use Rattle.flow_graph.specs.declared.graph.Graphs.{Graphs}
 use Rattle.flow_graph.specs.declared.graph.Link.{Link}
 use Rattle.flow_graph.specs.declared.graph.Op.{Op}
 use Rattle.rpy_meaning.specs.declared.row.RowOp.{RowOp}
-use Rattle.flow_space.specs.Ops.{Property, OfOps, OfBlocks, IsOp, InShape, Helps}
+use Rattle.flow_trees.specs.Ops.{Property, OfOps, OfBlocks, IsOp, InShape, Helps}
 use Rattle.flow_stands.specs.Places.{Shape, Go, Fork, Does, Plain, GiveBack, GiveUp, range, numbered, link, links, hand_jumps, stored_if_any, first}
 use Rattle.flow_space.specs.declared.code.Hand.{Hand}
 use Rattle.flow_space.specs.Placed.{At, Part, Headed, ShapeAt, MarkedAt, aim_of, hands_of}
@@ -61,29 +62,31 @@ shape_ops base m node value GiveUp = tt
 
 -- ---- parts
 
-pub part_map : {old new : List Block} {P Q : At} → ((r : Resolved) (gs : Graphs) (f : ℕ) → P.stands r gs f → Q.stands r gs f) → ((r : Resolved) (x : ℕ) (g : Bool) (w : RowOp) → P.ops r x g w → Q.ops r x g w) → Part old new P → Part old new Q
-part_map g ops x = record { grows = x.grows; stands = λ r gs f h. g r gs f (x.stands r gs f h); only = λ r. blocks_map (ops r) x.grows.0 (x.only r) }
+pub part_map : {old new : List Block} {P Q : At} → ((r : Resolved) (gs : Graphs) (f lo hi : ℕ) → P.stands r gs f lo hi → Q.stands r gs f lo hi) → ((r : Resolved) (x : ℕ) (g : Bool) (w : RowOp) → P.ops r x g w → Q.ops r x g w) → Part old new P → Part old new Q
+part_map {old} {new} g ops x = record { grows = x.grows; stands = λ r gs f h. g r gs f (length old) (length new) (x.stands r gs f h); only = λ r. blocks_map (ops r) x.grows.0 (x.only r) }
 
 -- one block more
 pub part_marked : (old new : List Block) (base node : ℕ) (value : Bool) (b m : ℕ) (shape : Shape) → b ≡ length old → new ≡ old ++ numbered base m node value shape ∷ [] → Part old new (MarkedAt b m node value shape)
 part_marked old new base node value b m shape at e =
     let block = numbered base m node value shape in
+    let longer = length-append old (block ∷ []) in
+    let len = ap length e in
     record {
       grows = (block ∷ [], e);
       stands = λ r gs f h.
-          let lt : b < length new = omega (arith, ap length e, length-append old (block ∷ []), at) in
-          (base, h b (omega (arith, at)) lt ∙ ap (λ l. slice_get l b) e ∙ ap (slice_get (old ++ block ∷ [])) at ∙ get_seam old block []);
+          let lt : b < length new = omega (arith, len, longer, at) in
+          ((base, h b (omega (arith, at)) lt ∙ ap (λ l. slice_get l b) e ∙ ap (slice_get (old ++ block ∷ [])) at ∙ get_seam old block []), (sym at, omega (arith, len, longer, at)));
       only = λ r. (shape_ops base m node value shape, tt);
     }
 
 -- one without an operation
 pub part_push : (old new : List Block) (base node : ℕ) (value : Bool) (b m : ℕ) (shape : Shape) → ((x : ℕ) (g : Bool) (w : RowOp) → InShape x g w node value shape → ⊥) → b ≡ length old → new ≡ old ++ numbered base m node value shape ∷ []
     → Part old new (ShapeAt b m shape)
-part_push old new base node value b m shape none at e = part_map (λ r gs f h. (h.0, node, value, h.1)) (λ r x g w h. none x g w h) (part_marked old new base node value b m shape at e)
+part_push old new base node value b m shape none at e = part_map (λ r gs f lo hi h. ((h.0.0, node, value, h.0.1), h.1)) (λ r x g w h. none x g w h) (part_marked old new base node value b m shape at e)
 
--- one part after another
+-- one part after another, which share out the blocks
 abbrev pub Both : At → At → At
-Both P Q = record { stands = λ r gs f. P.stands r gs f × Q.stands r gs f; ops = λ r x g w. P.ops r x g w ⊎ Q.ops r x g w }
+Both P Q = record { stands = λ r gs f lo hi. (mid : ℕ) × P.stands r gs f lo mid × Q.stands r gs f mid hi; ops = λ r x g w. P.ops r x g w ⊎ Q.ops r x g w }
 
 pub part_then : {old mid new : List Block} {P Q : At} → Part old mid P → Part mid new Q → Part old new (Both P Q)
 part_then {old} {mid} {new} {P} {Q} x y =
@@ -92,18 +95,19 @@ part_then {old} {mid} {new} {P} {Q} x y =
     record {
       grows = (x.grows.0 ++ y.grows.0, y.grows.1 ∙ ap (λ l. l ++ y.grows.0) x.grows.1 ∙ append_assoc old x.grows.0 y.grows.0);
       stands = λ r gs f h. (
+        length mid,
         x.stands r gs f (λ p le lt. h p le (omega (arith, l2, lt)) ∙ ap (λ l. slice_get l p) y.grows.1 ∙ get_left mid y.grows.0 p lt),
         y.stands r gs f (λ p le lt. h p (omega (arith, l1, le)) lt),
       );
       only = λ r. blocks_append (λ n g w. P.ops r n g w ⊎ Q.ops r n g w) x.grows.0 y.grows.0 (blocks_map (λ x g w h. inl h) x.grows.0 (x.only r)) (blocks_map (λ x g w h. inr h) y.grows.0 (y.only r));
     }
 
-pub part_none : {P : At} (old : List Block) → ((r : Resolved) (gs : Graphs) (f : ℕ) → P.stands r gs f) → Part old old P
-part_none old x = record { grows = ([], sym (append-nil old)); stands = λ r gs f h. x r gs f; only = λ r. tt }
+pub part_none : {P : At} (old : List Block) → ((r : Resolved) (gs : Graphs) (f lo : ℕ) → P.stands r gs f lo lo) → Part old old P
+part_none old x = record { grows = ([], sym (append-nil old)); stands = λ r gs f h. x r gs f (length old); only = λ r. tt }
 
 -- a block that was put first and written last
 abbrev pub Patched : ℕ → ℕ → ℕ → At → At
-Patched k m to P = record { stands = λ r gs f. (ShapeAt k m (Go (first to m))).stands r gs f × P.stands r gs f; ops = P.ops }
+Patched k m to P = record { stands = λ r gs f lo hi. (mid : ℕ) × (ShapeAt k m (Go (first to m))).stands r gs f lo mid × P.stands r gs f mid hi; ops = P.ops }
 
 pub part_patch : {old c1 c2 : List Block} {P : At} (new : List Block) (base m k count to : ℕ) → Headed old c1 m k count → Part c1 c2 P → new ≡ slice_set c2 k (numbered base count 0 false (Go (first to count))) → Part old new (Patched k m to P)
 part_patch {old} {c1} {c2} {P} new base m k count to head y e2 =
@@ -117,17 +121,26 @@ part_patch {old} {c1} {c2} {P} new base m k count to head y e2 =
     let l1 = ap length new_is ∙ length-append old (b ∷ more) in
     let l2 = ap length c2_is ∙ length-append old (x ∷ more) in
     let l3 = ap length e ∙ length-append old (x ∷ []) in
+    let same : length c2 ≡ length new = omega (arith, l1, l2) in
     record {
       grows = (b ∷ more, new_is);
       stands = λ r gs f h. (
-        subst (λ n. (ShapeAt k n (Go (first to n))).stands r gs f) head.count_is
-            (base, 0, false, h k (omega (arith, at)) (omega (arith, l1, at)) ∙ ap (λ l. slice_get l k) new_is ∙ ap (slice_get (old ++ b ∷ more)) at ∙ get_seam old b more),
-        y.stands r gs f (λ p le lt.
+        length c1,
+        (
+            subst (λ n. (ShapeAt k n (Go (first to n))).stands r gs f (length old) (length c1)) head.count_is
+            ((base, 0, false, h k (omega (arith, at)) (omega (arith, l1, at)) ∙ ap (λ l. slice_get l k) new_is ∙ ap (slice_get (old ++ b ∷ more)) at ∙ get_seam old b more), (sym at, omega (arith, l3, at)))
+            ),
+        subst (λ n. P.stands r gs f (length c1) n) same
+            (y.stands r gs f (λ p le lt.
             let past : length old < p = omega (arith, l3, le) in
-            h p (omega (arith, past)) (omega (arith, l1, l2, lt)) ∙ ap (λ l. slice_get l p) new_is ∙ get_other old b x more p past ∙ ap (λ l. slice_get l p) (sym c2_is)),
+            h p (omega (arith, past)) (omega (arith, l1, l2, lt)) ∙ ap (λ l. slice_get l p) new_is ∙ get_other old b x more p past ∙ ap (λ l. slice_get l p) (sym c2_is))),
       );
       only = λ r. (tt, y.only r);
     }
+
+-- a block keeps its place when others are put
+pub kept : {old new : List Block} {P : At} (k : ℕ) (b : Block) → Part old new P → slice_get old k ≡ Some b → slice_get new k ≡ Some b
+kept {old} k b x e = ap (λ l. slice_get l k) x.grows.1 ∙ get_left old x.grows.0 k (slice_get_within old k b e) ∙ e
 
 -- ---- results
 

@@ -16,8 +16,8 @@ use Rattle.rpy_resolved.specs.declared.tree.Function.{Function}
 use Rattle.resolved_meaning.specs.Programs.{value_in}
 use Rattle.resolved_meaning.specs.Trees as bare
 use Rattle.resolved_meaning.specs.Trees.{heads}
-use Rattle.flow_space.specs.Tree as tree
-use Rattle.flow_space.specs.Tree.{plain, plain_exprs, plain_pairs, plain_subject, plain_condition, plain_target, plain_targets, plain_stmt, plain_block, plain_clauses, plain_function}
+use Rattle.flow_trees.specs.Tree as tree
+use Rattle.flow_trees.specs.Tree.{plain, plain_exprs, plain_pairs, plain_subject, plain_condition, plain_target, plain_targets, plain_stmt, plain_block, plain_clauses, plain_function}
 use Rattle.flow_space.specs.Trees as noded
 
 -- ---- maps of maps

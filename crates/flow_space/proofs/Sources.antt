@@ -8,8 +8,8 @@ use Rattle.flow_graph.specs.declared.graph.Graphs.{Graphs}
 use Rattle.flow_space.specs.declared.code.Scope.{Scope}
 use Rattle.flow_space.specs.declared.source.Source.{Source}
 use Rattle.flow_space.specs.declared.source.TupleItem.{TupleItem}
-use Rattle.flow_space.specs.Marks.{Path, Step, HasBind}
-use Rattle.flow_space.specs.Ops.{Helps, InPath}
+use Rattle.flow_trees.specs.Marks.{Path, Step, HasBind}
+use Rattle.flow_trees.specs.Ops.{Helps, InPath}
 use Rattle.flow_space.specs.Trees.{target_of}
 use Rattle.flow_space.specs.Placed.{TakeAt, scope_of, path_of}
 use Rattle.flow_space.proofs.Parts.{either}
@@ -21,12 +21,12 @@ path_push : (path : List TupleItem) (item : TupleItem) → path_of (path ++ item
 path_push [] item = refl
 path_push (next ∷ path) item = ap (λ (l : Path). step_of next ∷ l) (path_push path item)
 
-module _ (sc : Scope) (t : Target) (inner source : Source) (item : TupleItem) (m keep b q : ℕ) (r : Resolved) (gs : Graphs) (f : ℕ) where
+module _ (sc : Scope) (t : Target) (inner source : Source) (item : TupleItem) (m keep b q : ℕ) (r : Resolved) (gs : Graphs) (f lo hi : ℕ) where
   abbrev Binds : Path → ℕ → Type 0
-  Binds path at = HasBind (program_of r) gs f sc.locals (scope_of sc) (target_of r.sites t) path at m keep b q
+  Binds path at = HasBind (program_of r) gs f sc.locals (scope_of sc) (target_of r.sites t) path at m keep b q lo hi
 
   -- an item of what stands there, of so many
-  pub inner_binds : (count place : ℕ) → inner.at ≡ source.at → inner.path ≡ source.path ++ item ∷ [] → item.count ≡ count → item.place ≡ place → (TakeAt sc t inner m keep b q).stands r gs f → Binds (path_of source.path ++ record { node = item.node; count = count; place = place } ∷ []) source.at
+  pub inner_binds : (count place : ℕ) → inner.at ≡ source.at → inner.path ≡ source.path ++ item ∷ [] → item.count ≡ count → item.place ≡ place → (TakeAt sc t inner m keep b q).stands r gs f lo hi → Binds (path_of source.path ++ record { node = item.node; count = count; place = place } ∷ []) source.at
   inner_binds count place at path is_count is_place h =
       subst (λ n. Binds (path_of source.path ++ record { node = item.node; count = count; place = n } ∷ []) source.at) is_place
       (subst (λ n. Binds (path_of source.path ++ record { node = item.node; count = n; place = item.place } ∷ []) source.at) is_count

@@ -1,5 +1,3 @@
-pub mod Marks
-pub mod Ops
+pub mod Owned
 pub mod Placed
-pub mod Tree
 pub mod Trees

@@ -14,7 +14,7 @@ use Rattle.rpy_resolved.specs.declared.tree.Function.{Function}
 use Rattle.rpy_resolved.specs.declared.tree.Resolved.{Resolved}
 use Rattle.resolved_meaning.specs.Programs.{value_in}
 use Rattle.resolved_meaning.specs.Trees.{heads}
-use Rattle.flow_space.specs.Tree as tree
+use Rattle.flow_trees.specs.Tree as tree
 
 -- ---- lists
 
@@ -53,7 +53,7 @@ module _ (sites : List Site) where
 
   abbrev pub expr_step : Expr-F tree.Expr tree.Subject tree.Target → tree.Expr
   expr_step (Expr-F.Local n i) = tree.Local n i
-  expr_step (Expr-F.Constant n a) = tree.Constant n (value_in sites a)
+  expr_step (Expr-F.Constant n a) = tree.Constant n a (value_in sites a)
   expr_step (Expr-F.Apply n value op es) = tree.Apply n value op (exprs es)
   expr_step (Expr-F.And n a b) = tree.And n a b
   expr_step (Expr-F.Or n a b) = tree.Or n a b

@@ -2,7 +2,9 @@
 ghost use Rattle.std.specs.Prelude.{◌≡◌, ◌+◌, ◌<◌, false, [], ◌∷◌, ◌++◌, length, slice_set, IfOk, OnOk};
 ghost use Rattle.rpy_meaning.specs.Classes.{no_covers};
 ghost use Rattle.flow_stands.specs.Places.{range, first as on_first, first_and as on_first_and, stored as on_stored, stored_if_any, hand_jumps, shift, link as link_of, links, act, numbered, Go, Fork, Does, Plain, GiveBack, GiveUp};
-ghost use Rattle.flow_space.specs.Placed.{Part, Headed, ShapeAt, MarkedAt, ActsAt, aim_of, hands_of, jump_of};
+ghost use Rattle.flow_graph.specs.Owners.{results, HaveOwnVariables};
+ghost use Rattle.flow_space.specs.Owned.{LieBelow};
+ghost use Rattle.flow_space.specs.Placed.{Part, Headed, IsHead, ShapeAt, MarkedAt, ActsAt, aim_of, hands_of, jump_of};
 
 use crate::places::{first, first_and, stored};
 use flow_graph::{Block, Exit, Link, Op, VarId};
@@ -16,6 +18,8 @@ use std::alloc::Global;
 pub struct Code {
     pub blocks: Seq<Block>,
     pub next: VarId,
+    ghost own: { HaveOwnVariables blocks },
+    ghost below: { LieBelow next blocks },
 }
 
 /// A block, and how many of the variables go on to it, the first ones.
@@ -227,7 +231,8 @@ fn ops_of(
 
 impl Code {
     pub fn new(alloc: Global) -> Code
-        ensures { result ≡ record { blocks = []; next = 0 } }
+        ensures blocks { result.blocks ≡ [] }
+        ensures next { result.next ≡ 0 }
     {
         Code {
             blocks: Seq::new(alloc),
@@ -235,23 +240,18 @@ impl Code {
         }
     }
 
-    // So many variables are used from here on.
-    fn take(&mut self, count: usize) -> Result<VarId, NoMem>
-        ensures base { IfOk result (λ base. base ≡ self.old.next) }
-        ensures blocks { self.new.blocks ≡ self.old.blocks }
-        ensures next { OnOk result (self.new.next ≡ self.old.next + count) }
-    {
-        let base = self.next;
-        self.next = variable(base, count)?;
-        Ok(base)
-    }
-
-    fn put(&mut self, block: Block) -> Result<u64, NoMem>
+    // After the others a block whose variables are the next ones: m inputs, and so many results.
+    fn put(&mut self, m: usize, done: usize, block: Block) -> Result<u64, NoMem>
+        requires inputs { block.inputs ≡ shift self.old.next (range 0 m) }
+        requires results { results block.ops ≡ shift self.old.next (range m done) }
         ensures at { IfOk result (λ number. number ≡ length self.old.blocks) }
         ensures put { OnOk result (self.new.blocks ≡ self.old.blocks ++ block ∷ []) }
     {
         let number = self.blocks.len() as u64;
+        let inner = variable(self.next, m)?;
+        let next = variable(inner, done)?;
         self.blocks.push(block)?;
+        self.next = next;
         Ok(number)
     }
 
@@ -261,12 +261,13 @@ impl Code {
         ensures count { OnOk result (length self.new.blocks ≡ length self.old.blocks + 1) }
         ensures put { IfOk result (λ b. Part self.old.blocks self.new.blocks (ShapeAt b m (Go (jump_of jump)))) }
     {
-        let base = self.take(m)?;
-        self.put(Block {
+        let base = self.next;
+        let block = Block {
             inputs: inputs(alloc, base, m)?,
             ops: Seq::new(alloc),
             exit: Exit::Goto(link(alloc, base, &jump)?),
-        })
+        };
+        self.put(m, 0, block)
     }
 
     /// A block with m inputs that goes on by the truth of one of them.
@@ -280,8 +281,8 @@ impl Code {
     ) -> Result<u64, NoMem>
         ensures { IfOk result (λ b. Part self.old.blocks self.new.blocks (ShapeAt b m (Fork test (jump_of yes) (jump_of no)))) }
     {
-        let base = self.take(m)?;
-        self.put(Block {
+        let base = self.next;
+        let block = Block {
             inputs: inputs(alloc, base, m)?,
             ops: Seq::new(alloc),
             exit: Exit::If(
@@ -289,7 +290,8 @@ impl Code {
                 link(alloc, base, &yes)?,
                 link(alloc, base, &no)?,
             ),
-        })
+        };
+        self.put(m, 0, block)
     }
 
     /// A block with m inputs and one operation, whose result or exception is at place m.
@@ -304,18 +306,45 @@ impl Code {
     ) -> Result<u64, NoMem>
         ensures { IfOk result (λ b. Part self.old.blocks self.new.blocks (ActsAt scope.now b of.node of.value of.op args m (jump_of norm))) }
     {
-        let base = self.take(m)?;
-        let result = self.take(1)?;
-        self.put(Block {
+        let base = self.next;
+        let block = Block {
             inputs: inputs(alloc, base, m)?,
             ops: ops_of(alloc, base, scope.covers, of, args.as_slice(), m)?,
             exit: Exit::OnRaise(
-                result,
+                variable(base, m)?,
                 hand_links(alloc, base, scope.hands.as_slice(), m)?,
                 Some(default_link(alloc, base, scope.default, m)?),
                 link(alloc, base, &norm)?,
             ),
-        })
+        };
+        self.put(m, 1, block)
+    }
+
+    /// The same with its own way by exception, and without hands.
+    pub fn put_aside(
+        &mut self,
+        alloc: Global,
+        covers: Covers,
+        of: Act,
+        args: Seq<usize>,
+        m: usize,
+        default: Jump,
+        norm: Jump,
+    ) -> Result<u64, NoMem>
+        ensures { IfOk result (λ b. Part self.old.blocks self.new.blocks (MarkedAt b m of.node of.value (Does of.op args covers [] (jump_of default) (jump_of norm)))) }
+    {
+        let base = self.next;
+        let block = Block {
+            inputs: inputs(alloc, base, m)?,
+            ops: ops_of(alloc, base, covers, of, args.as_slice(), m)?,
+            exit: Exit::OnRaise(
+                variable(base, m)?,
+                Seq::new(alloc),
+                Some(link(alloc, base, &default)?),
+                link(alloc, base, &norm)?,
+            ),
+        };
+        self.put(m, 1, block)
     }
 
     /// A block with m inputs and one operation that cannot raise.
@@ -324,14 +353,14 @@ impl Code {
         ensures count { OnOk result (length self.new.blocks ≡ length self.old.blocks + 1) }
         ensures put { IfOk result (λ b. Part self.old.blocks self.new.blocks (MarkedAt b m of.node of.value (Plain of.op (jump_of norm)))) }
     {
-        let base = self.take(m)?;
-        let _result = self.take(1)?;
+        let base = self.next;
         let none: Seq<usize> = Seq::new(alloc);
-        self.put(Block {
+        let block = Block {
             inputs: inputs(alloc, base, m)?,
             ops: ops_of(alloc, base, no_covers(), of, none.as_slice(), m)?,
             exit: Exit::Goto(link(alloc, base, &norm)?),
-        })
+        };
+        self.put(m, 1, block)
     }
 
     /// A block with one input, which it returns.
@@ -340,12 +369,13 @@ impl Code {
         ensures count { OnOk result (length self.new.blocks ≡ length self.old.blocks + 1) }
         ensures put { IfOk result (λ b. Part self.old.blocks self.new.blocks (ShapeAt b 1 GiveBack)) }
     {
-        let base = self.take(1)?;
-        self.put(Block {
+        let base = self.next;
+        let block = Block {
             inputs: inputs(alloc, base, 1)?,
             ops: Seq::new(alloc),
             exit: Exit::Return(base),
-        })
+        };
+        self.put(1, 0, block)
     }
 
     /// A block with one input, an exception with which it leaves the function.
@@ -354,30 +384,34 @@ impl Code {
         ensures count { OnOk result (length self.new.blocks ≡ length self.old.blocks + 1) }
         ensures put { IfOk result (λ b. Part self.old.blocks self.new.blocks (ShapeAt b 1 GiveUp)) }
     {
-        let base = self.take(1)?;
-        self.put(Block {
+        let base = self.next;
+        let block = Block {
             inputs: inputs(alloc, base, 1)?,
             ops: Seq::new(alloc),
             exit: Exit::Raise(base),
-        })
+        };
+        self.put(1, 0, block)
     }
 
     /// A block with m inputs that goes on to another, which is not there yet, with the first of them.
     pub fn put_head(&mut self, alloc: Global, m: usize) -> Result<Head, NoMem>
-        ensures { IfOk result (λ head. Headed self.old.blocks self.new.blocks m head.number head.m) }
+        ensures grows { IfOk result (λ head. Headed self.old.blocks self.new.blocks m head.number head.m) }
+        ensures head { IfOk result (λ head. IsHead self.new.blocks head.number head.base head.m) }
     {
-        let base = self.take(m)?;
+        let base = self.next;
         let jump = jump_first(alloc, 0, 0)?;
-        let number = self.put(Block {
+        let block = Block {
             inputs: inputs(alloc, base, m)?,
             ops: Seq::new(alloc),
             exit: Exit::Goto(link(alloc, base, &jump)?),
-        })?;
+        };
+        let number = self.put(m, 0, block)?;
         Ok(Head { number, base, m })
     }
 
     /// The head goes on to this block.
     pub fn aim(&mut self, alloc: Global, head: Head, to: u64) -> Result<(), NoMem>
+        requires { IsHead self.old.blocks head.number head.base head.m }
         ensures { OnOk result (self.new.blocks ≡ slice_set self.old.blocks head.number (numbered head.base head.m 0 false (Go (on_first to head.m)))) }
     {
         let jump = jump_first(alloc, to, head.m)?;

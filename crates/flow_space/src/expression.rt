@@ -5,11 +5,12 @@ ghost use Rattle.std.specs.Prelude.{◌≡◌, ◌+◌, false, ◌∷◌, ◌++�
 ghost use Rattle.rpy_meaning.specs.declared.row.RowOp.TheVariants as row;
 ghost use Rattle.flow_stands.specs.Places.{range, first_and as on_first_and, Go};
 ghost use Rattle.flow_stands.specs.Stands as stands;
-ghost use Rattle.flow_space.specs.Placed.{Part, ShapeAt, ActsAt, ExprAt, ExprsAt, ApplyAt, NotAt, LogicAt, TestAt, WayAt, TruthAt, AsksAt, SidesAt, DisplayAt, PairsAt, PairAt, SubjectAt, GatherAt, ComprehensionAt, BindAt, TakeAt, ItemAt, PartsAt, ItemsAt, branch_of, jump_of};
+ghost use Rattle.flow_space.specs.Placed.{Part, ShapeAt, ActsAt, ExprAt, ExprsAt, ApplyAt, NotAt, LogicAt, TestAt, WayAt, TruthAt, WholeAt, AsksAt, SidesAt, AppliedAt, DisplayAt, PairsAt, PairAt, SubjectAt, GatherAt, ComprehensionAt, BindAt, TakeAt, ItemAt, PartsAt, ItemsAt, branch_of, jump_of};
 
 use crate::code::{Code, Jump, Scope, jump_and, jump_first, jump_stored, local_place, op_at};
 use crate::copy::copy_op;
 use crate::narrow::{narrowed, needs_sides, put_narrowing};
+use crate::negated::{by_ways, negates};
 use crate::operation::{put_copy, put_last, put_leaf, put_meeting};
 use crate::places::{narrow, one, plus, range, three, two};
 use crate::source::{
@@ -105,16 +106,6 @@ fn put_exprs(
     }
 }
 
-// Whether the operand of `not` is one whose own parts stand in a test.
-fn has_ways(e: &Expr) -> bool {
-    match e {
-        Expr::And(_, _, _) => true,
-        Expr::Or(_, _, _) => true,
-        Expr::Apply(_, _, RowOp::Not, _) => true,
-        _ => false,
-    }
-}
-
 #[cycle(expr)]
 fn put_apply(
     alloc: Global,
@@ -130,17 +121,14 @@ fn put_apply(
     ensures { IfOk result (λ b. Part code.old.blocks code.new.blocks (ApplyAt scope.now node value op.now es.now b m norm)) }
 {
     match es {
-        [a] => match op {
-            RowOp::Not => {
-                if has_ways(a) {
-                    put_not(alloc, code, scope, node, a, m, norm)
-                } else {
-                    put_operation(alloc, code, scope, node, value, op, es, m, norm)
-                }
+        [] => put_operation(alloc, code, scope, node, value, op, es, m, norm),
+        [a, rest @ ..] => {
+            if by_ways(op, a, rest) {
+                put_not(alloc, code, scope, node, a, m, norm)
+            } else {
+                put_operation(alloc, code, scope, node, value, op, es, m, norm)
             }
-            _ => put_operation(alloc, code, scope, node, value, op, es, m, norm),
-        },
-        _ => put_operation(alloc, code, scope, node, value, op, es, m, norm),
+        }
     }
 }
 
@@ -156,7 +144,7 @@ fn put_operation(
     m: usize,
     norm: u64,
 ) -> Result<u64, NoMem>
-    ensures { IfOk result (λ b. Part code.old.blocks code.new.blocks (ApplyAt scope.now node value op.now es.now b m norm)) }
+    ensures { IfOk result (λ b. Part code.old.blocks code.new.blocks (AppliedAt scope.now node value op.now es.now b m norm)) }
 {
     let op = copy_op(alloc, op)?;
     let last = put_last(
@@ -269,12 +257,15 @@ pub fn put_test(
             let right = put_test(alloc, code, scope, b.get(), *inner, m, yes, no)?;
             put_test(alloc, code, scope, a.get(), *inner, m, yes, right)
         }
-        Expr::Apply(inner, _, op, es) => match op {
-            RowOp::Not => match es.as_slice() {
-                [a] => put_test(alloc, code, scope, a, *inner, m, no, yes),
-                _ => put_branches(alloc, code, scope, e, node, m, yes, no),
-            },
-            _ => put_branches(alloc, code, scope, e, node, m, yes, no),
+        Expr::Apply(inner, _, op, es) => match es.as_slice() {
+            [] => put_branches(alloc, code, scope, e, node, m, yes, no),
+            [a, rest @ ..] => {
+                if negates(op, rest) {
+                    put_test(alloc, code, scope, a, *inner, m, no, yes)
+                } else {
+                    put_branches(alloc, code, scope, e, node, m, yes, no)
+                }
+            }
         },
         Expr::Local(_, _) => put_branches(alloc, code, scope, e, node, m, yes, no),
         Expr::Constant(_, _) => put_branches(alloc, code, scope, e, node, m, yes, no),
@@ -321,7 +312,7 @@ fn put_branch(
     value: usize,
     branch: Branch,
 ) -> Result<Jump, NoMem>
-    ensures { IfOk result (λ jump. Part code.old.blocks code.new.blocks (WayAt scope.now node e.now m value (branch_of branch) (jump_of jump))) }
+    ensures { IfOk result (λ jump. Part code.old.blocks code.new.blocks (WayAt scope.now node e.now truth m value (branch_of branch) (jump_of jump))) }
 {
     if branch.value {
         jump_and(alloc, branch.to, m, value)
@@ -366,7 +357,7 @@ fn put_truth(
     )
 }
 
-// An expression and the truth of its value.
+// An expression and the truth of its value, where nothing stands beside a local.
 #[cycle(expr)]
 fn put_whole(
     alloc: Global,
@@ -378,7 +369,7 @@ fn put_whole(
     yes: Branch,
     no: Branch,
 ) -> Result<u64, NoMem>
-    ensures { IfOk result (λ b. Part code.old.blocks code.new.blocks (AsksAt scope.now node e.now b m (branch_of yes) (branch_of no))) }
+    ensures { IfOk result (λ b. Part code.old.blocks code.new.blocks (WholeAt scope.now node e.now b m (branch_of yes) (branch_of no))) }
 {
     let truth = put_truth(alloc, code, scope, e, node, m, m, yes, no)?;
     put_expr(alloc, code, scope, e, m, truth)
@@ -398,21 +389,38 @@ fn put_simple(
 ) -> Result<u64, NoMem>
     ensures { IfOk result (λ b. Part code.old.blocks code.new.blocks (AsksAt scope.now node e.now b m (branch_of yes) (branch_of no))) }
 {
+    if needs_sides(e) {
+        put_beside(alloc, code, scope, e, node, m, yes, no)
+    } else {
+        put_whole(alloc, code, scope, e, node, m, yes, no)
+    }
+}
+
+// A comparison and its truth, where a side stands beside a local. No other test has sides.
+#[cycle(expr)]
+fn put_beside(
+    alloc: Global,
+    code: &mut Code,
+    scope: &Scope,
+    e: &Expr,
+    node: NodeId,
+    m: usize,
+    yes: Branch,
+    no: Branch,
+) -> Result<u64, NoMem>
+    ensures { IfOk result (λ b. Part code.old.blocks code.new.blocks (AsksAt scope.now node e.now b m (branch_of yes) (branch_of no))) }
+{
     match e {
         Expr::Apply(inner, value, op, es) => match op {
             RowOp::Compare(op) => {
-                if needs_sides(e) {
-                    let place = plus(m, es.len())?;
-                    let truth = put_truth(alloc, code, scope, e, node, m, place, yes, no)?;
-                    let es = es.as_slice();
-                    put_sides(alloc, code, scope, *inner, *value, *op, es, m, truth)
-                } else {
-                    put_whole(alloc, code, scope, e, node, m, yes, no)
-                }
+                let place = plus(m, es.len())?;
+                let truth = put_truth(alloc, code, scope, e, node, m, place, yes, no)?;
+                let es = es.as_slice();
+                put_sides(alloc, code, scope, *inner, *value, *op, es, m, truth)
             }
-            _ => put_whole(alloc, code, scope, e, node, m, yes, no),
+            _ => Err(NoMem),
         },
-        _ => put_whole(alloc, code, scope, e, node, m, yes, no),
+        _ => Err(NoMem),
     }
 }
 

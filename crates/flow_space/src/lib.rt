@@ -6,6 +6,7 @@ mod copy;
 mod covers;
 mod expression;
 mod narrow;
+mod negated;
 mod operation;
 mod places;
 mod source;

@@ -1,16 +1,20 @@
 // What a test says of a local.
-ghost use Rattle.std.specs.Prelude.{◌≡◌, ◌≤◌, ◌⊎◌, List, IfSome, IfOk};
+ghost use Rattle.std.specs.Prelude.{◌≡◌, ◌+◌, ◌||◌, ℕ, Bool, List, Some, IfOk};
+ghost use Rattle.rpy_tree.specs.declared.program.Const.{Const as Literal};
 ghost use Rattle.rpy_tree.specs.declared.program.Site.{Site};
-ghost use Rattle.flow_stands.specs.Stands.{Reads, is_local, some_is_local};
-ghost use Rattle.flow_space.specs.Placed.{Part, NarrowedAt, IsBeside, AreArgs, narrowing_op, jump_of};
-ghost use Rattle.resolved_meaning.specs.Trees.{expr_of, exprs_of};
+ghost use Rattle.flow_trees.specs.Tells as tells;
+ghost use Rattle.flow_trees.specs.Tree as tree;
+ghost use Rattle.flow_space.specs.Trees.{expr_of, exprs_of, pairs_of, subject_of, condition_of, target_of, targets_of};
+ghost use Rattle.flow_space.specs.Placed.{Part, NarrowedAt, AreArgs, narrowing_op, place_of, told_of, told_beside, local_in, jump_of};
+ghost use Rattle.flow_space.specs.declared.narrow.Kind.TheVariants as kind;
+ghost use Rattle.resolved_meaning.specs.Programs.{value_in};
 
 use crate::code::{Code, Jump, Scope, jump_first, jump_stored, local_place, op_at};
 use crate::places::{one, plus, two};
-use rpy_base::{NoMem, Seq};
+use rpy_base::{NoMem, Own, Seq};
 use rpy_meaning::RowOp;
 use rpy_resolved::{Expr, Subject, Target};
-use rpy_tree::{ClassId, CmpOp, NodeId};
+use rpy_tree::{ClassId, CmpOp, Const, NodeId};
 use std::alloc::Global;
 
 /// In a branch a local is what an operation gives of it, which is the same.
@@ -51,226 +55,300 @@ impl Kind {
 }
 
 fn local_of(e: &Expr) -> Option<u32>
-    ensures { IfSome result (λ local. (sites : List Site) → is_local (expr_of sites e.now) local) }
+    ensures { (sites : List Site) → result ≡ local_in (expr_of sites e.now) }
 {
     match e {
         Expr::Local(_, local) => Some(*local),
-        _ => None,
+        Expr::Constant(_, _) => None,
+        Expr::Apply(_, _, _, _) => None,
+        Expr::And(_, _, _) => None,
+        Expr::Or(_, _, _) => None,
+        Expr::Display(_, _, _) => None,
+        Expr::Comprehension(_, _, _, _, _, _) => None,
     }
 }
 
-fn is_none(e: &Expr) -> bool {
-    match e {
-        Expr::Apply(_, _, RowOp::None, _) => true,
-        Expr::Constant(_, rpy_tree::Const::None) => true,
+fn is_nothing(value: &Const) -> bool
+    ensures { (sites : List Site) (node : ℕ) (whole : Literal) → result ≡ tells.is_none (tree.Constant node whole (value_in sites value.now)) }
+{
+    match value {
+        Const::None => true,
+        Const::Word(_) => false,
+        Const::Bool(_) => false,
+        Const::Str(_) => false,
+        Const::Function(_) => false,
+        Const::Tuple(_) => false,
+        Const::List(_) => false,
+        Const::Dict(_) => false,
+    }
+}
+
+fn gives_none(op: &RowOp) -> bool
+    ensures { (node : ℕ) (value : Bool) (es : tree.Exprs) → result ≡ tells.is_none (tree.Apply node value op.now es) }
+{
+    match op {
+        RowOp::None => true,
         _ => false,
+    }
+}
+
+fn is_none(e: &Expr) -> bool
+    ensures { (sites : List Site) → result ≡ tells.is_none (expr_of sites e.now) }
+{
+    match e {
+        Expr::Apply(_, _, op, _) => gives_none(op),
+        Expr::Constant(_, value) => is_nothing(value),
+        Expr::Local(_, _) => false,
+        Expr::And(_, _, _) => false,
+        Expr::Or(_, _, _) => false,
+        Expr::Display(_, _, _) => false,
+        Expr::Comprehension(_, _, _, _, _, _) => false,
     }
 }
 
 // ---- whether a comprehension in an expression binds a local
 
+fn either(a: bool, b: bool) -> bool
+    ensures { result ≡ (a || b) }
+{
+    a || b
+}
+
 #[cycle(binds)]
-fn binds(e: &Expr, local: u32) -> bool {
+fn binds(e: &Expr, local: u32) -> bool
+    ensures { (sites : List Site) → result ≡ tells.binds (expr_of sites e.now) local }
+{
     match e {
         Expr::Local(_, _) => false,
         Expr::Constant(_, _) => false,
         Expr::Apply(_, _, _, es) => some_binds(es.as_slice(), local),
-        Expr::And(_, a, b) => binds(a.get(), local) || binds(b.get(), local),
-        Expr::Or(_, a, b) => binds(a.get(), local) || binds(b.get(), local),
-        Expr::Display(_, _, pairs) => pair_binds(pairs.as_slice(), local),
+        Expr::And(_, a, b) => {
+            let left = binds(a.get(), local);
+            let right = binds(b.get(), local);
+            either(left, right)
+        }
+        Expr::Or(_, a, b) => {
+            let left = binds(a.get(), local);
+            let right = binds(b.get(), local);
+            either(left, right)
+        }
+        Expr::Display(_, _, pairs) => pairs_bind(pairs.as_slice(), local),
         Expr::Comprehension(_, _, item, target, subject, condition) => {
-            binds(item.get(), local)
-                || target_binds(target.get(), local)
-                || subject_binds(subject.get(), local)
-                || match condition {
-                    None => false,
-                    Some(e) => binds(e.get(), local),
-                }
+            let by_item = binds(item.get(), local);
+            let by_target = target_binds(target.get(), local);
+            let by_subject = subject_binds(subject.get(), local);
+            let by_condition = condition_binds(condition, local);
+            let walk = either(by_subject, by_condition);
+            either(by_item, either(by_target, walk))
         }
     }
 }
 
 #[cycle(binds)]
-fn some_binds(es: &[Expr], local: u32) -> bool {
-    for e in es {
-        if binds(e, local) {
-            return true;
+fn some_binds(es: &[Expr], local: u32) -> bool
+    ensures { (sites : List Site) → result ≡ tells.some_bind (exprs_of sites es.now) local }
+{
+    match es {
+        [] => false,
+        [e, rest @ ..] => {
+            let first = binds(e, local);
+            let others = some_binds(rest, local);
+            either(first, others)
         }
     }
-    false
 }
 
 #[cycle(binds)]
-fn one_binds(pair: &(Expr, Expr), local: u32) -> bool {
-    binds(&pair.0, local) || binds(&pair.1, local)
-}
-
-#[cycle(binds)]
-fn pair_binds(pairs: &[(Expr, Expr)], local: u32) -> bool {
-    for pair in pairs {
-        if one_binds(pair, local) {
-            return true;
+fn pairs_bind(pairs: &[(Expr, Expr)], local: u32) -> bool
+    ensures { (sites : List Site) → result ≡ tells.pairs_bind (pairs_of sites pairs.now) local }
+{
+    match pairs {
+        [] => false,
+        [pair, rest @ ..] => {
+            let key = binds(&pair.0, local);
+            let value = binds(&pair.1, local);
+            let others = pairs_bind(rest, local);
+            either(key, either(value, others))
         }
     }
-    false
 }
 
 #[cycle(binds)]
-fn subject_binds(subject: &Subject, local: u32) -> bool {
+fn subject_binds(subject: &Subject, local: u32) -> bool
+    ensures { (sites : List Site) → result ≡ tells.subject_binds (subject_of sites subject.now) local }
+{
     match subject {
         Subject::Over(_, e) => binds(e, local),
         Subject::UpTo(e) => binds(e, local),
-        Subject::FromTo(a, b, _) => binds(a, local) || binds(b, local),
+        Subject::FromTo(a, b, _) => {
+            let left = binds(a, local);
+            let right = binds(b, local);
+            either(left, right)
+        }
     }
 }
 
 #[cycle(binds)]
-fn target_binds(target: &Target, local: u32) -> bool {
+fn condition_binds(condition: &Option<Own<Expr>>, local: u32) -> bool
+    ensures { (sites : List Site) → result ≡ tells.condition_binds (condition_of sites condition.now) local }
+{
+    match condition {
+        None => false,
+        Some(e) => binds(e.get(), local),
+    }
+}
+
+#[cycle(binds)]
+fn target_binds(target: &Target, local: u32) -> bool
+    ensures { (sites : List Site) → result ≡ tells.target_binds (target_of sites target.now) local }
+{
     match target {
         Target::Name(_, bound) => *bound == local,
         Target::Attr(_, e, _) => binds(e, local),
-        Target::Item(_, a, i) => binds(a, local) || binds(i, local),
+        Target::Item(_, a, i) => {
+            let left = binds(a, local);
+            let right = binds(i, local);
+            either(left, right)
+        }
         Target::Parts(_, parts) => parts_bind(parts.as_slice(), local),
     }
 }
 
 #[cycle(binds)]
-fn parts_bind(parts: &[Target], local: u32) -> bool {
-    for part in parts {
-        if target_binds(part, local) {
-            return true;
+fn parts_bind(parts: &[Target], local: u32) -> bool
+    ensures { (sites : List Site) → result ≡ tells.targets_bind (targets_of sites parts.now) local }
+{
+    match parts {
+        [] => false,
+        [part, rest @ ..] => {
+            let first = target_binds(part, local);
+            let others = parts_bind(rest, local);
+            either(first, others)
         }
     }
-    false
 }
 
 // ---- tests
 
-// A local that is one side of a comparison is not below zero where the other side is not.
+fn says(kind: Kind, local: u32) -> Option<Narrowing>
+    ensures { result ≡ Some (record { kind = kind; local = local }) }
+{
+    Some(Narrowing { kind, local })
+}
+
+// A local that is one side of a comparison is not below zero where the other side is not, which has
+// bound it or not meanwhile.
+fn beside_told(local: u32, side: Side, bound: bool) -> Option<Narrowing>
+    ensures { told_of result ≡ told_beside local side bound }
+{
+    if bound {
+        None
+    } else {
+        says(Kind::NonNegative(side), local)
+    }
+}
+
 fn beside(local: &Expr, other: &Expr, side: Side) -> Option<Narrowing>
-    ensures { IfSome result (λ says. (sites : List Site) → is_local (expr_of sites local.now) says.local) }
+    ensures { (sites : List Site) → told_of result ≡ tells.at_least (expr_of sites local.now) (expr_of sites other.now) (place_of side) }
 {
     match local_of(local) {
         None => None,
-        Some(local) => {
-            if binds(other, local) {
-                None
-            } else {
-                Some(Narrowing {
-                    kind: Kind::NonNegative(side),
-                    local,
-                })
-            }
-        }
+        Some(local) => beside_told(local, side, binds(other, local)),
     }
 }
 
-// Of `a < b` and `a <= b`, where true, the right side is the greater one; where false, the left.
+// Of `a < b` and `a <= b`, where true, the right side is the greater one; where false, the left. Of
+// `a > b` and `a >= b` the other way round.
 fn less(a: &Expr, b: &Expr, truth: bool) -> Option<Narrowing>
-    ensures { IfSome result (λ says. (sites : List Site) → is_local (expr_of sites a.now) says.local ⊎ is_local (expr_of sites b.now) says.local) }
+    ensures { (sites : List Site) → told_of result ≡ tells.of_less (expr_of sites a.now) (expr_of sites b.now) truth }
 {
     if truth {
         beside(b, a, Side::Left)
     } else {
         beside(a, b, Side::Right)
-    }
-}
-
-// Of `a > b` and `a >= b`, where true, the left side is the greater one; where false, the right.
-fn greater(a: &Expr, b: &Expr, truth: bool) -> Option<Narrowing>
-    ensures { IfSome result (λ says. (sites : List Site) → is_local (expr_of sites a.now) says.local ⊎ is_local (expr_of sites b.now) says.local) }
-{
-    if truth {
-        beside(a, b, Side::Right)
-    } else {
-        beside(b, a, Side::Left)
     }
 }
 
 // `v is None`.
+fn none_told(local: u32, named: bool, truth: bool) -> Option<Narrowing>
+    ensures { told_of result ≡ tells.of_none (tree.Local 0 local) named truth }
+{
+    if !named {
+        None
+    } else if truth {
+        says(Kind::OnlyNone, local)
+    } else {
+        says(Kind::DropNone, local)
+    }
+}
+
 fn none_test(a: &Expr, b: &Expr, truth: bool) -> Option<Narrowing>
-    ensures { IfSome result (λ says. (sites : List Site) → is_local (expr_of sites a.now) says.local) }
+    ensures { (sites : List Site) → told_of result ≡ tells.of_none (expr_of sites a.now) (tells.is_none (expr_of sites b.now)) truth }
 {
     match local_of(a) {
         None => None,
-        Some(local) => {
-            if !is_none(b) {
-                None
-            } else if truth {
-                Some(Narrowing {
-                    kind: Kind::OnlyNone,
-                    local,
-                })
-            } else {
-                Some(Narrowing {
-                    kind: Kind::DropNone,
-                    local,
-                })
-            }
-        }
+        Some(local) => none_told(local, is_none(b), truth),
     }
 }
 
 fn compared(op: CmpOp, a: &Expr, b: &Expr, truth: bool) -> Option<Narrowing>
-    ensures { IfSome result (λ says. (sites : List Site) → is_local (expr_of sites a.now) says.local ⊎ is_local (expr_of sites b.now) says.local) }
+    ensures { (sites : List Site) → told_of result ≡ tells.of_comparison op (expr_of sites a.now) (expr_of sites b.now) truth }
 {
     match op {
         CmpOp::Lt => less(a, b, truth),
         CmpOp::Le => less(a, b, truth),
-        CmpOp::Gt => greater(a, b, truth),
-        CmpOp::Ge => greater(a, b, truth),
+        CmpOp::Gt => less(a, b, !truth),
+        CmpOp::Ge => less(a, b, !truth),
         CmpOp::Is => none_test(a, b, truth),
         CmpOp::IsNot => none_test(a, b, !truth),
-        _ => None,
+        CmpOp::Eq => None,
+        CmpOp::Ne => None,
+        CmpOp::Within => None,
+        CmpOp::NotWithin => None,
     }
 }
 
 // The truth of a local.
 fn truth_test(local: u32, truth: bool) -> Option<Narrowing>
-    ensures { IfSome result (λ says. says.local ≡ local) }
+    ensures { told_of result ≡ tells.of_truth local truth }
 {
     if truth {
-        Some(Narrowing {
-            kind: Kind::DropNone,
-            local,
-        })
+        says(Kind::DropNone, local)
     } else {
-        Some(Narrowing {
-            kind: Kind::FalseNone,
-            local,
-        })
+        says(Kind::FalseNone, local)
     }
 }
 
 // `isinstance(v, C)`, where it is true.
+fn class_told(class: u32, local: u32, truth: bool) -> Option<Narrowing>
+    ensures { told_of result ≡ tells.of_class class (tree.Local 0 local) truth }
+{
+    if truth {
+        says(Kind::Lower(class), local)
+    } else {
+        None
+    }
+}
+
 fn instance_test(class: u32, a: &Expr, truth: bool) -> Option<Narrowing>
-    ensures { IfSome result (λ says. (sites : List Site) → is_local (expr_of sites a.now) says.local) }
+    ensures { (sites : List Site) → told_of result ≡ tells.of_class class (expr_of sites a.now) truth }
 {
     match local_of(a) {
         None => None,
-        Some(local) => {
-            if truth {
-                Some(Narrowing {
-                    kind: Kind::Lower(class),
-                    local,
-                })
-            } else {
-                None
-            }
-        }
+        Some(local) => class_told(class, local, truth),
     }
 }
 
 fn applied(op: &RowOp, es: &[Expr], truth: bool) -> Option<Narrowing>
-    ensures { IfSome result (λ says. (sites : List Site) → some_is_local (exprs_of sites es.now) says.local) }
+    ensures { (sites : List Site) → told_of result ≡ tells.of_operation op.now (exprs_of sites es.now) truth }
 {
-    match es {
-        [a] => match op {
-            RowOp::IsInstance(class) => instance_test(*class, a, truth),
+    match op {
+        RowOp::IsInstance(class) => match es {
+            [a] => instance_test(*class, a, truth),
             _ => None,
         },
-        [a, b] => match op {
-            RowOp::Compare(op) => compared(*op, a, b, truth),
+        RowOp::Compare(op) => match es {
+            [a, b] => compared(*op, a, b, truth),
             _ => None,
         },
         _ => None,
@@ -279,39 +357,58 @@ fn applied(op: &RowOp, es: &[Expr], truth: bool) -> Option<Narrowing>
 
 /// What a test says of a local in its branch, `not`, `and` and `or` aside.
 pub fn narrowed(e: &Expr, truth: bool) -> Option<Narrowing>
-    ensures { IfSome result (λ says. (sites : List Site) → Reads (expr_of sites e.now) says.local) }
+    ensures { (sites : List Site) → told_of result ≡ tells.tells (expr_of sites e.now) truth }
 {
     match e {
         Expr::Local(_, local) => truth_test(*local, truth),
         Expr::Apply(_, _, op, es) => applied(op, es.as_slice(), truth),
-        _ => None,
+        Expr::Constant(_, _) => None,
+        Expr::And(_, _, _) => None,
+        Expr::Or(_, _, _) => None,
+        Expr::Display(_, _, _) => None,
+        Expr::Comprehension(_, _, _, _, _, _) => None,
     }
 }
 
 // ---- operations that narrow
 
-// Whether what a test says needs a side of its comparison.
-fn needs_side(e: &Expr, truth: bool) -> bool {
-    match narrowed(e, truth) {
+fn has_side(narrowing: Option<Narrowing>) -> bool
+    ensures { result ≡ tells.has_beside (told_of narrowing) }
+{
+    match narrowing {
         None => false,
         Some(narrowing) => match narrowing.kind {
             Kind::NonNegative(_) => true,
-            _ => false,
+            Kind::DropNone => false,
+            Kind::OnlyNone => false,
+            Kind::FalseNone => false,
+            Kind::Lower(_) => false,
         },
     }
 }
 
+// Whether what a test says needs a side of its comparison.
+fn needs_side(e: &Expr, truth: bool) -> bool
+    ensures { (sites : List Site) → result ≡ tells.has_beside (tells.tells (expr_of sites e.now) truth) }
+{
+    has_side(narrowed(e, truth))
+}
+
 // Whether the two sides of a comparison are needed after it.
-pub fn needs_sides(e: &Expr) -> bool {
-    needs_side(e, true) || needs_side(e, false)
+pub fn needs_sides(e: &Expr) -> bool
+    ensures { (sites : List Site) → result ≡ tells.asks_beside (expr_of sites e.now) }
+{
+    let there = needs_side(e, true);
+    let elsewhere = needs_side(e, false);
+    either(there, elsewhere)
 }
 
 // The place of a side of a comparison whose left side is at m.
 fn side_place(m: usize, side: Side) -> Result<usize, NoMem>
-    ensures { IfOk result (λ place. m ≤ place) }
+    ensures { IfOk result (λ place. place ≡ m + place_of side) }
 {
     match side {
-        Side::Left => Ok(m),
+        Side::Left => plus(m, 0),
         Side::Right => plus(m, 1),
     }
 }
@@ -324,7 +421,7 @@ fn beside_args(
     m: usize,
     value: usize,
 ) -> Result<Seq<usize>, NoMem>
-    ensures { IfOk result (λ args. IsBeside args local m value) }
+    ensures { IfOk result (λ args. AreArgs (kind.NonNegative side) args local m value) }
 {
     let place = side_place(m, side)?;
     if place <= value {

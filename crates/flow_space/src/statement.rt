@@ -4,17 +4,17 @@ ghost use Rattle.rpy_tree.specs.declared.program.Site.{Site};
 ghost use Rattle.rpy_meaning.specs.declared.row.RowOp.TheVariants as row;
 ghost use Rattle.flow_stands.specs.Places.{first as on_first, first_and as on_first_and, Go};
 ghost use Rattle.flow_stands.specs.Stands as stands;
-ghost use Rattle.flow_space.specs.Tree as tree;
+ghost use Rattle.flow_trees.specs.Tree as tree;
 ghost use Rattle.flow_space.specs.Trees.{stmt_of};
-ghost use Rattle.flow_space.specs.Placed.{Part, ShapeAt, ActsAt, MarkAt, ReturnAt, DoAt, BindsAt, AssignAt, NewAt, AugmentNameAt, AugmentAttrAt, AugmentItemAt, AugmentAt, SimpleAt, StmtAt, BlockAt, IfAt, WhileAt, ForAt, TryAt, FinallyAt, LeftAt, RaisedAt, ClausesAt, aim_of, hands_of};
+ghost use Rattle.flow_space.specs.Placed.{Part, ShapeAt, ActsAt, MarkAt, SeenAt, BackAt, ReturnAt, DoAt, BindsAt, AssignAt, NewAt, AugmentNameAt, AugmentAttrAt, AugmentItemAt, AugmentAt, SimpleAt, StmtAt, BlockAt, IfAt, WhileAt, ForAt, TryAt, FinallyAt, LeftAt, RaisedAt, ClausesAt, aim_of, hands_of};
 
-use crate::NEVER;
 use crate::code::{Aim, Code, Hand, Scope, jump_and, jump_first, jump_stored, local_place, op_at};
 use crate::copy::copy_op;
 use crate::covers::covers_of;
 use crate::expression::{put_bind, put_expr, put_subject, put_test};
 use crate::places::{one, plus, three, two};
 use crate::walk::{Walk, put_advance, put_turn, step_of};
+use crate::{NEVER, RETURN};
 use rpy_base::{NoMem, Seq, Text};
 use rpy_meaning::{Covers, RowOp};
 use rpy_resolved::{Clause, Expr, Resolved, Stmt, Subject, Target};
@@ -114,17 +114,56 @@ fn node_of(s: &Stmt) -> NodeId
     }
 }
 
+// A value goes back to a `finally`, which is passed first. It is seen where values return: by a copy,
+// whose way by exception, which is never gone, leads there.
+fn put_seen(
+    alloc: Global,
+    code: &mut Code,
+    scope: &Scope,
+    node: NodeId,
+    m: usize,
+    ret: Aim,
+) -> Result<u64, NoMem>
+    ensures { IfOk result (λ b. Part code.old.blocks code.new.blocks (SeenAt scope.now node b m (aim_of ret))) }
+{
+    let more = plus(m, 1)?;
+    let args = one(alloc, m)?;
+    let seen = jump_and(alloc, RETURN, 0, m)?;
+    let jump = jump_and(alloc, ret.to, ret.keep, m)?;
+    let of = op_at(node, false, RowOp::Copy);
+    code.put_aside(alloc, scope.covers, of, args, more, seen, jump)
+}
+
+// The last of m + 1 variables goes back.
+fn put_back(
+    alloc: Global,
+    code: &mut Code,
+    scope: &Scope,
+    node: NodeId,
+    m: usize,
+    ret: Aim,
+) -> Result<u64, NoMem>
+    ensures { IfOk result (λ b. Part code.old.blocks code.new.blocks (BackAt scope.now node b m (aim_of ret))) }
+{
+    if ret.to == RETURN {
+        put_aim_and(alloc, code, m, ret)
+    } else {
+        put_seen(alloc, code, scope, node, m, ret)
+    }
+}
+
 fn put_return(
     alloc: Global,
     code: &mut Code,
     scope: &Scope,
+    node: NodeId,
     e: &Expr,
     m: usize,
     t: Ways,
 ) -> Result<u64, NoMem>
-    ensures { IfOk result (λ b. Part code.old.blocks code.new.blocks (ReturnAt scope.now e.now b m t)) }
+    ensures { IfOk result (λ b. Part code.old.blocks code.new.blocks (ReturnAt scope.now node e.now b m t)) }
 {
-    let out = put_aim_and(alloc, code, m, t.ret)?;
+    let out = put_back(alloc, code, scope, node, m, t.ret)?;
     put_expr(alloc, code, scope, e, m, out)
 }
 
@@ -732,7 +771,7 @@ fn put_simple(
     match s {
         Stmt::Break(_) => put_aim(alloc, code, m, t.brk),
         Stmt::Continue(_) => put_aim(alloc, code, m, t.cont),
-        Stmt::Return(_, e) => put_return(alloc, code, scope, e, m, t),
+        Stmt::Return(node, e) => put_return(alloc, code, scope, *node, e, m, t),
         Stmt::Do(_, e) => put_do(alloc, code, scope, e, m, t.norm),
         Stmt::Assign(_, targets, e) => {
             put_assign(alloc, code, scope, targets.as_slice(), e, m, t.norm)

@@ -1,6 +1,6 @@
 -- The machine follows what parts of trees are made of.
 use Rattle.std.proofs.Common.{◌≡◌, ℕ, zero, suc, ◌+◌, ◌<◌, ◌≤◌, inl, Bool, true, false, cond, List, [], ◌∷◌, ◌++◌, length, get_or, take, Some, None, Option, refl, sym, ap, ◌∙◌, subst, arith, append_assoc, length-append}
-use Rattle.std.specs.Prelude.{not, map, slice_get, slice_set, if◌then◌else◌}
+use Rattle.std.specs.Prelude.{not, ◌&&◌, map, slice_get, slice_set, if◌then◌else◌}
 use Rattle.std.proofs.lemmas.List.{append-nil, length-map, take-append-le}
 use Rattle.std.proofs.lemmas.Option.{get_or_from_slice_get}
 use Rattle.std.proofs.lemmas.List.{get_or_append_left}
@@ -14,18 +14,19 @@ use Rattle.rpy_meaning.specs.World.{World, Answer, Gives, Throws, Enters, Bad, t
 use Rattle.rpy_meaning.specs.Classes.{is_below}
 use Rattle.rpy_meaning.specs.Operations.{op, builtin_classes, truth_in, raise_object, raise}
 use Rattle.rpy_meaning.specs.Evaluation.{State, Ending, Done, Raised, Failed, Running, Wrong, Eval, then_go, pure}
-use Rattle.rpy_meaning.specs.Moments.{is_slight}
+use Rattle.rpy_meaning.specs.Moments.{is_slight, is_passed_over}
 use Rattle.rpy_meaning.specs.Meaning.{Run, class_in, Sem, Behind, operate_holding, operate}
 use Rattle.flow_graph.specs.declared.graph.Exit.TheVariants as exit
 use Rattle.flow_graph.specs.declared.graph.Graphs.{Graphs}
-use Rattle.flow_meaning.specs.Machine.{Frame, State as Spot, Calling, At, Returning, Throwing, answered, operates, chooses, truth_of, step}
+use Rattle.flow_meaning.specs.Machine.{bind, Frame, State as Spot, Calling, At, Returning, Throwing, jump, answered, operates, chooses, truth_of, step}
+use Rattle.flow_meaning.specs.Moments.{gives_value}
 use Rattle.flow_meaning.specs.Roots.{waits_for}
 use Rattle.flow_stands.proofs.Watches.{Watching}
 use Rattle.flow_stands.specs.Places.{range, Aim, Hand, Scope, Jump, first, first_and, hand_jumps, Go, Fork, Does, link, links, act}
 use Rattle.flow_stands.specs.Stands.{Is, Acts, Reads, Stand}
 use Rattle.flow_stands.proofs.Worlds.{total, Weight, class_of, same, sound_on, Thrown}
-use Rattle.flow_stands.proofs.Lists.{Env, pick, named, look_named, operands_named, operand_none, pick_last, pick_first, pick_kept_and, pick_set, take_first, get_at, among_append, among_range, among_last}
-use Rattle.flow_stands.proofs.Core.{Place, place, env, env_push, IsBound, Fit, stored_value, Below, hand_place, Catches, Ends, Leads, leads_on, Free, not_at, step_strays, enter, jump_to, enter_block, wrong_run, Runs, moved, hold, same_place}
+use Rattle.flow_stands.proofs.Lists.{Env, pick, named, named_push, look_named, operands_named, operand_none, pick_last, pick_first, pick_kept_and, pick_set, take_first, get_at, among_append, among_range, among_last}
+use Rattle.flow_stands.proofs.Core.{Place, place, env, env_push, IsBound, Fit, stored_value, Below, hand_place, Catches, Ends, Leads, leads_on, Free, not_at, step_go, step_strays, enter, jump_to, enter_block, wrong_run, Runs, moved, hold, same_place}
 use Rattle.flow_stands.proofs.Acts.{Drops, goes_on, slight_free, throws, behind_is, behind_sim, told_sim, frame, used_here}
 use Rattle.flow_stands.proofs.Calls.{Good, called_sim}
 
@@ -332,6 +333,23 @@ module _ (p : Program) (gs : Graphs) (wa : Watching) (builtins : (k : ℕ) → k
       let ex = exit.OnRaise (is.0 + m) (links is.0 (hand_jumps m sc.hands)) (Some (link is.0 (first_and sc.default.to sc.default.keep m))) (link is.0 norm) in
       (enter_block p gs wa f instead frs b m is.0 is.1 is.2 (Does o (i ∷ []) sc.covers (hand_jumps m sc.hands) (first_and sc.default.to sc.default.keep m) norm) (env s W) s.world is.3 len).by _ moment
       (step_strays p gs wa (At f (its ∷ []) ex (named is.0 (env s W)) instead frs s.world) moment moment (not_at p gs wa (At f (its ∷ []) ex (named is.0 (env s W)) instead frs s.world) moment (ap not slight)) (ap (operates p gs f its [] ex (named is.0 (env s W)) instead frs s.world) (operand_none is.0 (env s W) i e)))
+
+  -- ---- a copy, which raises nothing, wherever it has its ways by exception
+
+  pub copy_on : (b q i : ℕ) (covers : Covers) (hands : List (ℕ × Jump)) (default norm : Jump) (W : List Value) (t : State) (v : Value) (to : Env) → Is p gs f n b q (Does row.Copy (i ∷ []) covers hands default norm) → length (env t W) ≡ q → get_or (env t W) i None ≡ Some v
+      → pick (env t W ++ Some v ∷ []) norm.places ≡ to → To (go_in (place b (env t W)) t.world) (go_in (place norm.to to) t.world)
+  copy_on b q i covers hands default norm W t v to is len at land =
+      let its = act is.0 q is.1 is.2 row.Copy (i ∷ []) covers in
+      let ex = exit.OnRaise (is.0 + q) (links is.0 hands) (Some (link is.0 default)) (link is.0 norm) in
+      let spot = At f (its ∷ []) ex (named is.0 (env t W)) instead frs t.world in
+      let behind = At f [] ex (named is.0 (env t W) ++ bind (is.0 + q) (Some v) ∷ []) instead frs t.world in
+      let read = operands_named is.0 (env t W) (i ∷ []) (v ∷ []) (ap (λ (x : Option Value). x ∷ []) at) in
+      leads_on p gs wa (enter_block p gs wa f instead frs b q is.0 is.1 is.2 (Does row.Copy (i ∷ []) covers hands default norm) (env t W) t.world is.3 len)
+      (leads_on p gs wa
+      (step_go p gs wa spot behind (refl, ap (λ us. gives_value p its t.world us && not (is_passed_over (Behind row.Copy))) read) (ap (λ us. operates p gs f its [] ex (named is.0 (env t W)) instead frs t.world us) read))
+      (leads_on p gs wa
+      (jump_to p gs wa f instead frs behind is.0 (env t W ++ Some v ∷ []) norm t.world (refl, refl) (ap (λ c. jump gs f frs t.world instead c (link is.0 norm)) (ap (λ k. named is.0 (env t W) ++ bind (is.0 + k) (Some v) ∷ []) (sym len) ∙ sym (named_push is.0 (env t W) (Some v)))))
+      (same_as (place norm.to (pick (env t W ++ Some v ∷ []) norm.places)) (place norm.to to) t.world (ap (place norm.to) land))))
 
   -- ---- a fork
 

@@ -186,7 +186,7 @@ seven_stands = (
   (2, 0, false, refl),
   (0, 0, false, refl),
   (3, 0, false, refl),
-  (6, 4, 4, refl, (5, inl (6, refl, (7, 0, false, refl)), (5, 0, false, refl)), refl, refl),
+  (6, 4, 4, refl, (5, inl (6, refl, (7, 0, false, refl)), inl (5, 0, false, refl)), refl, refl),
 )
 
 down_stands : HasFunction program graphs 1 (function (line (While (Local 0) (line (Augment (Name 0) (row.Binary Sub None) (word 1)) done)) (line (Return (Local 0)) done)))
@@ -226,7 +226,7 @@ down_stands = (
       (11, 7, 7, refl, (omega arith, (10, 9, 8, (20, 0, false, refl), inl (10, refl, (17, 0, false, refl)), (13, 0, false, refl), (10, 0, false, refl))), refl, refl),
     ),
     refl,
-    (6, 4, 4, refl, (5, (omega arith, (7, 0, false, refl)), (5, 0, false, refl)), refl, refl),
+    (6, 4, 4, refl, (5, (omega arith, (7, 0, false, refl)), inl (5, 0, false, refl)), refl, refl),
   ),
 )
 
@@ -288,7 +288,7 @@ entry_stands = (
     refl,
     (7, inl (8, (8, inl (9, (9, inl (10, (10, inl (11, refl, (20, 0, false, refl)), refl), (17, 0, false, refl)), refl), (14, 0, false, refl)), refl), (11, 0, false, refl)), (9, 0, false, refl)),
     refl,
-    (6, 4, 4, refl, (5, inl (6, refl, (7, 0, false, refl)), (5, 0, false, refl)), refl, refl),
+    (6, 4, 4, refl, (5, inl (6, refl, (7, 0, false, refl)), inl (5, 0, false, refl)), refl, refl),
   ),
 )
 

@@ -1,5 +1,5 @@
 -- The machine follows each form of statement, where it follows the parts.
-use Rattle.std.proofs.Common.{◌≡◌, ℕ, suc, ◌+◌, ◌<◌, ◌≤◌, inl, inr, Bool, true, false, cond, List, [], ◌∷◌, ◌++◌, length, take, Some, None, Option, refl, sym, ap, ◌∙◌, subst, arith, append_assoc, length-append}
+use Rattle.std.proofs.Common.{◌≡◌, ℕ, suc, ◌+◌, ◌<◌, ◌≤◌, inl, inr, Bool, true, false, cond, List, [], ◌∷◌, ◌++◌, length, get_or, take, Some, None, Option, refl, sym, ap, ◌∙◌, subst, arith, append_assoc, length-append}
 use Rattle.std.specs.Prelude.{map, slice_set, ◌||◌, if◌then◌else◌}
 use Rattle.std.specs.List.{list_any}
 use Rattle.std.proofs.lemmas.List.{append-nil, length-set, set-append_left}
@@ -16,12 +16,12 @@ use Rattle.flow_graph.specs.declared.graph.Graphs.{Graphs}
 use Rattle.flow_meaning.specs.Machine.{Frame}
 use Rattle.flow_stands.proofs.Watches.{Watching}
 use Rattle.flow_stands.specs.Places.{range, Aim, Hand, Scope, Ways, onto, Go, first, first_and, on_to}
-use Rattle.flow_stands.specs.Stands.{Is, Acts, MarkIf, WhileAt, ForAt, within, hands_of, LocalIn, never_block, HasTest, HasBind, HasTargets, HasAugment, HasStmt, HasBlock, HasClauses, Stand}
+use Rattle.flow_stands.specs.Stands.{Is, Acts, MarkIf, WhileAt, ForAt, within, hands_of, LocalIn, return_block, never_block, GivesBack, HasTest, HasBind, HasTargets, HasAugment, HasStmt, HasBlock, HasClauses, Stand}
 use Rattle.flow_stands.proofs.Worlds.{same, Thrown, thrown_on}
 use Rattle.flow_stands.proofs.Lists.{Env, pick, pick_take, pick_kept_and, take_first, get_at}
 use Rattle.flow_stands.proofs.Core.{Place, place, env, env_push, After, at_once, Fit, fit_on, stored_value, Below, hand_place, Catches, Leads, stays, by_on, leads_on, at_moment, enter, Sim, Runs, before, moved, seq, seq_is, hold, loosen, reheld, here}
 use Rattle.flow_stands.proofs.Calls.{Any, Good, flow_place, Keeps}
-use Rattle.flow_stands.proofs.Parts.{wide, land_first, land_result, land_at, land_last, jump_first, catches_more, take_less, vals, stay_at, same_as, jumps, gives_on, strays_on, throws_on, raised_again, first_go_on, acts_holding, acts}
+use Rattle.flow_stands.proofs.Parts.{wide, land_first, land_result, land_at, land_last, jump_first, catches_more, take_less, vals, stay_at, same_as, jumps, gives_on, strays_on, throws_on, raised_again, copy_on, first_go_on, acts_holding, acts}
 use Rattle.flow_stands.proofs.Tests.{local_sim}
 use Rattle.flow_stands.proofs.Walks.{lower, after_low, turn_paid, pay_sim, turns_sim}
 use Rattle.flow_stands.proofs.Forms.{test_place, set_bound, last_sim}
@@ -72,6 +72,18 @@ module _ (p : Program) (gs : Graphs) (wa : Watching) (builtins : (k : ℕ) → k
       jumps p gs wa builtins stand prev top good f n instead frs b (m + 1) (first_and to k m) (held ++ v ∷ []) s (take k (env s held) ++ Some v ∷ []) is
       (wide n s fit.long (held ++ v ∷ []) ∙ (let z = length-append held (v ∷ []) in let a = c.all in omega (arith, z, a)))
       (ap (λ l. pick l (range 0 k ++ m ∷ [])) e ∙ pick_kept_and k m (env s held) (Some v ∷ []) (Some v) (let a = c.all in omega (arith, full, a, le)) (get_at m (env s held) (Some v) [] (full ∙ c.all)))
+
+  -- a value goes back, at once or by a copy
+  gives_back : {m : ℕ} {held : List Value} {R : ℕ → State → Place} (sc : Scope) → Keep m sc held R → (s : State) → Fit (suc top) n s → (v : Value) (b : ℕ) (ret : Aim) → GivesBack p gs f n sc b m ret → ret.keep ≤ m → goes (place b (env s (held ++ v ∷ []))) (place ret.to (take ret.keep (env s held) ++ Some v ∷ [])) s.world
+  gives_back sc c s fit v b ret (inl is) le = falls_and c s fit v b ret.keep ret.to is le
+  gives_back {m} {held} sc c s fit v b ret (inr is) le =
+      let full = wide n s fit.long held in
+      let e : env s (held ++ v ∷ []) ≡ env s held ++ Some v ∷ [] = env_push s held (v ∷ []) in
+      let e2 : env s (held ++ v ∷ []) ++ Some v ∷ [] ≡ env s held ++ (Some v ∷ Some v ∷ []) = ap (λ l. l ++ Some v ∷ []) e ∙ append_assoc (env s held) (Some v ∷ []) (Some v ∷ []) in
+      copy_on p gs wa builtins stand prev top good f n instead frs b (m + 1) m sc.covers [] (first_and return_block 0 m) (first_and ret.to ret.keep m) (held ++ v ∷ []) s v (take ret.keep (env s held) ++ Some v ∷ []) is
+      (wide n s fit.long (held ++ v ∷ []) ∙ (let z = length-append held (v ∷ []) in let a = c.all in omega (arith, z, a)))
+      (ap (λ l. get_or l m None) e ∙ get_at m (env s held) (Some v) [] (full ∙ c.all))
+      (ap (λ l. pick l (range 0 ret.keep ++ m ∷ [])) e2 ∙ pick_kept_and ret.keep m (env s held) (Some v ∷ Some v ∷ []) (Some v) (let a = c.all in omega (arith, full, a, le)) (get_at m (env s held) (Some v) (Some v ∷ []) (full ∙ c.all)))
 
   -- an operation on the last values, whose result is dropped
   drop_sim : (m : ℕ) (sc : Scope) (held : List Value) (R : ℕ → State → Place) → Keep m sc held R → (s : State) → Fit (suc top) n s → (vs : List Value) (k b q : ℕ) (o : RowOp) → length vs ≡ k
@@ -483,7 +495,7 @@ module _ (p : Program) (gs : Graphs) (wa : Watching) (builtins : (k : ℕ) → k
   return_sim : (sc : Scope) (e : Expr) → StmtSim sc (Return e)
   return_sim sc e m b held R c t keeps s fit has =
       seq p gs wa f instead frs (sim_value p gs wa builtins stand prev top good f n instead frs sc e m b has.0 held R c s fit has.1)
-      (λ v u after y. here p gs wa f instead frs (falls_and c u (fit_on fit after) v has.0 t.ret.keep t.ret.to has.2 keeps.ret) tt)
+      (λ v u after y. here p gs wa f instead frs (gives_back sc c u (fit_on fit after) v has.0 t.ret has.2 keeps.ret) tt)
 
   do_sim : (sc : Scope) (e : Expr) → StmtSim sc (Do e)
   do_sim sc e m b held R c t keeps s fit has =

@@ -348,4 +348,4 @@ graphs = record {
 stands : HasFunction program graphs 0 function
 unfolding body function program graphs
 stands =
-    (238, omega arith, (0, 0, false, refl), (12, 0, false, refl), (13, 0, false, refl), (14, 0, false, refl), (14, 0, false, refl), (238, 215, 215, refl, (216, (237, 217, 230, (3433, 0, false, refl), (236, 235, (omega arith, (3419, 0, false, refl)), (3404, 0, false, refl), (3389, 0, false, refl)), (229, 228, 218, (234, 233, 232, 231, (3087, 0, false, refl), (3373, 0, false, refl), (3357, 0, false, refl), (3341, 0, false, refl), (3325, 0, false, refl), (3102, 0, false, refl)), (229, 15, 16, omega arith, (refl, refl, refl), (3294, 0, false, refl)), (222, 219, inl (inr (225, 2, (refl, (226, (227, (omega arith, (3278, 0, false, refl)), (226, inl (227, refl, (3261, 0, false, refl)), refl)), (3243, 0, false, refl), tt)), (224, (first 223 18), (first 218 15), (3224, 0, false, refl), (3205, 0, false, refl), inr (223, 3, row.NonNegative, 3 ∷ 16 ∷ [], refl, omega arith, (inl refl), (refl, inr (16, refl, omega arith, omega arith, λ x y w. refl)), (3186, 0, false, refl), refl), inl refl))), inl (220, (221, (omega arith, (3170, 0, false, refl)), (220, inl (221, refl, (3153, 0, false, refl)), refl)), (3135, 0, false, refl)), (3118, 0, false, refl))), (3311, 0, false, refl)), (216, 12, 13, omega arith, (refl, refl, refl), (3073, 0, false, refl))), refl, (215, 199, 199, refl, (200, (214, 213, (omega arith, (3060, 0, false, refl)), (3046, 0, false, refl), (3032, 0, false, refl)), (208, 207, 201, (212, 211, 210, 209, (2824, 0, false, refl), (3017, 0, false, refl), (3002, 0, false, refl), (2987, 0, false, refl), (2972, 0, false, refl), (2838, 0, false, refl)), (208, 14, 15, omega arith, (refl, refl, refl), (2956, 0, false, refl)), (207, 201, 201, refl, (206, 205, 204, 203, 202, (omega arith, (2941, 0, false, refl)), (omega arith, (2925, 0, false, refl)), (2908, 0, false, refl), inl (204, refl, (2890, 0, false, refl)), (2871, 0, false, refl), (2853, 0, false, refl)), refl, refl))), refl, (199, 167, 167, refl, (168, (198, 197, (omega arith, (2811, 0, false, refl)), (2797, 0, false, refl), (2783, 0, false, refl)), (192, 186, 169, (196, 195, 194, 193, (2332, 0, false, refl), (2768, 0, false, refl), (2753, 0, false, refl), (2738, 0, false, refl), (2723, 0, false, refl), (2346, 0, false, refl)), (192, 191, 187, 14, 15, (refl, refl, refl), (2707, 0, false, refl), (189, (190, 15, 16, omega arith, ((2691, 0, false, refl), refl, refl), (2674, 0, false, refl)), (187, (188, 15, 16, omega arith, ((2658, 0, false, refl), refl, refl), (2641, 0, false, refl)), refl)), (2626, 0, false, refl)), (186, 169, 169, refl, (171, 170, (181, inl (185, (omega arith, (2611, 0, false, refl)), (184, (first 182 15), (first 183 15), (2595, 0, false, refl), (2579, 0, false, refl), inr (182, 5, row.DropNone, 5 ∷ [], refl, omega arith, refl, (refl, inl (refl, λ x w. refl)), (2547, 0, false, refl), refl), inr (183, 5, row.FalseNone, 5 ∷ [], refl, omega arith, refl, (refl, inl (refl, λ x w. refl)), (2563, 0, false, refl), refl))), inr (refl, (176, inl (180, (omega arith, (2532, 0, false, refl)), (179, (first 177 15), (first 178 15), (2516, 0, false, refl), (2500, 0, false, refl), inr (177, 6, row.DropNone, 6 ∷ [], refl, omega arith, refl, (refl, inl (refl, λ x w. refl)), (2468, 0, false, refl), refl), inr (178, 6, row.FalseNone, 6 ∷ [], refl, omega arith, refl, (refl, inl (refl, λ x w. refl)), (2484, 0, false, refl), refl))), inl (175, (omega arith, (2453, 0, false, refl)), (174, (first 172 15), (first 173 15), (2437, 0, false, refl), (2421, 0, false, refl), inr (172, 5, row.DropNone, 5 ∷ [], refl, omega arith, refl, (refl, inl (refl, λ x w. refl)), (2389, 0, false, refl), refl), inr (173, 5, row.FalseNone, 5 ∷ [], refl, omega arith, refl, (refl, inl (refl, λ x w. refl)), (2405, 0, false, refl), refl)))))), (171, 169, 169, refl, (2375, 0, false, refl), refl, refl), (170, 169, 169, refl, (2361, 0, false, refl), refl, refl)), refl, refl))), refl, (167, 164, 164, refl, (165, inl (166, (166, (const.Word (pos 5), five, (2319, 0, false, refl)), refl), (2305, 0, false, refl)), (165, 12, 13, omega arith, (refl, refl, refl), (2291, 0, false, refl))), refl, (164, 159, 159, refl, (163, 162, 161, 160, (omega arith, (2278, 0, false, refl)), (2264, 0, false, refl), inl (162, refl, (2249, 0, false, refl)), (2233, 0, false, refl), (2218, 0, false, refl)), refl, (159, 147, 147, refl, (158, (omega arith, (2205, 0, false, refl)), (158, 157, 148, 12, 13, (refl, refl, refl), (2191, 0, false, refl), (153, (156, 155, 154, 14, 15, (2177, 0, false, refl), (omega arith, (2163, 0, false, refl)), ((2148, 0, false, refl), refl, refl), (2132, 0, false, refl)), (148, (152, 151, 150, 149, 15, 16, (2118, 0, false, refl), (omega arith, (2104, 0, false, refl)), inl (151, refl, (2089, 0, false, refl)), ((2073, 0, false, refl), refl, refl), (2056, 0, false, refl)), refl)), (2043, 0, false, refl))), refl, (147, 140, 140, refl, (141, (142, 143, (1961, 0, false, refl), (omega arith, (1975, 0, false, refl)), inl (146, (omega arith, (2030, 0, false, refl)), (145, (first_and 142 12 12), (first 144 13), (2016, 0, false, refl), (2002, 0, false, refl), inl refl, inr (144, 5, row.FalseNone, 5 ∷ [], refl, omega arith, refl, (refl, inl (refl, λ x w. refl)), (1988, 0, false, refl), refl)))), (141, 12, 13, omega arith, (refl, refl, refl), (1947, 0, false, refl))), refl, (140, 126, 126, refl, (127, inr (refl, (128, 130, 129, (1769, 0, false, refl), (1783, 0, false, refl), (1796, 0, false, refl), (135, inl (139, (omega arith, (1934, 0, false, refl)), (138, (first 136 13), (first 137 13), (1920, 0, false, refl), (1906, 0, false, refl), inr (136, 5, row.DropNone, 5 ∷ [], refl, omega arith, refl, (refl, inl (refl, λ x w. refl)), (1878, 0, false, refl), refl), inr (137, 5, row.FalseNone, 5 ∷ [], refl, omega arith, refl, (refl, inl (refl, λ x w. refl)), (1892, 0, false, refl), refl))), inl (134, (omega arith, (1865, 0, false, refl)), (133, (first 131 13), (first 132 13), (1851, 0, false, refl), (1837, 0, false, refl), inr (131, 6, row.DropNone, 6 ∷ [], refl, omega arith, refl, (refl, inl (refl, λ x w. refl)), (1809, 0, false, refl), refl), inr (132, 6, row.FalseNone, 6 ∷ [], refl, omega arith, refl, (refl, inl (refl, λ x w. refl)), (1823, 0, false, refl), refl)))))), (127, 12, 13, omega arith, (refl, refl, refl), (1755, 0, false, refl))), refl, (126, 111, 111, refl, (113, (record { class = 6; local = Some 10; aim = record { to = 115; keep = 12 } } ∷ record { class = 7; local = Some 10; aim = record { to = 115; keep = 12 } } ∷ record { class = 8; local = None; aim = record { to = 119; keep = 12 } } ∷ []), record { to = 120; keep = 12 }, (113, 111, 111, refl, (112, inl (113, refl, (1565, 0, false, refl)), (112, 12, 13, omega arith, (refl, refl, refl), (1551, 0, false, refl))), refl, refl), (115, (record { class = 8; local = None; aim = record { to = 119; keep = 12 } } ∷ []), omega arith, (115, 111, 111, refl, (114, (const.None, nothing, (1592, 0, false, refl)), (114, 12, 13, omega arith, (refl, refl, refl), (1578, 0, false, refl))), refl, refl), refl, (119, ([]), tt, (119, 111, 111, refl, (116, inl (117, (118, (omega arith, (1647, 0, false, refl)), (117, inl (118, refl, (1633, 0, false, refl)), refl)), (1618, 0, false, refl)), (1605, 0, false, refl)), refl, refl), refl, (111, 120, refl, refl, (111, 111, 111, refl, refl, refl, refl), (1660, 0, false, refl), refl))), (125, 121, 113, (1742, 0, false, refl), (122, inl (123, (124, (omega arith, (1729, 0, false, refl)), (123, inl (124, refl, (1715, 0, false, refl)), refl)), (1700, 0, false, refl)), (122, 12, 13, omega arith, (refl, refl, refl), (1686, 0, false, refl))), (1673, 0, false, refl), refl)), refl, (111, 101, 101, refl, (102, (110, 109, inl (111, refl, (1538, 0, false, refl)), (omega arith, (1524, 0, false, refl)), (1510, 0, false, refl)), (104, 103, 103, (108, 107, 106, 105, (1405, 0, false, refl), (1495, 0, false, refl), (1480, 0, false, refl), (1465, 0, false, refl), (1450, 0, false, refl), (1419, 0, false, refl)), (104, 14, 15, omega arith, (refl, refl, refl), (1434, 0, false, refl)), (103, 103, 103, refl, refl, refl, refl))), refl, (101, 82, 82, refl, (83, (100, (omega arith, (1392, 0, false, refl)), (1378, 0, false, refl)), (95, 94, 84, (99, 98, 97, 96, (1107, 0, false, refl), (1363, 0, false, refl), (1348, 0, false, refl), (1333, 0, false, refl), (1318, 0, false, refl), (1121, 0, false, refl)), (95, 14, 15, omega arith, (refl, refl, refl), (1302, 0, false, refl)), (94, 84, 84, refl, (84, 87, inl (inr (91, 2, (refl, (92, (93, (omega arith, (1287, 0, false, refl)), (92, (omega arith, (1271, 0, false, refl)), refl)), (1254, 0, false, refl), tt)), (90, (first 88 17), (first 89 17), (1236, 0, false, refl), (1218, 0, false, refl), inr (88, 6, row.NonNegative, 6 ∷ 14 ∷ [], refl, omega arith, (inr (inl refl)), (refl, inr (14, refl, omega arith, omega arith, λ x y w. refl)), (1182, 0, false, refl), refl), inr (89, 3, row.NonNegative, 3 ∷ 15 ∷ [], refl, omega arith, (inl refl), (refl, inr (15, refl, omega arith, omega arith, λ x y w. refl)), (1200, 0, false, refl), refl)))), refl, (87, 84, 84, refl, (85, inl (86, (86, inl (87, refl, (1167, 0, false, refl)), refl), (1151, 0, false, refl)), (1136, 0, false, refl)), refl, refl)), refl, refl))), refl, (82, 73, 73, refl, (75, 73, inl (inl (79, inl (80, (81, (omega arith, (1094, 0, false, refl)), (80, (const.None, nothing, (1080, 0, false, refl)), refl)), (1065, 0, false, refl)), (78, (first 76 13), (first 77 13), (1051, 0, false, refl), (1037, 0, false, refl), inr (76, 9, row.DropNone, 9 ∷ [], refl, omega arith, (inl refl), (refl, inl (refl, λ x w. refl)), (1009, 0, false, refl), refl), inr (77, 9, row.OnlyNone, 9 ∷ [], refl, omega arith, (inl refl), (refl, inl (refl, λ x w. refl)), (1023, 0, false, refl), refl)))), (75, 73, 73, refl, (74, (omega arith, (996, 0, false, refl)), (983, 0, false, refl)), refl, refl), refl), refl, (73, 67, 67, refl, (71, inl (72, (72, (omega arith, (970, 0, false, refl)), refl), (956, 0, false, refl)), (70, (71, 12, 13, omega arith, (refl, refl, refl), (942, 0, false, refl)), (70, 69, 68, 68, 12, 15, refl, (omega arith, (928, 0, false, refl)), inl (69, refl, (913, 0, false, refl)), (refl, refl, refl), (897, 0, false, refl)))), refl, (67, 13, 13, refl, (14, 24, 34, 44, 54, 23, 33, 43, 53, (14, 13, 13, refl, (22, 17, 16, (157, 0, false, refl), inl (inl (20, inl (21, (21, (omega arith, (265, 0, false, refl)), refl), (251, 0, false, refl)), (19, (first 18 13), (first 13 12), (237, 0, false, refl), (223, 0, false, refl), inr (18, 11, (row.Lower 13), 11 ∷ [], refl, omega arith, (inl refl), (refl, inl (refl, λ x w. refl)), (209, 0, false, refl), refl), inl refl))), (196, 0, false, refl), (16, 14, 14, refl, (15, (const.None, nothing, (183, 0, false, refl)), (15, 12, 13, omega arith, (refl, refl, refl), (169, 0, false, refl))), refl, refl)), refl, refl), (24, 23, 23, refl, (32, 27, 26, (290, 0, false, refl), inl (inl (30, inl (31, (31, (omega arith, (398, 0, false, refl)), refl), (384, 0, false, refl)), (29, (first 28 13), (first 23 12), (370, 0, false, refl), (356, 0, false, refl), inr (28, 11, (row.Lower 13), 11 ∷ [], refl, omega arith, (inl refl), (refl, inl (refl, λ x w. refl)), (342, 0, false, refl), refl), inl refl))), (329, 0, false, refl), (26, 24, 24, refl, (25, (const.None, nothing, (316, 0, false, refl)), (25, 12, 13, omega arith, (refl, refl, refl), (302, 0, false, refl))), refl, refl)), refl, refl), (278, 0, false, refl), (34, 33, 33, refl, (42, 37, 36, (423, 0, false, refl), inl (inl (40, inl (41, (41, (omega arith, (531, 0, false, refl)), refl), (517, 0, false, refl)), (39, (first 38 13), (first 33 12), (503, 0, false, refl), (489, 0, false, refl), inr (38, 11, (row.Lower 13), 11 ∷ [], refl, omega arith, (inl refl), (refl, inl (refl, λ x w. refl)), (475, 0, false, refl), refl), inl refl))), (462, 0, false, refl), (36, 34, 34, refl, (35, (const.None, nothing, (449, 0, false, refl)), (35, 12, 13, omega arith, (refl, refl, refl), (435, 0, false, refl))), refl, refl)), refl, refl), (411, 0, false, refl), (44, 43, 43, refl, (52, 47, 46, (557, 0, false, refl), inl (inl (50, inl (51, (51, (omega arith, (673, 0, false, refl)), refl), (658, 0, false, refl)), (49, (first 48 14), (first 43 13), (643, 0, false, refl), (628, 0, false, refl), inr (48, 11, (row.Lower 13), 11 ∷ [], refl, omega arith, (inl refl), (refl, inl (refl, λ x w. refl)), (613, 0, false, refl), refl), inl refl))), (599, 0, false, refl), (46, 44, 44, refl, (45, (const.None, nothing, (585, 0, false, refl)), (45, 13, 14, omega arith, (refl, refl, refl), (570, 0, false, refl))), refl, refl)), refl, refl), (544, 0, false, refl), (54, 53, 53, refl, (62, 57, 56, (701, 0, false, refl), inl (inl (60, inl (61, (61, (omega arith, (817, 0, false, refl)), refl), (802, 0, false, refl)), (59, (first 58 14), (first 53 13), (787, 0, false, refl), (772, 0, false, refl), inr (58, 11, (row.Lower 13), 11 ∷ [], refl, omega arith, (inl refl), (refl, inl (refl, λ x w. refl)), (757, 0, false, refl), refl), inl refl))), (743, 0, false, refl), (56, 54, 54, refl, (55, (const.None, nothing, (729, 0, false, refl)), (55, 13, 14, omega arith, (refl, refl, refl), (714, 0, false, refl))), refl, refl)), refl, refl), (687, 0, false, refl), (66, 63, 14, (884, 0, false, refl), (64, inl (65, (65, (omega arith, (871, 0, false, refl)), refl), (857, 0, false, refl)), (844, 0, false, refl)), (831, 0, false, refl), refl)), refl, (13, 4, 4, refl, (5, (12, 6, (144, 0, false, refl), (11, 10, 9, inl (12, refl, (130, 0, false, refl)), (omega arith, (115, 0, false, refl)), (99, 0, false, refl), (8, 7, 6, inl (9, refl, (85, 0, false, refl)), (omega arith, (70, 0, false, refl)), (54, 0, false, refl), refl)), (40, 0, false, refl)), (27, 0, false, refl)), refl, refl))))))))))))))))
+    (238, omega arith, (0, 0, false, refl), (12, 0, false, refl), (13, 0, false, refl), (14, 0, false, refl), (14, 0, false, refl), (238, 215, 215, refl, (216, (237, 217, 230, (3433, 0, false, refl), (236, 235, (omega arith, (3419, 0, false, refl)), (3404, 0, false, refl), (3389, 0, false, refl)), (229, 228, 218, (234, 233, 232, 231, (3087, 0, false, refl), (3373, 0, false, refl), (3357, 0, false, refl), (3341, 0, false, refl), (3325, 0, false, refl), (3102, 0, false, refl)), (229, 15, 16, omega arith, (refl, refl, refl), (3294, 0, false, refl)), (222, 219, inl (inr (225, 2, (refl, (226, (227, (omega arith, (3278, 0, false, refl)), (226, inl (227, refl, (3261, 0, false, refl)), refl)), (3243, 0, false, refl), tt)), (224, (first 223 18), (first 218 15), (3224, 0, false, refl), (3205, 0, false, refl), inr (223, 3, row.NonNegative, 3 ∷ 16 ∷ [], refl, omega arith, (inl refl), (refl, inr (16, refl, omega arith, omega arith, λ x y w. refl)), (3186, 0, false, refl), refl), inl refl))), inl (220, (221, (omega arith, (3170, 0, false, refl)), (220, inl (221, refl, (3153, 0, false, refl)), refl)), (3135, 0, false, refl)), (3118, 0, false, refl))), (3311, 0, false, refl)), (216, 12, 13, omega arith, (refl, refl, refl), (3073, 0, false, refl))), refl, (215, 199, 199, refl, (200, (214, 213, (omega arith, (3060, 0, false, refl)), (3046, 0, false, refl), (3032, 0, false, refl)), (208, 207, 201, (212, 211, 210, 209, (2824, 0, false, refl), (3017, 0, false, refl), (3002, 0, false, refl), (2987, 0, false, refl), (2972, 0, false, refl), (2838, 0, false, refl)), (208, 14, 15, omega arith, (refl, refl, refl), (2956, 0, false, refl)), (207, 201, 201, refl, (206, 205, 204, 203, 202, (omega arith, (2941, 0, false, refl)), (omega arith, (2925, 0, false, refl)), (2908, 0, false, refl), inl (204, refl, (2890, 0, false, refl)), (2871, 0, false, refl), (2853, 0, false, refl)), refl, refl))), refl, (199, 167, 167, refl, (168, (198, 197, (omega arith, (2811, 0, false, refl)), (2797, 0, false, refl), (2783, 0, false, refl)), (192, 186, 169, (196, 195, 194, 193, (2332, 0, false, refl), (2768, 0, false, refl), (2753, 0, false, refl), (2738, 0, false, refl), (2723, 0, false, refl), (2346, 0, false, refl)), (192, 191, 187, 14, 15, (refl, refl, refl), (2707, 0, false, refl), (189, (190, 15, 16, omega arith, ((2691, 0, false, refl), refl, refl), (2674, 0, false, refl)), (187, (188, 15, 16, omega arith, ((2658, 0, false, refl), refl, refl), (2641, 0, false, refl)), refl)), (2626, 0, false, refl)), (186, 169, 169, refl, (171, 170, (181, inl (185, (omega arith, (2611, 0, false, refl)), (184, (first 182 15), (first 183 15), (2595, 0, false, refl), (2579, 0, false, refl), inr (182, 5, row.DropNone, 5 ∷ [], refl, omega arith, refl, (refl, inl (refl, λ x w. refl)), (2547, 0, false, refl), refl), inr (183, 5, row.FalseNone, 5 ∷ [], refl, omega arith, refl, (refl, inl (refl, λ x w. refl)), (2563, 0, false, refl), refl))), inr (refl, (176, inl (180, (omega arith, (2532, 0, false, refl)), (179, (first 177 15), (first 178 15), (2516, 0, false, refl), (2500, 0, false, refl), inr (177, 6, row.DropNone, 6 ∷ [], refl, omega arith, refl, (refl, inl (refl, λ x w. refl)), (2468, 0, false, refl), refl), inr (178, 6, row.FalseNone, 6 ∷ [], refl, omega arith, refl, (refl, inl (refl, λ x w. refl)), (2484, 0, false, refl), refl))), inl (175, (omega arith, (2453, 0, false, refl)), (174, (first 172 15), (first 173 15), (2437, 0, false, refl), (2421, 0, false, refl), inr (172, 5, row.DropNone, 5 ∷ [], refl, omega arith, refl, (refl, inl (refl, λ x w. refl)), (2389, 0, false, refl), refl), inr (173, 5, row.FalseNone, 5 ∷ [], refl, omega arith, refl, (refl, inl (refl, λ x w. refl)), (2405, 0, false, refl), refl)))))), (171, 169, 169, refl, (2375, 0, false, refl), refl, refl), (170, 169, 169, refl, (2361, 0, false, refl), refl, refl)), refl, refl))), refl, (167, 164, 164, refl, (165, inl (166, (166, (const.Word (pos 5), five, (2319, 0, false, refl)), refl), (2305, 0, false, refl)), (165, 12, 13, omega arith, (refl, refl, refl), (2291, 0, false, refl))), refl, (164, 159, 159, refl, (163, 162, 161, 160, (omega arith, (2278, 0, false, refl)), (2264, 0, false, refl), inl (162, refl, (2249, 0, false, refl)), (2233, 0, false, refl), (2218, 0, false, refl)), refl, (159, 147, 147, refl, (158, (omega arith, (2205, 0, false, refl)), (158, 157, 148, 12, 13, (refl, refl, refl), (2191, 0, false, refl), (153, (156, 155, 154, 14, 15, (2177, 0, false, refl), (omega arith, (2163, 0, false, refl)), ((2148, 0, false, refl), refl, refl), (2132, 0, false, refl)), (148, (152, 151, 150, 149, 15, 16, (2118, 0, false, refl), (omega arith, (2104, 0, false, refl)), inl (151, refl, (2089, 0, false, refl)), ((2073, 0, false, refl), refl, refl), (2056, 0, false, refl)), refl)), (2043, 0, false, refl))), refl, (147, 140, 140, refl, (141, (142, 143, (1961, 0, false, refl), (omega arith, (1975, 0, false, refl)), inl (146, (omega arith, (2030, 0, false, refl)), (145, (first_and 142 12 12), (first 144 13), (2016, 0, false, refl), (2002, 0, false, refl), inl refl, inr (144, 5, row.FalseNone, 5 ∷ [], refl, omega arith, refl, (refl, inl (refl, λ x w. refl)), (1988, 0, false, refl), refl)))), (141, 12, 13, omega arith, (refl, refl, refl), (1947, 0, false, refl))), refl, (140, 126, 126, refl, (127, inr (refl, (128, 130, 129, (1769, 0, false, refl), (1783, 0, false, refl), (1796, 0, false, refl), (135, inl (139, (omega arith, (1934, 0, false, refl)), (138, (first 136 13), (first 137 13), (1920, 0, false, refl), (1906, 0, false, refl), inr (136, 5, row.DropNone, 5 ∷ [], refl, omega arith, refl, (refl, inl (refl, λ x w. refl)), (1878, 0, false, refl), refl), inr (137, 5, row.FalseNone, 5 ∷ [], refl, omega arith, refl, (refl, inl (refl, λ x w. refl)), (1892, 0, false, refl), refl))), inl (134, (omega arith, (1865, 0, false, refl)), (133, (first 131 13), (first 132 13), (1851, 0, false, refl), (1837, 0, false, refl), inr (131, 6, row.DropNone, 6 ∷ [], refl, omega arith, refl, (refl, inl (refl, λ x w. refl)), (1809, 0, false, refl), refl), inr (132, 6, row.FalseNone, 6 ∷ [], refl, omega arith, refl, (refl, inl (refl, λ x w. refl)), (1823, 0, false, refl), refl)))))), (127, 12, 13, omega arith, (refl, refl, refl), (1755, 0, false, refl))), refl, (126, 111, 111, refl, (113, (record { class = 6; local = Some 10; aim = record { to = 115; keep = 12 } } ∷ record { class = 7; local = Some 10; aim = record { to = 115; keep = 12 } } ∷ record { class = 8; local = None; aim = record { to = 119; keep = 12 } } ∷ []), record { to = 120; keep = 12 }, (113, 111, 111, refl, (112, inl (113, refl, (1565, 0, false, refl)), (112, 12, 13, omega arith, (refl, refl, refl), (1551, 0, false, refl))), refl, refl), (115, (record { class = 8; local = None; aim = record { to = 119; keep = 12 } } ∷ []), omega arith, (115, 111, 111, refl, (114, (const.None, nothing, (1592, 0, false, refl)), (114, 12, 13, omega arith, (refl, refl, refl), (1578, 0, false, refl))), refl, refl), refl, (119, ([]), tt, (119, 111, 111, refl, (116, inl (117, (118, (omega arith, (1647, 0, false, refl)), (117, inl (118, refl, (1633, 0, false, refl)), refl)), (1618, 0, false, refl)), (1605, 0, false, refl)), refl, refl), refl, (111, 120, refl, refl, (111, 111, 111, refl, refl, refl, refl), (1660, 0, false, refl), refl))), (125, 121, 113, (1742, 0, false, refl), (122, inl (123, (124, (omega arith, (1729, 0, false, refl)), (123, inl (124, refl, (1715, 0, false, refl)), refl)), (1700, 0, false, refl)), (122, 12, 13, omega arith, (refl, refl, refl), (1686, 0, false, refl))), (1673, 0, false, refl), refl)), refl, (111, 101, 101, refl, (102, (110, 109, inl (111, refl, (1538, 0, false, refl)), (omega arith, (1524, 0, false, refl)), (1510, 0, false, refl)), (104, 103, 103, (108, 107, 106, 105, (1405, 0, false, refl), (1495, 0, false, refl), (1480, 0, false, refl), (1465, 0, false, refl), (1450, 0, false, refl), (1419, 0, false, refl)), (104, 14, 15, omega arith, (refl, refl, refl), (1434, 0, false, refl)), (103, 103, 103, refl, refl, refl, refl))), refl, (101, 82, 82, refl, (83, (100, (omega arith, (1392, 0, false, refl)), (1378, 0, false, refl)), (95, 94, 84, (99, 98, 97, 96, (1107, 0, false, refl), (1363, 0, false, refl), (1348, 0, false, refl), (1333, 0, false, refl), (1318, 0, false, refl), (1121, 0, false, refl)), (95, 14, 15, omega arith, (refl, refl, refl), (1302, 0, false, refl)), (94, 84, 84, refl, (84, 87, inl (inr (91, 2, (refl, (92, (93, (omega arith, (1287, 0, false, refl)), (92, (omega arith, (1271, 0, false, refl)), refl)), (1254, 0, false, refl), tt)), (90, (first 88 17), (first 89 17), (1236, 0, false, refl), (1218, 0, false, refl), inr (88, 6, row.NonNegative, 6 ∷ 14 ∷ [], refl, omega arith, (inr (inl refl)), (refl, inr (14, refl, omega arith, omega arith, λ x y w. refl)), (1182, 0, false, refl), refl), inr (89, 3, row.NonNegative, 3 ∷ 15 ∷ [], refl, omega arith, (inl refl), (refl, inr (15, refl, omega arith, omega arith, λ x y w. refl)), (1200, 0, false, refl), refl)))), refl, (87, 84, 84, refl, (85, inl (86, (86, inl (87, refl, (1167, 0, false, refl)), refl), (1151, 0, false, refl)), (1136, 0, false, refl)), refl, refl)), refl, refl))), refl, (82, 73, 73, refl, (75, 73, inl (inl (79, inl (80, (81, (omega arith, (1094, 0, false, refl)), (80, (const.None, nothing, (1080, 0, false, refl)), refl)), (1065, 0, false, refl)), (78, (first 76 13), (first 77 13), (1051, 0, false, refl), (1037, 0, false, refl), inr (76, 9, row.DropNone, 9 ∷ [], refl, omega arith, (inl refl), (refl, inl (refl, λ x w. refl)), (1009, 0, false, refl), refl), inr (77, 9, row.OnlyNone, 9 ∷ [], refl, omega arith, (inl refl), (refl, inl (refl, λ x w. refl)), (1023, 0, false, refl), refl)))), (75, 73, 73, refl, (74, (omega arith, (996, 0, false, refl)), inl (983, 0, false, refl)), refl, refl), refl), refl, (73, 67, 67, refl, (71, inl (72, (72, (omega arith, (970, 0, false, refl)), refl), (956, 0, false, refl)), (70, (71, 12, 13, omega arith, (refl, refl, refl), (942, 0, false, refl)), (70, 69, 68, 68, 12, 15, refl, (omega arith, (928, 0, false, refl)), inl (69, refl, (913, 0, false, refl)), (refl, refl, refl), (897, 0, false, refl)))), refl, (67, 13, 13, refl, (14, 24, 34, 44, 54, 23, 33, 43, 53, (14, 13, 13, refl, (22, 17, 16, (157, 0, false, refl), inl (inl (20, inl (21, (21, (omega arith, (265, 0, false, refl)), refl), (251, 0, false, refl)), (19, (first 18 13), (first 13 12), (237, 0, false, refl), (223, 0, false, refl), inr (18, 11, (row.Lower 13), 11 ∷ [], refl, omega arith, (inl refl), (refl, inl (refl, λ x w. refl)), (209, 0, false, refl), refl), inl refl))), (196, 0, false, refl), (16, 14, 14, refl, (15, (const.None, nothing, (183, 0, false, refl)), (15, 12, 13, omega arith, (refl, refl, refl), (169, 0, false, refl))), refl, refl)), refl, refl), (24, 23, 23, refl, (32, 27, 26, (290, 0, false, refl), inl (inl (30, inl (31, (31, (omega arith, (398, 0, false, refl)), refl), (384, 0, false, refl)), (29, (first 28 13), (first 23 12), (370, 0, false, refl), (356, 0, false, refl), inr (28, 11, (row.Lower 13), 11 ∷ [], refl, omega arith, (inl refl), (refl, inl (refl, λ x w. refl)), (342, 0, false, refl), refl), inl refl))), (329, 0, false, refl), (26, 24, 24, refl, (25, (const.None, nothing, (316, 0, false, refl)), (25, 12, 13, omega arith, (refl, refl, refl), (302, 0, false, refl))), refl, refl)), refl, refl), (278, 0, false, refl), (34, 33, 33, refl, (42, 37, 36, (423, 0, false, refl), inl (inl (40, inl (41, (41, (omega arith, (531, 0, false, refl)), refl), (517, 0, false, refl)), (39, (first 38 13), (first 33 12), (503, 0, false, refl), (489, 0, false, refl), inr (38, 11, (row.Lower 13), 11 ∷ [], refl, omega arith, (inl refl), (refl, inl (refl, λ x w. refl)), (475, 0, false, refl), refl), inl refl))), (462, 0, false, refl), (36, 34, 34, refl, (35, (const.None, nothing, (449, 0, false, refl)), (35, 12, 13, omega arith, (refl, refl, refl), (435, 0, false, refl))), refl, refl)), refl, refl), (411, 0, false, refl), (44, 43, 43, refl, (52, 47, 46, (557, 0, false, refl), inl (inl (50, inl (51, (51, (omega arith, (673, 0, false, refl)), refl), (658, 0, false, refl)), (49, (first 48 14), (first 43 13), (643, 0, false, refl), (628, 0, false, refl), inr (48, 11, (row.Lower 13), 11 ∷ [], refl, omega arith, (inl refl), (refl, inl (refl, λ x w. refl)), (613, 0, false, refl), refl), inl refl))), (599, 0, false, refl), (46, 44, 44, refl, (45, (const.None, nothing, (585, 0, false, refl)), (45, 13, 14, omega arith, (refl, refl, refl), (570, 0, false, refl))), refl, refl)), refl, refl), (544, 0, false, refl), (54, 53, 53, refl, (62, 57, 56, (701, 0, false, refl), inl (inl (60, inl (61, (61, (omega arith, (817, 0, false, refl)), refl), (802, 0, false, refl)), (59, (first 58 14), (first 53 13), (787, 0, false, refl), (772, 0, false, refl), inr (58, 11, (row.Lower 13), 11 ∷ [], refl, omega arith, (inl refl), (refl, inl (refl, λ x w. refl)), (757, 0, false, refl), refl), inl refl))), (743, 0, false, refl), (56, 54, 54, refl, (55, (const.None, nothing, (729, 0, false, refl)), (55, 13, 14, omega arith, (refl, refl, refl), (714, 0, false, refl))), refl, refl)), refl, refl), (687, 0, false, refl), (66, 63, 14, (884, 0, false, refl), (64, inl (65, (65, (omega arith, (871, 0, false, refl)), refl), (857, 0, false, refl)), (844, 0, false, refl)), (831, 0, false, refl), refl)), refl, (13, 4, 4, refl, (5, (12, 6, (144, 0, false, refl), (11, 10, 9, inl (12, refl, (130, 0, false, refl)), (omega arith, (115, 0, false, refl)), (99, 0, false, refl), (8, 7, 6, inl (9, refl, (85, 0, false, refl)), (omega arith, (70, 0, false, refl)), (54, 0, false, refl), refl)), (40, 0, false, refl)), inl (27, 0, false, refl)), refl, refl))))))))))))))))

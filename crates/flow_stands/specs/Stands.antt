@@ -402,13 +402,20 @@ module _ (p : Program) (gs : Graphs) (f n : ℕ) where
       × Bind (m + 2) (m + 2 + 1) (m + 2) turn begin
       × Body begin (m + 2) (within t (record { to = advance; keep = m + 2 }) (record { to = t.norm; keep = m }))
 
+  -- A value goes back, the last of m + 1 variables; or by a copy, which raises nothing, so that its way by exception to the block that
+  -- returns is never gone.
+  abbrev pub GivesBack : Scope → ℕ → ℕ → Aim → Type 0
+  GivesBack sc k m ret =
+      Is k (m + 1) (Go (first_and ret.to ret.keep m))
+      ⊎ Is k (m + 1) (Does row.Copy (m ∷ []) sc.covers [] (first_and return_block 0 m) (first_and ret.to ret.keep m))
+
   abbrev mutual
     -- s stands at block b with m variables, and goes on to t
     pub HasStmt : Scope → Stmt → ℕ → ℕ → Ways → Type 0
     HasStmt sc Pass b m t = b ≡ t.norm
     HasStmt sc Break b m t = Is b m (Go (on_to t.brk))
     HasStmt sc Continue b m t = Is b m (Go (on_to t.cont))
-    HasStmt sc (Return e) b m t = (k : ℕ) × HasExpr sc e b m k × Is k (m + 1) (Go (first_and t.ret.to t.ret.keep m))
+    HasStmt sc (Return e) b m t = (k : ℕ) × HasExpr sc e b m k × GivesBack sc k m t.ret
     HasStmt sc (Do e) b m t = (k : ℕ) × HasExpr sc e b m k × Is k (m + 1) (Go (first t.norm m))
     HasStmt sc (Assign ts e) b m t = (k : ℕ) × HasExpr sc e b m k × HasTargets sc ts k m t.norm
     HasStmt sc (Augment target o e) b m t = HasAugment sc target o e b m t.norm

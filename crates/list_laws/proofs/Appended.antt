@@ -32,30 +32,31 @@ use Rattle.ann_element.specs.declared.element.Element.{Element}
 use Rattle.list_loops.specs.Changing.{append, append_graph, append_done, append_types}
 use Rattle.lower_laws.proofs.Doing.{after}
 use Rattle.list_laws.specs.Asked.{HasAppend}
-use Rattle.list_laws.specs.Done.{HasLists}
-use Rattle.list_laws.specs.Ghost.{Ghost, Grown, Use, Head, Array, use_of}
-use Rattle.list_laws.specs.Represents.{Represents, ListAt, HasRoom, AreEmpty, head_block, array_block}
-use Rattle.list_laws.specs.Values.{Holds, EachHolds, Empty, More}
-use Rattle.list_laws.proofs.Blocks.{found_set, reads_field}
-use Rattle.list_laws.proofs.Calling.{Returns, calls_back}
-use Rattle.list_laws.proofs.Changing.{IsOf, Wrote, put_block, put_static, wrote_at, list_changes, get_set_here, uses_apart}
-use Rattle.list_laws.proofs.Growing.{holds_grows}
-use Rattle.list_laws.proofs.Passing.{grown_none}
+use Rattle.object_laws.specs.Known.{Known}
+use Rattle.object_laws.specs.Done.{HasLayout}
+use Rattle.object_laws.specs.Ghost.{Ghost, Grown, Use, Head, Array, use_of, ListOf}
+use Rattle.object_laws.specs.Represents.{Represents, ListAt, HasRoom, AreEmpty, head_block, array_block}
+use Rattle.object_laws.specs.Values.{Holds, EachHolds, Empty, More}
+use Rattle.object_laws.proofs.Blocks.{found_set, reads_field}
+use Rattle.object_laws.proofs.Calling.{Returns, calls_back}
+use Rattle.object_laws.proofs.Changing.{IsOf, Wrote, put_block, put_static, wrote_at, list_changes, settled_wrote, get_set_here, uses_apart}
+use Rattle.object_laws.proofs.Growing.{holds_grows}
+use Rattle.object_laws.proofs.Growing.{grown_none}
 use Rattle.list_laws.proofs.Roomed.{Roomed, makes_room}
-use Rattle.list_laws.proofs.Valued.{each_long, held_set}
-use Rattle.list_laws.proofs.Writing.{Written, with_item, other_field, writes_item, writes_field}
+use Rattle.object_laws.proofs.Valued.{each_long, held_set}
+use Rattle.object_laws.proofs.Writing.{Written, with_item, other_field, writes_item, writes_field}
 
-each_more : {layout : Layout} {g : Ghost} {seen : Option Element} {xs : List Value} {vs : List Meant} (x : Value) (v : Meant) → EachHolds layout g seen xs vs → Holds layout g seen x v → EachHolds layout g seen (xs ++ x ∷ []) (vs ++ v ∷ [])
+each_more : {layout : Layout} {known : Known} {g : Ghost} {seen : Option Element} {xs : List Value} {vs : List Meant} (x : Value) (v : Meant) → EachHolds layout known g seen xs vs → Holds layout known g seen x v → EachHolds layout known g seen (xs ++ x ∷ []) (vs ++ v ∷ [])
 each_more x v Empty held = More held Empty
 each_more x v (More other each) held = More other (each_more x v each held)
 
 -- what the call leaves
-pub record Appended (p : LlProgram) (args : List (List ℕ)) (layout : Layout) (kept : ℕ → Option Element) (g : Ghost) (heap : Heap) (left i : ℕ) (head value : Value) (items : List Meant) (v : Meant) (f : ℕ) (core : Core) : Type 0 where
+pub record Appended (p : LlProgram) (args : List (List ℕ)) (layout : Layout) (known : Known) (g : Ghost) (heap : Heap) (left i : ℕ) (head value : Value) (items : List Meant) (v : Meant) (f : ℕ) (core : Core) : Type 0 where
   pub blocks : List (Option Block)
   pub statics : List Block
   pub ghost : Ghost
   pub grown : Grown g ghost
-  pub stands : Represents layout kept ghost (slice_set heap i (Listed (items ++ v ∷ []))) (left - 1) blocks statics
+  pub stands : Represents layout known ghost (slice_set heap i (Listed (items ++ v ∷ []))) (left - 1) blocks statics
   pub few : length blocks ≤ length core.blocks + 1
   pub returns : (waits : List Frame) → Returns p args (length items + 3) (Calling f (head ∷ value ∷ []) waits core) Unset waits (record core { blocks = blocks; statics = statics; steps = left - 1 })
 
@@ -69,9 +70,9 @@ first_of : (xs : List Value) → 1 ≤ length xs → First xs
 first_of [] h = absurd (omega (arith, h))
 first_of (x ∷ xs) h = record { first = x; others = xs; is = refl }
 
-module _ (p : LlProgram) (args : List (List ℕ)) (layout : Layout) (kept : ℕ → Option Element) (raised : ℕ → Value) (structs : HasLists p layout) (n : ℕ) (struct : is_list layout n ≡ true) (f : ℕ) (has : HasAppend p layout raised n f)
-    (g : Ghost) (heap : Heap) (left : ℕ) (core : Core) (r : Represents layout kept g heap left core.blocks core.statics) (steps : left ≡ core.steps) (i : ℕ) (head : Value) (home : slice_get g.homes i ≡ Some (record { struct = n; head = head })) (l : ListAt layout (kept n) g heap left core.blocks core.statics n i head)
-    (value : Value) (v : Meant) (held : Holds layout g (kept n) value v) where
+module _ (p : LlProgram) (args : List (List ℕ)) (layout : Layout) (known : Known) (raised : ℕ → Value) (structs : HasLayout p layout) (n : ℕ) (struct : is_list layout n ≡ true) (f : ℕ) (has : HasAppend p layout raised n f)
+    (g : Ghost) (heap : Heap) (left : ℕ) (core : Core) (r : Represents layout known g heap left core.blocks core.statics) (steps : left ≡ core.steps) (i : ℕ) (head : Value) (home : slice_get g.homes i ≡ Some (record { sort = ListOf n; head = head })) (l : ListAt layout known g heap left core.blocks core.statics n i head)
+    (value : Value) (v : Meant) (held : Holds layout known g (known.items n) value v) where
   abbrev makes : ℕ
   makes = (small_number (small.Listed (Room n)) has.made).0
 
@@ -93,10 +94,10 @@ module _ (p : LlProgram) (args : List (List ℕ)) (layout : Layout) (kept : ℕ 
     abbrev inner : Core
     inner = record core { function = f; block = 0; at = 1; vars = head ∷ value ∷ Unset ∷ Unset ∷ Unset ∷ []; steps = left - 1 }
 
-    roomed : Roomed p args layout kept g heap left n i head l.items 1 makes inner
-    roomed = makes_room p args layout kept raised structs n struct makes has.room g heap left inner r i head home l 1 (let half = div-mul-le_self (length l.items) 2 in let room = l.room in omega (arith, half, room, enough))
+    roomed : Roomed p args layout known g heap left n i head l.items 1 makes inner
+    roomed = makes_room p args layout known raised structs n struct makes has.room g heap left inner r i head home l 1 (let half = div-mul-le_self (length l.items) 2 in let room = l.room in omega (arith, half, room, enough))
 
-    m : ListAt layout (kept n) roomed.ghost heap left roomed.blocks roomed.statics n i head
+    m : ListAt layout known roomed.ghost heap left roomed.blocks roomed.statics n i head
     m = roomed.roomy.list
 
     abbrev a : ℕ
@@ -165,7 +166,7 @@ module _ (p : LlProgram) (args : List (List ℕ)) (layout : Layout) (kept : ℕ 
     items_long : length (m.items ++ v ∷ []) ≡ count + 1
     items_long = length-append m.items (v ∷ [])
 
-    changed : ListAt layout (kept n) roomed.ghost (slice_set heap i (Listed (m.items ++ v ∷ []))) (left - 1) blocks2 statics2 n i head
+    changed : ListAt layout known roomed.ghost (slice_set heap i (Listed (m.items ++ v ∷ []))) (left - 1) blocks2 statics2 n i head
     changed = record {
       items = m.items ++ v ∷ [];
       object = get_set_here heap i (Listed (m.items ++ v ∷ [])) (Listed m.items) m.object;
@@ -183,8 +184,8 @@ module _ (p : LlProgram) (args : List (List ℕ)) (layout : Layout) (kept : ℕ 
       room = subst (λ k. HasRoom k (left - 1)) (sym items_long) (let room = m.room in omega (arith, room, enough));
     }
 
-    represents : Represents layout kept roomed.ghost (slice_set heap i (Listed (m.items ++ v ∷ []))) (left - 1) blocks2 statics2
-    represents = list_changes n i head (m.items ++ v ∷ []) roomed.roomy.stands grown_none refl (omega arith) (ap (λ hs. slice_get hs i) roomed.homes ∙ home) (roomed.roomy.stands.made ∙ sym (wrote2.made ∙ wrote1.made)) (wrote2.fixed ∙ wrote1.fixed) (λ x block h. h) others changed
+    represents : Represents layout known roomed.ghost (slice_set heap i (Listed (m.items ++ v ∷ []))) (left - 1) blocks2 statics2
+    represents = list_changes n i head (m.items ++ v ∷ []) roomed.roomy.stands grown_none refl (omega arith) (ap (λ hs. slice_get hs i) roomed.homes ∙ home) (roomed.roomy.stands.made ∙ sym (wrote2.made ∙ wrote1.made)) (wrote2.fixed ∙ wrote1.fixed) (λ x block h. h) others (settled_wrote layout roomed.ghost (settled_wrote layout roomed.ghost roomed.roomy.stands.settled wrote1 (structs.lists_apart n struct).1) wrote2 (structs.lists_apart n struct).0) changed
       where
         others : (x : Value) (u : Use) → use_of roomed.ghost x ≡ Some u → (IsOf i u → ⊥) → found blocks2 statics2 x ≡ found roomed.blocks roomed.statics x
         others x u h other =
@@ -243,13 +244,13 @@ module _ (p : LlProgram) (args : List (List ℕ)) (layout : Layout) (kept : ℕ 
             (leads_then w2.way (many 1 (ap (slice_get p.graphs) (w2.function ∙ w1.function) ∙ has.graph) refl refl)))))))));
       }
 
-    pub appended : Appended p args layout kept g heap left i head value l.items v f core
+    pub appended : Appended p args layout known g heap left i head value l.items v f core
     appended = record {
       blocks = blocks2;
       statics = statics2;
       ghost = roomed.ghost;
       grown = roomed.grown;
-      stands = subst (λ items. Represents layout kept roomed.ghost (slice_set heap i (Listed (items ++ v ∷ []))) (left - 1) blocks2 statics2) same_items represents;
+      stands = subst (λ items. Represents layout known roomed.ghost (slice_set heap i (Listed (items ++ v ∷ []))) (left - 1) blocks2 statics2) same_items represents;
       few = (let x = wrote2.made in let y = wrote1.made in let z = roomed.few in omega (arith, x, y, z));
       returns = λ waits. comes_back waits (sets_item waits);
     }

@@ -49,28 +49,31 @@ use Rattle.lower_laws.proofs.Doing.{after}
 use Rattle.lower_laws.proofs.Stayed.{field_is}
 use Rattle.lower_laws.proofs.Tupled.{given_same}
 use Rattle.lower_laws.proofs.Typing.{place_of_none}
+use Rattle.list_laws.specs.Done.{IsDone}
 use Rattle.list_laws.specs.Asked.{HasAppend, HasAll}
-use Rattle.list_laws.specs.Done.{Follows, HasLists, IsDone, items_in, references}
-use Rattle.list_laws.specs.Ghost.{Ghost}
-use Rattle.list_laws.specs.Lists.{Stays, IsList, if_missing, there_asks, ItemsAreAppended}
-use Rattle.list_laws.specs.Represents.{Represents, ListAt}
-use Rattle.list_laws.specs.Values.{Given, Holds}
+use Rattle.object_laws.specs.Known.{Known}
+use Rattle.object_laws.specs.Done.{Follows, HasLayout, items_in, references}
+use Rattle.object_laws.specs.Ghost.{Ghost, ListOf}
+use Rattle.object_laws.specs.Staying.{Stays}
+use Rattle.list_laws.specs.Lists.{IsList, if_missing, there_asks, ItemsAreAppended}
+use Rattle.object_laws.specs.Represents.{Represents, ListAt}
+use Rattle.object_laws.specs.Values.{Given, Holds}
 use Rattle.list_laws.proofs.Appending.{after_append, does}
-use Rattle.list_laws.proofs.Blocks.{found_set, found_there}
-use Rattle.list_laws.proofs.Held.{gives_placed, gives_holds}
+use Rattle.object_laws.proofs.Blocks.{found_set, found_there}
+use Rattle.object_laws.proofs.Held.{gives_placed, gives_holds}
 use Rattle.list_laws.proofs.Indexed.{asked_both, has_first, has_more}
 use Rattle.list_laws.proofs.Lowered.{list_comes, two_come, first_of_two_is_list}
-use Rattle.list_laws.proofs.Passing.{none_passed, sets_more, is_set_at, operand_kept, behind, calls_at, throws_at, fails_at}
-use Rattle.list_laws.proofs.Present.{present_comes, present_flies, present_fails}
-use Rattle.list_laws.proofs.Stored.{stays_comes}
-use Rattle.list_laws.proofs.Valued.{Listing, Absent, list_or_none, stays_typed, stays_there, stays_held}
+use Rattle.object_laws.proofs.Passing.{none_passed, sets_more, is_set_at, operand_kept, behind, calls_at, throws_at, fails_at}
+use Rattle.object_laws.proofs.Present.{present_comes, present_flies, present_fails}
+use Rattle.object_laws.proofs.Valued.{stays_comes}
+use Rattle.object_laws.proofs.Valued.{Listing, Absent, list_or_none, stays_typed, stays_there, stays_held}
 
 -- what the operation does with a list, and with `None`
 record Adds (o : RowOp) (w : Writing) : Type 0 where
   there : (program : Program) (i : ℕ) (u : Meant) (world : World) (items : List Meant) → slice_get world.heap i ≡ Some (Listed items) → meant_op program w.found.covered o (Ref i ∷ u ∷ []) world ≡ after_append world i items u
   none : (program : Program) (u : Meant) (world : World) → (meant_op program w.found.covered o (Nothing ∷ u ∷ []) world ≡ failure w.found.covered.attribute 9 fail.Attribute world) ⊎ (meant_op program w.found.covered o (Nothing ∷ u ∷ []) world ≡ Bad)
 
-module _ (o : RowOp) (kept : ℕ → Option Element) (around : Around) (place : Place) (a b : Operand) (w : Writing) (n : ℕ) (item : Element) (of : IsList around kept a.element n item) (stay : Stays around.layout b.element (Some item)) (nothing : kind_seen place.element ≡ kind.Nothing)
+module _ (o : RowOp) (known : Known) (around : Around) (place : Place) (a b : Operand) (w : Writing) (n : ℕ) (item : Element) (of : IsList around known a.element n item) (stay : Stays around.layout known b.element (Some item)) (nothing : kind_seen place.element ≡ kind.Nothing)
     (adds : Adds o w) (l : lower_list_op around o place (a ∷ b ∷ []) w ≡ append around place a b w) where
   abbrev appends : Small
   appends = small.Listed (listed.Append n)
@@ -114,19 +117,19 @@ module _ (o : RowOp) (kept : ℕ → Option Element) (around : Around) (place : 
   -- ---- once the list is there
 
   module _ (p : LlProgram) (raised : ℕ → Value) (arguments : List (List ℕ)) (rest : List LlOp) (e : LlExit) (frames : List Frame) (core : Core) (g : Ghost) (world : World)
-      (structs : HasLists p around.layout) (has : HasAppend p around.layout raised n number)
-      (stands : Represents around.layout kept g world.heap world.left core.blocks core.statics) (left : world.left ≡ core.steps) (inside : place.variable < length core.vars)
-      (x : COperand) (head : Value) (x_is : operand core.vars x ≡ head) (i : ℕ) (struct : is_list around.layout n ≡ true) (home : slice_get g.homes i ≡ Some (record { struct = n; head = head }))
-      (value : Value) (u : Meant) (y_is : operand core.vars b.x ≡ value) (held : Holds around.layout g b.element value u) (program : Program) where
-    in_place : Holds around.layout g (kept n) value u
-    in_place = subst (λ seen. Holds around.layout g seen value u) (sym of.known) (stays_held stay held)
+      (structs : HasLayout p around.layout) (has : HasAppend p around.layout raised n number)
+      (stands : Represents around.layout known g world.heap world.left core.blocks core.statics) (left : world.left ≡ core.steps) (inside : place.variable < length core.vars)
+      (x : COperand) (head : Value) (x_is : operand core.vars x ≡ head) (i : ℕ) (struct : is_list around.layout n ≡ true) (home : slice_get g.homes i ≡ Some (record { sort = ListOf n; head = head }))
+      (value : Value) (u : Meant) (y_is : operand core.vars b.x ≡ value) (held : Holds around.layout known g b.element value u) (program : Program) where
+    in_place : Holds around.layout known g (known.items n) value u
+    in_place = subst (λ seen. Holds around.layout known g seen value u) (sym of.item_is) (stays_held stay held)
 
-    done : (below : ℕ) → Follows kept around place p arguments (At (op.Call None number (x ∷ b.x ∷ []) ∷ puts ∷ rest) e frames core) rest e frames core g raised (references world.heap (Ref i ∷ u ∷ [])) below world (meant_op program w.found.covered o (Ref i ∷ u ∷ []) world)
+    done : (below : ℕ) → Follows 2 known around place p arguments (At (op.Call None number (x ∷ b.x ∷ []) ∷ puts ∷ rest) e frames core) rest e frames core g raised (references world.heap (Ref i ∷ u ∷ [])) below world (meant_op program w.found.covered o (Ref i ∷ u ∷ []) world)
     done below =
-        let list : ListAt around.layout (kept n) g world.heap world.left core.blocks core.statics n i head = stands.lists n i head home struct in
+        let list : ListAt around.layout known g world.heap world.left core.blocks core.statics n i head = stands.lists n i head home struct in
         let few : items_in (slice_get world.heap i) ≡ length list.items = ap items_in list.object in
-        subst (λ answer. Follows kept around place p arguments (At (op.Call None number (x ∷ b.x ∷ []) ∷ puts ∷ rest) e frames core) rest e frames core g raised (references world.heap (Ref i ∷ u ∷ [])) below world answer) (sym (adds.there program i u world list.items list.object))
-        (does kept around place p raised arguments rest e frames core g (references world.heap (Ref i ∷ u ∷ [])) below world structs n number struct has stands left inside nothing x b.x head value u x_is y_is i home in_place (omega (arith, few)))
+        subst (λ answer. Follows 2 known around place p arguments (At (op.Call None number (x ∷ b.x ∷ []) ∷ puts ∷ rest) e frames core) rest e frames core g raised (references world.heap (Ref i ∷ u ∷ [])) below world answer) (sym (adds.there program i u world list.items list.object))
+        (does known around place p raised arguments rest e frames core g (references world.heap (Ref i ∷ u ∷ [])) below world structs n number struct has stands left inside nothing x b.x head value u x_is y_is i home in_place (omega (arith, few)))
 
   -- ---- a list that is there
 
@@ -145,35 +148,35 @@ module _ (o : RowOp) (kept : ℕ → Option Element) (around : Around) (place : 
     list_ops = op.Call None number (a.x ∷ b.x ∷ []) ∷ puts ∷ []
 
     list_follow : (program : Program) (p : LlProgram) (numbers : Numbers) (raised : ℕ → Value) (arguments : List (List ℕ)) (rest : List LlOp) (e : LlExit) (frames : List Frame) (core : Core) (g : Ghost) (world : World) (vs : List Meant)
-        → HasLists p around.layout → HasAll p around.layout numbers raised core asks w.found → Represents around.layout kept g world.heap world.left core.blocks core.statics → world.left ≡ core.steps → length w.body.types + 0 ≤ length core.vars → place.variable < length w.body.types → Given around g core (a ∷ b ∷ []) vs
-        → Follows kept around place p arguments (At (list_ops ++ rest) e frames core) rest e frames core g raised (references world.heap vs) (length w.body.types) world (meant_op program w.found.covered o vs world)
+        → HasLayout p around.layout → HasAll p around.layout numbers raised core asks w.found → Represents around.layout known g world.heap world.left core.blocks core.statics → world.left ≡ core.steps → length w.body.types + 0 ≤ length core.vars → place.variable < length w.body.types → Given known around g core (a ∷ b ∷ []) vs
+        → Follows 2 known around place p arguments (At (list_ops ++ rest) e frames core) rest e frames core g raised (references world.heap vs) (length w.body.types) world (meant_op program w.found.covered o vs world)
     list_follow program p numbers raised arguments rest e frames core g world [] structs has stands left room inside given = absurd given
     list_follow program p numbers raised arguments rest e frames core g world (v ∷ []) structs has stands left room inside given = absurd given.1
     list_follow program p numbers raised arguments rest e frames core g world (v ∷ u ∷ []) structs has stands left room inside given = by (list_or_none of.is given.0)
       where
         Done : Meant → Type 0
-        Done v = Follows kept around place p arguments (At (list_ops ++ rest) e frames core) rest e frames core g raised (references world.heap (v ∷ u ∷ [])) (length w.body.types) world (meant_op program w.found.covered o (v ∷ u ∷ []) world)
+        Done v = Follows 2 known around place p arguments (At (list_ops ++ rest) e frames core) rest e frames core g raised (references world.heap (v ∷ u ∷ [])) (length w.body.types) world (meant_op program w.found.covered o (v ∷ u ∷ []) world)
 
         has_append : HasAppend p around.layout raised n number
         has_append = (has_more p around numbers raised core (there_asks around a w.found.covered) (Make appends ∷ []) w.found has).0
 
-        by : Listing around.layout g a.element (operand core.vars a.x) v ⊎ Absent a.element (operand core.vars a.x) v → Done v
+        by : Listing around.layout known g a.element (operand core.vars a.x) v ⊎ Absent a.element (operand core.vars a.x) v → Done v
         by (inl it) =
             let same : it.n ≡ n = ap pointed (sym it.typed ∙ of.typed) in
             subst Done (sym it.high)
             (done p raised arguments rest e frames core g world structs has_append stands left (omega (arith, room, inside)) a.x (operand core.vars a.x) refl it.i (subst (λ k. is_list around.layout k ≡ true) same it.struct)
-            (subst (λ k. slice_get g.homes it.i ≡ Some (record { struct = k; head = operand core.vars a.x })) same it.home) (operand core.vars b.x) u refl given.1.0 program (length w.body.types))
+            (subst (λ k. slice_get g.homes it.i ≡ Some (record { sort = ListOf k; head = operand core.vars a.x })) same it.home) (operand core.vars b.x) u refl given.1.0 program (length w.body.types))
         by (inr gone) = (let q : kind.List ≡ kind.MaybeList = sym h ∙ gone.may in absurd (cc))
     list_follow program p numbers raised arguments rest e frames core g world (v ∷ u ∷ s ∷ vs) structs has stands left room inside given = absurd given.1.1
 
-    list_done : IsDone kept around o w.found.covered asks place (a ∷ b ∷ []) w
+    list_done : IsDone known around o w.found.covered asks place (a ∷ b ∷ []) w
     list_done = record {
       ops = list_ops;
       new = [];
       asked = ap (λ (r : Writing). r.found) (written_from a.x (writing first w.body) there_is) ∙ sym (asked_both (there_asks around a w.found.covered) (Make appends ∷ []) w.found);
       written = ap (λ (r : Writing). r.body.ops) (written_from a.x (writing first w.body) there_is) ∙ append_assoc w.body.ops (op.Call None number (a.x ∷ b.x ∷ []) ∷ []) (puts ∷ []);
       types = ap (λ (r : Writing). r.body.types) (written_from a.x (writing first w.body) there_is) ∙ sym (append-nil w.body.types);
-      follows = λ program p numbers raised arguments rest e frames core g world vs texts structs has stands left room inside below given. list_follow program p numbers raised arguments rest e frames core g world vs structs has stands left room inside given;
+      follows = λ p numbers raised arguments rest e frames core g world vs structs has stands left room inside below given good. list_follow known.program p numbers raised arguments rest e frames core g world vs structs has stands left room inside given;
     }
 
   -- ---- one that may be missing
@@ -209,7 +212,7 @@ module _ (o : RowOp) (kept : ℕ → Option Element) (around : Around) (place : 
 
     module _ (p : LlProgram) (raised : ℕ → Value) (arguments : List (List ℕ)) (rest : List LlOp) (e : LlExit) (frames : List Frame) (core : Core) (g : Ghost) (world : World) where
       abbrev Whole : Meant → Meant → Answer → Type 0
-      Whole v u answer = Follows kept around place p arguments (At (maybe_ops ++ rest) e frames core) rest e frames core g raised (references world.heap (v ∷ u ∷ [])) m world answer
+      Whole v u answer = Follows 2 known around place p arguments (At (maybe_ops ++ rest) e frames core) rest e frames core g raised (references world.heap (v ∷ u ∷ [])) m world answer
 
       abbrev mid : Core
       mid = after core m (operand core.vars a.x)
@@ -218,23 +221,23 @@ module _ (o : RowOp) (kept : ℕ → Option Element) (around : Around) (place : 
       Behind = At (op.Call None number (Var m ∷ b.x ∷ []) ∷ puts ∷ rest) e frames mid
 
       -- what comes behind the test, also where the steps do not suffice
-      all_behind : (v u : Meant) (i : ℕ) (items : List Meant) → Leads p arguments 0 (At (maybe_ops ++ rest) e frames core) [] Behind → Follows kept around place p arguments Behind rest e frames mid g raised (references world.heap (v ∷ u ∷ [])) m world (after_append world i items u) → Whole v u (after_append world i items u)
+      all_behind : (v u : Meant) (i : ℕ) (items : List Meant) → Leads p arguments 0 (At (maybe_ops ++ rest) e frames core) [] Behind → Follows 2 known around place p arguments Behind rest e frames mid g raised (references world.heap (v ∷ u ∷ [])) m world (after_append world i items u) → Whole v u (after_append world i items u)
       all_behind v u i items way d = by (nat_lt world.left 1) d
         where
           given_so : Answer
           given_so = Gives Nothing (record world { heap = slice_set world.heap i (Listed (items ++ u ∷ [])); left = world.left - 1 })
 
-          by : (c : Bool) → Follows kept around place p arguments Behind rest e frames mid g raised (references world.heap (v ∷ u ∷ [])) m world (if c then Lacks else given_so) → Whole v u (if c then Lacks else given_so)
+          by : (c : Bool) → Follows 2 known around place p arguments Behind rest e frames mid g raised (references world.heap (v ∷ u ∷ [])) m world (if c then Lacks else given_so) → Whole v u (if c then Lacks else given_so)
           by true d = record { last = d.last; leads = on way d.leads; ends = d.ends; blocks = d.blocks; holds = λ placed x k. gives_holds p m present_number a.x (op.Call None number (Var m ∷ b.x ∷ []) ∷ puts ∷ rest) e frames core x (d.holds (gives_placed p m present_number a.x (op.Call None number (Var m ∷ b.x ∷ []) ∷ puts ∷ rest) e frames core placed) x k) }
-          by false d = behind kept around place p arguments rest e frames core g raised (references world.heap (v ∷ u ∷ [])) m world (sets_more m (operand core.vars a.x) (omega arith) none_passed) way given_so tt d
+          by false d = behind 2 known around place p arguments rest e frames core g raised (references world.heap (v ∷ u ∷ [])) m world (sets_more m (operand core.vars a.x) (omega arith) none_passed) way given_so tt d
 
       missing_fails : (v u : Meant) → operand core.vars a.x ≡ Null → (c : Bool) → HasSmall p around.layout raised (small.Present (type_of around a) c) present_number → Whole v u (failure c 9 fail.Attribute world)
       missing_fails v u low true s = throws_at (ap (λ x. x ∷ []) low) refl (op.Call None number (Var m ∷ b.x ∷ []) ∷ puts ∷ []) rest (present_flies p around.layout arguments raised (type_of around a) present_number core s)
       missing_fails v u low false s = fails_at (ap (λ x. x ∷ []) low) refl (op.Call None number (Var m ∷ b.x ∷ []) ∷ puts ∷ rest) (present_fails p around.layout arguments raised (type_of around a) present_number core s)
 
     maybe_follow : (program : Program) (p : LlProgram) (numbers : Numbers) (raised : ℕ → Value) (arguments : List (List ℕ)) (rest : List LlOp) (e : LlExit) (frames : List Frame) (core : Core) (g : Ghost) (world : World) (vs : List Meant)
-        → HasLists p around.layout → HasAll p around.layout numbers raised core asks w.found → Represents around.layout kept g world.heap world.left core.blocks core.statics → world.left ≡ core.steps → length w.body.types + 1 ≤ length core.vars → place.variable < length w.body.types → AllBelow (length w.body.types) (a ∷ b ∷ []) → Given around g core (a ∷ b ∷ []) vs
-        → Follows kept around place p arguments (At (maybe_ops ++ rest) e frames core) rest e frames core g raised (references world.heap vs) (length w.body.types) world (meant_op program w.found.covered o vs world)
+        → HasLayout p around.layout → HasAll p around.layout numbers raised core asks w.found → Represents around.layout known g world.heap world.left core.blocks core.statics → world.left ≡ core.steps → length w.body.types + 1 ≤ length core.vars → place.variable < length w.body.types → AllBelow (length w.body.types) (a ∷ b ∷ []) → Given known around g core (a ∷ b ∷ []) vs
+        → Follows 2 known around place p arguments (At (maybe_ops ++ rest) e frames core) rest e frames core g raised (references world.heap vs) (length w.body.types) world (meant_op program w.found.covered o vs world)
     maybe_follow program p numbers raised arguments rest e frames core g world [] structs has stands left room inside under given = absurd given
     maybe_follow program p numbers raised arguments rest e frames core g world (v ∷ []) structs has stands left room inside under given = absurd given.1
     maybe_follow program p numbers raised arguments rest e frames core g world (v ∷ u ∷ []) structs has stands left room inside under given = by (list_or_none of.is given.0)
@@ -251,10 +254,10 @@ module _ (o : RowOp) (kept : ℕ → Option Element) (around : Around) (place : 
         head : Value
         head = operand core.vars a.x
 
-        by : Listing around.layout g a.element (operand core.vars a.x) v ⊎ Absent a.element (operand core.vars a.x) v → Done v
+        by : Listing around.layout known g a.element (operand core.vars a.x) v ⊎ Absent a.element (operand core.vars a.x) v → Done v
         by (inl it) = subst Done (sym it.high) (subst (Whole p raised arguments rest e frames core g world (Ref it.i) u) (sym (adds.there program it.i u world list.items list.object))
             (all_behind p raised arguments rest e frames core g world (Ref it.i) u it.i list.items way
-            (subst (λ answer. Follows kept around place p arguments (Behind p raised arguments rest e frames core g world) rest e frames (after core m head) g raised (references world.heap (Ref it.i ∷ u ∷ [])) m world answer) (adds.there program it.i u world list.items list.object)
+            (subst (λ answer. Follows 2 known around place p arguments (Behind p raised arguments rest e frames core g world) rest e frames (after core m head) g raised (references world.heap (Ref it.i ∷ u ∷ [])) m world answer) (adds.there program it.i u world list.items list.object)
             (done p raised arguments rest e frames (after core m head) g world structs has_append stands left (let q = length-set core.vars m head in omega (arith, room, inside, q)) (Var m) head (is_set_at core m head (omega (arith, room))) it.i struct home (operand core.vars b.x) u
             (operand_kept {below = m} {core = core} {mid = after core m head} (sets_more m head (omega arith) none_passed) b.x under.1.0) given.1.0 program m))))
           where
@@ -264,10 +267,10 @@ module _ (o : RowOp) (kept : ℕ → Option Element) (around : Around) (place : 
             struct : is_list around.layout n ≡ true
             struct = subst (λ k. is_list around.layout k ≡ true) same it.struct
 
-            home : slice_get g.homes it.i ≡ Some (record { struct = n; head = head })
-            home = subst (λ k. slice_get g.homes it.i ≡ Some (record { struct = k; head = head })) same it.home
+            home : slice_get g.homes it.i ≡ Some (record { sort = ListOf n; head = head })
+            home = subst (λ k. slice_get g.homes it.i ≡ Some (record { sort = ListOf k; head = head })) same it.home
 
-            list : ListAt around.layout (kept n) g world.heap world.left core.blocks core.statics n it.i head
+            list : ListAt around.layout known g world.heap world.left core.blocks core.statics n it.i head
             list = stands.lists n it.i head home struct
 
             way : Leads p arguments 0 (At (maybe_ops ++ rest) e frames core) [] (At (op.Call None number (Var m ∷ b.x ∷ []) ∷ puts ∷ rest) e frames (after core m head))
@@ -279,36 +282,36 @@ module _ (o : RowOp) (kept : ℕ → Option Element) (around : Around) (place : 
             fails (inr q) = subst (Whole p raised arguments rest e frames core g world Nothing u) (sym q) tt
     maybe_follow program p numbers raised arguments rest e frames core g world (v ∷ u ∷ s ∷ vs) structs has stands left room inside under given = absurd given.1.1
 
-    maybe_done : IsDone kept around o w.found.covered asks place (a ∷ b ∷ []) w
+    maybe_done : IsDone known around o w.found.covered asks place (a ∷ b ∷ []) w
     maybe_done = record {
       ops = maybe_ops;
       new = type_of around a ∷ [];
       asked = ap (λ (r : Writing). r.found) (written_from (Var m) next maybe_is) ∙ sym (asked_both (there_asks around a w.found.covered) (Make appends ∷ []) w.found);
       written = ap (λ (r : Writing). r.body.ops) (written_from (Var m) next maybe_is) ∙ append_assoc (w.body.ops ++ asks_present ∷ []) (op.Call None number (Var m ∷ b.x ∷ []) ∷ []) (puts ∷ []) ∙ append_assoc w.body.ops (asks_present ∷ []) (op.Call None number (Var m ∷ b.x ∷ []) ∷ puts ∷ []);
       types = ap (λ (r : Writing). r.body.types) (written_from (Var m) next maybe_is);
-      follows = λ program p numbers raised arguments rest e frames core g world vs texts structs has stands left room inside below given. maybe_follow program p numbers raised arguments rest e frames core g world vs structs has stands left room inside below given;
+      follows = λ p numbers raised arguments rest e frames core g world vs structs has stands left room inside below given good. maybe_follow known.program p numbers raised arguments rest e frames core g world vs structs has stands left room inside below given;
     }
 
   -- ---- either
 
-  by_kind : (k : Kind) → kind_of a ≡ k → of_list k ≡ true → IsDone kept around o w.found.covered asks place (a ∷ b ∷ []) w
+  by_kind : (k : Kind) → kind_of a ≡ k → of_list k ≡ true → IsDone known around o w.found.covered asks place (a ∷ b ∷ []) w
   by_kind kind.List h is = list_done h
   by_kind kind.MaybeList h is = maybe_done h
   by_kind _ h is = absurd (cc)
 
-  append_done : IsDone kept around o w.found.covered asks place (a ∷ b ∷ []) w
+  append_done : IsDone known around o w.found.covered asks place (a ∷ b ∷ []) w
   append_done = by_kind (kind_of a) refl of.is
 
 -- ---- the operations
 
 pub method_appends : (site : Option ℕ) → ItemsAreAppended (row.Method (codes "append") site)
 unfolding lowered method_of method_of_two method_of_list method of_two
-method_appends site kept around place a b w n item of stay nothing = append_done (row.Method (codes "append") site) kept around place a b w n item of stay nothing
+method_appends site known around place a b w n item of stay nothing = append_done (row.Method (codes "append") site) known around place a b w n item of stay nothing
     (record { there = λ program i u world items h. ap (λ o. object_method program w.found.covered (codes "append") i (u ∷ []) o world) h; none = λ program u world. inl refl })
-    (two_come around (row.Method (codes "append") site) place a b w (list_comes a of.is) (stays_comes around b (Some item) stay) ∙ ap (λ c. if c then append around place a b w else lower_op around (row.Method (codes "append") site) place (a ∷ b ∷ []) w) of.is)
+    (two_come around (row.Method (codes "append") site) place a b w (list_comes a of.is) (stays_comes stay) ∙ ap (λ c. if c then append around place a b w else lower_op around (row.Method (codes "append") site) place (a ∷ b ∷ []) w) of.is)
 
 pub comprehension_appends : ItemsAreAppended row.AddItem
 unfolding lowered of_some first_of_two
-comprehension_appends kept around place a b w n item of stay nothing = append_done row.AddItem kept around place a b w n item of stay nothing
+comprehension_appends known around place a b w n item of stay nothing = append_done row.AddItem known around place a b w n item of stay nothing
     (record { there = λ program i u world items h. ap (λ o. on_list (λ vs. paying item_cost (set_object i (Listed (vs ++ u ∷ [])) Nothing)) o world) h; none = λ program u world. inr refl })
-    (two_come around row.AddItem place a b w (list_comes a of.is) (stays_comes around b (Some item) stay) ∙ first_of_two_is_list around row.AddItem place a b w of.is)
+    (two_come around row.AddItem place a b w (list_comes a of.is) (stays_comes stay) ∙ first_of_two_is_list around row.AddItem place a b w of.is)

@@ -35,9 +35,9 @@ use Rattle.csub_tree.specs.declared.tree.CBinary.TheVariants as binary
 use Rattle.list_shape.specs.Shapes.{item_of}
 use Rattle.list_loops.specs.Loops.{copy_types, copy_set, copied, copy_start, copy_asks, copy_turn, copy_graph, copy_items}
 use Rattle.lower_laws.proofs.Doing.{same_type_is}
-use Rattle.list_laws.proofs.Blocks.{found_set, reach_own, reads_item}
-use Rattle.list_laws.proofs.Calling.{Returns}
-use Rattle.list_laws.proofs.Made.{found_more}
+use Rattle.object_laws.proofs.Blocks.{found_set, reach_own, reads_item}
+use Rattle.object_laws.proofs.Calling.{Returns}
+use Rattle.object_laws.proofs.Made.{found_more}
 
 -- ---- the graph, where both arrays have one type
 

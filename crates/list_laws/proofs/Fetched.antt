@@ -22,13 +22,14 @@ use Rattle.rtyper_layout.specs.Layout.{is_list}
 use Rattle.rtyper_layout.specs.Types.{word}
 use Rattle.lower_laws.specs.Values.{IsBelow}
 use Rattle.lower_laws.proofs.Doing.{after}
-use Rattle.list_laws.specs.Done.{HasLists}
-use Rattle.list_laws.specs.Ghost.{Ghost}
-use Rattle.list_laws.specs.Represents.{Represents, ListAt, head_block, array_block}
-use Rattle.list_laws.specs.Values.{Holds}
-use Rattle.list_laws.proofs.Blocks.{found_set, reads_field, reads_item}
-use Rattle.list_laws.proofs.Passing.{is_set_at, is_kept_at}
-use Rattle.list_laws.proofs.Valued.{each_at, held_set}
+use Rattle.object_laws.specs.Known.{Known}
+use Rattle.object_laws.specs.Done.{HasLayout}
+use Rattle.object_laws.specs.Ghost.{Ghost}
+use Rattle.object_laws.specs.Represents.{Represents, ListAt, head_block, array_block}
+use Rattle.object_laws.specs.Values.{Holds}
+use Rattle.object_laws.proofs.Blocks.{found_set, reads_field, reads_item}
+use Rattle.object_laws.proofs.Passing.{is_set_at, is_kept_at}
+use Rattle.object_laws.proofs.Valued.{each_at, held_set}
 
 -- of an operand, where another variable is set
 other_kept : (core : Core) (m : ℕ) (value : Value) (x : COperand) → IsBelow m x → operand (after core m value).vars x ≡ operand core.vars x
@@ -36,17 +37,17 @@ other_kept core m value (Var v) h = is_kept_at core m v value (λ q. omega (arit
 other_kept core m value (Const c) h = refl
 
 -- what the ways to an item have
-pub record Fetched (p : LlProgram) (arguments : List (List ℕ)) (layout : Layout) (seen : Option Element) (g : Ghost) (n x m k : ℕ) (at : COperand) (array : Value) (v : Meant) (rest : List LlOp) (e : LlExit) (frames : List Frame) (core : Core) : Type 0 where
+pub record Fetched (p : LlProgram) (arguments : List (List ℕ)) (layout : Layout) (known : Known) (seen : Option Element) (g : Ghost) (n x m k : ℕ) (at : COperand) (array : Value) (v : Meant) (rest : List LlOp) (e : LlExit) (frames : List Frame) (core : Core) : Type 0 where
   pub value : Value
   pub set : is_unset value ≡ false
-  pub held : Holds layout g seen value v
+  pub held : Holds layout known g seen value v
   pub way : Leads p arguments 0 (At (op.GetField m n x 1 ∷ op.GetItem k (word (n + 1)) m at ∷ rest) e frames core) [] (At rest e frames (after (after core m array) k value))
   pub is : read (after (after core m array) k value).vars k ≡ value
 
-module _ {p : LlProgram} {arguments : List (List ℕ)} {layout : Layout} {kept : ℕ → Option Element} {g : Ghost} {heap : Heap} {left n i : ℕ} {head : Value} {rest : List LlOp} {e : LlExit} {frames : List Frame} {core : Core}
-    (structs : HasLists p layout) (struct : is_list layout n ≡ true) (stands : Represents layout kept g heap left core.blocks core.statics) (here : ListAt layout (kept n) g heap left core.blocks core.statics n i head) where
+module _ {p : LlProgram} {arguments : List (List ℕ)} {layout : Layout} {known : Known} {g : Ghost} {heap : Heap} {left n i : ℕ} {head : Value} {rest : List LlOp} {e : LlExit} {frames : List Frame} {core : Core}
+    (structs : HasLayout p layout) (struct : is_list layout n ≡ true) (stands : Represents layout known g heap left core.blocks core.statics) (here : ListAt layout known g heap left core.blocks core.statics n i head) where
   pub fetched : (x m k : ℕ) (at : COperand) (place : ℕ) (v : Meant) → read core.vars x ≡ head → operand core.vars at ≡ Word (pos place) → IsBelow m at → m < k → k < length core.vars → slice_get here.items place ≡ Some v
-      → Fetched p arguments layout (kept n) g n x m k at here.array v rest e frames core
+      → Fetched p arguments layout known (known.items n) g n x m k at here.array v rest e frames core
   fetched x m k at place v head_at place_at before order wide there =
       let it = each_at here.spare place v here.each there in
       let value_set : is_unset it.value ≡ false = held_set stands it.held in

@@ -50,25 +50,28 @@ use Rattle.lower_laws.proofs.Doing.{after}
 use Rattle.lower_laws.proofs.Items.{gives_same}
 use Rattle.lower_laws.proofs.Single.{sets}
 use Rattle.lower_laws.proofs.Stayed.{field_is}
+use Rattle.list_laws.specs.Done.{IsDone}
 use Rattle.list_laws.specs.Asked.{HasList, HasAll}
-use Rattle.list_laws.specs.Done.{Follows, HasLists, IsDone, references}
-use Rattle.list_laws.specs.Ghost.{Ghost}
-use Rattle.list_laws.specs.Lists.{Stays, IsList, if_missing, there_asks, ItemsAreRead}
-use Rattle.list_laws.specs.Represents.{Represents, ListAt}
-use Rattle.list_laws.specs.Values.{Given, Holds}
-use Rattle.list_laws.proofs.Blocks.{found_set, found_there}
+use Rattle.object_laws.specs.Known.{Known}
+use Rattle.object_laws.specs.Done.{Follows, HasLayout, references}
+use Rattle.object_laws.specs.Ghost.{Ghost, ListOf}
+use Rattle.object_laws.specs.Staying.{Stays}
+use Rattle.list_laws.specs.Lists.{IsList, if_missing, there_asks, ItemsAreRead}
+use Rattle.object_laws.specs.Represents.{Represents, ListAt}
+use Rattle.object_laws.specs.Values.{Given, Holds}
+use Rattle.object_laws.proofs.Blocks.{found_set, found_there}
 use Rattle.list_laws.proofs.Fetched.{fetched}
 use Rattle.list_laws.proofs.Lengths.{count_fits}
 use Rattle.list_laws.proofs.Lowered.{list_comes, two_come, first_of_two_is_list}
-use Rattle.list_laws.proofs.Passing.{Pays, none_passed, sets_more, sets_last, is_set_at, is_kept_at, operand_kept, behind, calls_at, throws_at, fails_at}
+use Rattle.object_laws.proofs.Passing.{Pays, none_passed, sets_more, sets_last, is_set_at, is_kept_at, operand_kept, behind, calls_at, throws_at, fails_at}
 use Rattle.list_laws.proofs.Places.{PlaceGoes, place_is}
 use Rattle.list_laws.proofs.There.{Entered, entered}
-use Rattle.list_laws.proofs.Valued.{Listing, Absent, list_or_none, word_held, stays_typed, stays_there, stays_held, each_long}
+use Rattle.object_laws.proofs.Valued.{Listing, Absent, list_or_none, word_held, stays_typed, stays_there, stays_held, each_long}
 
 -- ---- what is asked for
 
 -- which failures are covered stays
-number_covers : (s : Small) (found : Found) → (small_number s found).1.covered ≡ found.covered
+pub number_covers : (s : Small) (found : Found) → (small_number s found).1.covered ≡ found.covered
 unfolding small_number
 number_covers s found = by (small_from 0 found.smalls s)
   where
@@ -123,7 +126,7 @@ place_inside (negsuc i) n k e = by (nat_lt i n) refl e
 
 -- ---- an index
 
-module _ (kept : ℕ → Option Element) (around : Around) (place : Place) (a b : Operand) (w : Writing) (literal : Option ℤ) (n : ℕ) (item : Element) (of : IsList around kept a.element n item) (words : kind_of b ≡ kind.Word) (stay : Stays around.layout (Some item) place.element) where
+module _ (known : Known) (around : Around) (place : Place) (a b : Operand) (w : Writing) (literal : Option ℤ) (n : ℕ) (item : Element) (of : IsList around known a.element n item) (words : kind_of b ≡ kind.Word) (stay : Stays around.layout known (Some item) place.element) where
   ent : Entered around a w
   ent = entered around a w of.is
 
@@ -207,14 +210,14 @@ module _ (kept : ℕ → Option Element) (around : Around) (place : Place) (a b 
   -- ---- once the list is in its variable
 
   module _ (p : LlProgram) (raised : ℕ → Value) (arguments : List (List ℕ)) (rest : List LlOp) (e : LlExit) (frames : List Frame) (core : Core) (g : Ghost) (most : ℕ) (world : World)
-      (structs : HasLists p around.layout) (has : HasList p around.layout raised (listed.Place n w.found.covered.index) number)
-      (stands : Represents around.layout kept g world.heap world.left core.blocks core.statics) (left : world.left ≡ core.steps)
+      (structs : HasLayout p around.layout) (has : HasList p around.layout raised (listed.Place n w.found.covered.index) number)
+      (stands : Represents around.layout known g world.heap world.left core.blocks core.statics) (left : world.left ≡ core.steps)
       (room : m1 + 3 ≤ length core.vars) (inside : place.variable < length w.body.types) (before : ent.x < m1)
-      (head : Value) (z : ℤ) (at : read core.vars ent.x ≡ head) (index_at : operand core.vars b.x ≡ Word z) (i : ℕ) (struct : is_list around.layout n ≡ true) (home : slice_get g.homes i ≡ Some (record { struct = n; head = head })) where
+      (head : Value) (z : ℤ) (at : read core.vars ent.x ≡ head) (index_at : operand core.vars b.x ≡ Word z) (i : ℕ) (struct : is_list around.layout n ≡ true) (home : slice_get g.homes i ≡ Some (record { sort = ListOf n; head = head })) where
     abbrev There : State
     There = At (calls ∷ gets_array ∷ gets_item ∷ puts ∷ rest) e frames core
 
-    here : ListAt around.layout (kept n) g world.heap world.left core.blocks core.statics n i head
+    here : ListAt around.layout known g world.heap world.left core.blocks core.statics n i head
     here = stands.lists n i head home struct
 
     abbrev count : ℕ
@@ -239,32 +242,32 @@ module _ (kept : ℕ → Option Element) (around : Around) (place : Place) (a b 
     types_before = (let l : m1 ≡ length w.body.types + length ent.new = length-append w.body.types ent.new in omega (arith, l))
 
     gives_item : (k : ℕ) (v : Meant) → slice_get here.items k ≡ Some v → PlaceGoes p around.layout arguments raised n number core head here.array count (structs.heads n struct) here.head_is few w.found.covered.index z (Some k)
-        → Follows kept around place p arguments There rest e frames core g raised most (length w.body.types) world (Gives v world)
+        → Follows 2 known around place p arguments There rest e frames core g raised most (length w.body.types) world (Gives v world)
     gives_item k v found_item comes =
         let core1 : Core = after core m1 (Word (pos k)) in
         let long : length core1.vars ≡ length core.vars = length-set core.vars m1 (Word (pos k)) in
         let head_at : read core1.vars ent.x ≡ head = is_kept_at core m1 ent.x (Word (pos k)) (λ q. omega (arith, before, q)) ∙ at in
         let it = fetched structs struct stands here ent.x m2 m3 (Var m1) k v head_at (is_set_at core m1 (Word (pos k)) (omega (arith, room))) (omega (arith, m2_is)) (omega (arith, m2_is, m3_is)) (omega (arith, room, long, m3_is)) found_item in
-        let held : Holds around.layout g (Some item) it.value v = subst (λ seen. Holds around.layout g seen it.value v) of.known it.held in
+        let held : Holds around.layout known g (Some item) it.value v = subst (λ seen. Holds around.layout known g seen it.value v) of.item_is it.held in
         sets_last most (length w.body.types) (after (after core1 m2 here.array) m3 it.value) it.value v stands left
         (sets_more m3 it.value (omega (arith, types_before, m3_is)) (sets_more m2 here.array (omega (arith, types_before, m2_is)) (sets_more m1 (Word (pos k)) types_before none_passed))) (omega (arith, inside, types_before, room))
         (on (calls_at same set comes) (on it.way (sets it.value it.is it.set))) (stays_held stay held)
 
     outside_of : (c : Bool) → PlaceGoes p around.layout arguments raised n number core head here.array count (structs.heads n struct) here.head_is few c z None
-        → Follows kept around place p arguments There rest e frames core g raised most (length w.body.types) world (failure c 6 fail.Index world)
+        → Follows 2 known around place p arguments There rest e frames core g raised most (length w.body.types) world (failure c 6 fail.Index world)
     outside_of true flies = throws_at same set (gets_array ∷ gets_item ∷ puts ∷ []) rest flies
     outside_of false ends = fails_at same set (gets_array ∷ gets_item ∷ puts ∷ rest) ends
 
     chosen : (o : Option ℕ) → meant_place z count ≡ o → PlaceGoes p around.layout arguments raised n number core head here.array count (structs.heads n struct) here.head_is few w.found.covered.index z o
-        → Follows kept around place p arguments There rest e frames core g raised most (length w.body.types) world (if_some (index_error w.found.covered) (option_and_then (slice_get here.items) o) give world)
+        → Follows 2 known around place p arguments There rest e frames core g raised most (length w.body.types) world (if_some (index_error w.found.covered) (option_and_then (slice_get here.items) o) give world)
     chosen None q goes = outside_of w.found.covered.index goes
     chosen (Some k) q goes = by (slice_get here.items k) refl
       where
-        by : (o : Option Meant) → slice_get here.items k ≡ o → Follows kept around place p arguments There rest e frames core g raised most (length w.body.types) world (if_some (index_error w.found.covered) o give world)
+        by : (o : Option Meant) → slice_get here.items k ≡ o → Follows 2 known around place p arguments There rest e frames core g raised most (length w.body.types) world (if_some (index_error w.found.covered) o give world)
         by None none = absurd (inside_some here.items k (place_inside z count k q) none)
         by (Some v) some = gives_item k v some goes
 
-    reads : Fits z → Follows kept around place p arguments There rest e frames core g raised most (length w.body.types) world (if_some (index_error w.found.covered) (item_at z here.items) give world)
+    reads : Fits z → Follows 2 known around place p arguments There rest e frames core g raised most (length w.body.types) world (if_some (index_error w.found.covered) (item_at z here.items) give world)
     reads fits = chosen (meant_place z count) refl (place_is p around.layout arguments raised n number core head here.array count (structs.heads n struct) here.head_is few w.found.covered.index z has fits)
 
     pays_items : (o : Option Meant) → Pays (if_some (index_error w.found.covered) o give world)
@@ -278,15 +281,15 @@ module _ (kept : ℕ → Option Element) (around : Around) (place : Place) (a b 
   -- ---- the whole
 
   module _ (program : Program) (p : LlProgram) (numbers : Numbers) (raised : ℕ → Value) (arguments : List (List ℕ)) (rest : List LlOp) (e : LlExit) (frames : List Frame) (core : Core) (g : Ghost) (world : World)
-      (structs : HasLists p around.layout) (has : HasAll p around.layout numbers raised core asks w.found)
-      (stands : Represents around.layout kept g world.heap world.left core.blocks core.statics) (left : world.left ≡ core.steps)
+      (structs : HasLayout p around.layout) (has : HasAll p around.layout numbers raised core asks w.found)
+      (stands : Represents around.layout known g world.heap world.left core.blocks core.statics) (left : world.left ≡ core.steps)
       (room : length w.body.types + length (ent.new ++ type.Signed ∷ type.Ptr (word (n + 1)) ∷ kept_type ∷ []) ≤ length core.vars) (inside : place.variable < length w.body.types)
       (below : AllBelow (length w.body.types) (a ∷ b ∷ [])) where
     abbrev Here : State
     Here = At (ent.ops ++ (calls ∷ gets_array ∷ gets_item ∷ puts ∷ rest)) e frames core
 
     abbrev Done : ℕ → Answer → Type 0
-    Done most answer = Follows kept around place p arguments Here rest e frames core g raised most (length w.body.types) world answer
+    Done most answer = Follows 2 known around place p arguments Here rest e frames core g raised most (length w.body.types) world answer
 
     has_there : HasAll p around.layout numbers raised core (there_asks around a w.found.covered) w.found
     has_there = has_first p around numbers raised core (there_asks around a w.found.covered) (Make outside ∷ []) w.found has
@@ -300,16 +303,16 @@ module _ (kept : ℕ → Option Element) (around : Around) (place : Place) (a b 
     m1_is : m1 ≡ length w.body.types + length ent.new
     m1_is = length-append w.body.types ent.new
 
-    there : (most : ℕ) (v u : Meant) → (z : ℤ) → operand core.vars b.x ≡ Word z → u ≡ MeantWord z → Fits z → Listing around.layout g a.element (operand core.vars a.x) v → Done most (meant_op program w.found.covered (row.Index literal) (v ∷ u ∷ []) world)
+    there : (most : ℕ) (v u : Meant) → (z : ℤ) → operand core.vars b.x ≡ Word z → u ≡ MeantWord z → Fits z → Listing around.layout known g a.element (operand core.vars a.x) v → Done most (meant_op program w.found.covered (row.Index literal) (v ∷ u ∷ []) world)
     there most v u z low high fits it =
         let x : Value = operand core.vars a.x in
         let number_is : it.n ≡ n = ap pointed (sym it.typed ∙ of.typed) in
         let struct : is_list around.layout n ≡ true = subst (λ k. is_list around.layout k ≡ true) number_is it.struct in
-        let home : slice_get g.homes it.i ≡ Some (record { struct = n; head = x }) = subst (λ k. slice_get g.homes it.i ≡ Some (record { struct = k; head = x })) number_is it.home in
+        let home : slice_get g.homes it.i ≡ Some (record { sort = ListOf n; head = x }) = subst (λ k. slice_get g.homes it.i ≡ Some (record { sort = ListOf k; head = x })) number_is it.home in
         let l = stands.lists n it.i x home struct in
         let went = ent.enters p numbers raised arguments (calls ∷ gets_array ∷ gets_item ∷ puts ∷ rest) e frames core has_there (omega (arith, room, long)) (found_set core.blocks core.statics x _ l.head_is) (found_there core.blocks core.statics x _ l.head_is) in
         let mid : Core = went.mid in
-        let stands_mid : Represents around.layout kept g world.heap world.left mid.blocks mid.statics = subst (λ (c : Core). Represents around.layout kept g world.heap world.left c.blocks c.statics) (sym went.passed.memory) stands in
+        let stands_mid : Represents around.layout known g world.heap world.left mid.blocks mid.statics = subst (λ (c : Core). Represents around.layout known g world.heap world.left c.blocks c.statics) (sym went.passed.memory) stands in
         let left_mid : world.left ≡ mid.steps = left ∙ sym (ap (λ (c : Core). c.steps) went.passed.memory) in
         let wide : m1 + 3 ≤ length mid.vars = (let r = went.passed.room in omega (arith, room, long, m1_is, r)) in
         let before : ent.x < m1 = (let i = ent.inside below.0 in omega (arith, i, m1_is)) in
@@ -318,36 +321,36 @@ module _ (kept : ℕ → Option Element) (around : Around) (place : Place) (a b 
         let above : meant_op program w.found.covered (row.Index literal) (v ∷ u ∷ []) world ≡ if_some (index_error w.found.covered) (item_at z mid_here.items) give world =
         ap (λ v. meant_op program w.found.covered (row.Index literal) (v ∷ u ∷ []) world) it.high ∙ ap (λ u. meant_op program w.found.covered (row.Index literal) (Ref it.i ∷ u ∷ []) world) high ∙ ap (λ o. index_object w.found.covered (MeantWord z) o world) mid_here.object in
         subst (Done most) (sym above)
-        (behind kept around place p arguments rest e frames core g raised most (length w.body.types) world went.passed went.way (if_some (index_error w.found.covered) (item_at z mid_here.items) give world)
+        (behind 2 known around place p arguments rest e frames core g raised most (length w.body.types) world went.passed went.way (if_some (index_error w.found.covered) (item_at z mid_here.items) give world)
         (pays_items p raised arguments rest e frames mid g most world structs has_place stands_mid left_mid wide inside before x z went.is index_mid it.i struct home (item_at z mid_here.items))
         (reads p raised arguments rest e frames mid g most world structs has_place stands_mid left_mid wide inside before x z went.is index_mid it.i struct home fits))
 
     missing : (most : ℕ) (v u : Meant) → Absent a.element (operand core.vars a.x) v → Done most (meant_op program w.found.covered (row.Index literal) (v ∷ u ∷ []) world)
     missing most v u gone = subst (λ v. Done most (meant_op program w.found.covered (row.Index literal) (v ∷ u ∷ []) world)) (sym gone.high)
-        (ent.misses kept place p numbers raised arguments (calls ∷ gets_array ∷ gets_item ∷ puts ∷ []) rest e frames core g most world has_there gone.may gone.low)
+        (ent.misses known place p numbers raised arguments (calls ∷ gets_array ∷ gets_item ∷ puts ∷ []) rest e frames core g most world has_there gone.may gone.low)
 
-    either : (most : ℕ) (v u : Meant) → (z : ℤ) → operand core.vars b.x ≡ Word z → u ≡ MeantWord z → Fits z → Listing around.layout g a.element (operand core.vars a.x) v ⊎ Absent a.element (operand core.vars a.x) v → Done most (meant_op program w.found.covered (row.Index literal) (v ∷ u ∷ []) world)
+    either : (most : ℕ) (v u : Meant) → (z : ℤ) → operand core.vars b.x ≡ Word z → u ≡ MeantWord z → Fits z → Listing around.layout known g a.element (operand core.vars a.x) v ⊎ Absent a.element (operand core.vars a.x) v → Done most (meant_op program w.found.covered (row.Index literal) (v ∷ u ∷ []) world)
     either most v u z low high fits (inl it) = there most v u z low high fits it
     either most v u z low high fits (inr gone) = missing most v u gone
 
-    follow : (vs : List Meant) → Given around g core (a ∷ b ∷ []) vs → Follows kept around place p arguments (At ((ent.ops ++ (calls ∷ gets_array ∷ gets_item ∷ puts ∷ [])) ++ rest) e frames core) rest e frames core g raised (references world.heap vs) (length w.body.types) world (meant_op program w.found.covered (row.Index literal) vs world)
+    follow : (vs : List Meant) → Given known around g core (a ∷ b ∷ []) vs → Follows 2 known around place p arguments (At ((ent.ops ++ (calls ∷ gets_array ∷ gets_item ∷ puts ∷ [])) ++ rest) e frames core) rest e frames core g raised (references world.heap vs) (length w.body.types) world (meant_op program w.found.covered (row.Index literal) vs world)
     follow [] given = absurd given
     follow (v ∷ []) given = absurd given.1
     follow (v ∷ u ∷ []) given =
         let y = word_held words given.1.0 in
-        subst (λ l. Follows kept around place p arguments (At l e frames core) rest e frames core g raised (references world.heap (v ∷ u ∷ [])) (length w.body.types) world (meant_op program w.found.covered (row.Index literal) (v ∷ u ∷ []) world)) (sym (append_assoc ent.ops (calls ∷ gets_array ∷ gets_item ∷ puts ∷ []) rest))
+        subst (λ l. Follows 2 known around place p arguments (At l e frames core) rest e frames core g raised (references world.heap (v ∷ u ∷ [])) (length w.body.types) world (meant_op program w.found.covered (row.Index literal) (v ∷ u ∷ []) world)) (sym (append_assoc ent.ops (calls ∷ gets_array ∷ gets_item ∷ puts ∷ []) rest))
         (either (references world.heap (v ∷ u ∷ [])) v u y.number y.low y.high y.fits (list_or_none of.is given.0))
     follow (v ∷ u ∷ s ∷ vs) given = absurd given.1.1
 
-  pub index_done : IsDone kept around (row.Index literal) w.found.covered asks place (a ∷ b ∷ []) w
+  pub index_done : IsDone known around (row.Index literal) w.found.covered asks place (a ∷ b ∷ []) w
   index_done = record {
     ops = ent.ops ++ (calls ∷ gets_array ∷ gets_item ∷ puts ∷ []);
     new = ent.new ++ (type.Signed ∷ type.Ptr (word (n + 1)) ∷ kept_type ∷ []);
     asked = ap (λ (r : Writing). r.found) is_written ∙ sym (asked_both (there_asks around a w.found.covered) (Make outside ∷ []) w.found);
     written = ap (λ (r : Writing). r.body.ops) is_written ∙ four_behind w.body.ops ent.ops calls gets_array gets_item puts;
     types = ap (λ (r : Writing). r.body.types) is_written ∙ three_behind w.body.types ent.new type.Signed (type.Ptr (word (n + 1))) kept_type;
-    follows = λ program p numbers raised arguments rest e frames core g world vs texts structs has stands left room inside below given. follow program p numbers raised arguments rest e frames core g world structs has stands left room inside below vs given;
+    follows = λ p numbers raised arguments rest e frames core g world vs structs has stands left room inside below given good. follow known.program p numbers raised arguments rest e frames core g world structs has stands left room inside below vs given;
   }
 
 pub items_are_read : ItemsAreRead
-items_are_read kept around place a b w literal n item of words stay = index_done kept around place a b w literal n item of words stay
+items_are_read known around place a b w literal n item of words stay = index_done known around place a b w literal n item of words stay

@@ -22,9 +22,9 @@ use Rattle.rtyper_layout.specs.Types.{word}
 use Rattle.list_shape.specs.Shapes.{shape_of}
 use Rattle.list_loops.specs.Making.{make, make_given}
 use Rattle.lower_laws.proofs.Tupled.{place_is_own}
-use Rattle.list_laws.specs.Represents.{head_block}
-use Rattle.list_laws.proofs.Blocks.{reach_own}
-use Rattle.list_laws.proofs.Calling.{Returns}
+use Rattle.object_laws.specs.Represents.{head_block}
+use Rattle.object_laws.proofs.Blocks.{reach_own}
+use Rattle.object_laws.proofs.Calling.{Returns}
 
 -- ---- the newest block
 

@@ -23,8 +23,8 @@ use Rattle.list_shape.specs.Shapes.{gives as gives_block}
 use Rattle.list_loops.specs.Loops.{place, place_tests, place_start, place_from_end, place_low, place_high, place_types}
 use Rattle.lower_laws.proofs.Small.{Flies, flown, flies_on, same_memory}
 use Rattle.list_laws.specs.Asked.{HasList}
-use Rattle.list_laws.specs.Represents.{head_block}
-use Rattle.list_laws.proofs.Blocks.{reads_field}
+use Rattle.object_laws.specs.Represents.{head_block}
+use Rattle.object_laws.proofs.Blocks.{reads_field}
 use Rattle.list_laws.proofs.Lengths.{HeadShape, HeadFound}
 
 -- from the end, inside and outside

@@ -30,20 +30,21 @@ use Rattle.rtyper_data.specs.Finding.{small_number}
 use Rattle.list_shape.specs.Shapes.{item_of}
 use Rattle.list_loops.specs.Changing.{room, room_graph, room_asks, room_grows, room_types}
 use Rattle.list_laws.specs.Asked.{MakesRoom}
-use Rattle.list_laws.specs.Done.{HasLists}
-use Rattle.list_laws.specs.Ghost.{Ghost, Grown, Use, Stays, Head, Array, use_of}
-use Rattle.list_laws.specs.Represents.{Represents, ListAt, AreEmpty, head_block, array_block}
-use Rattle.list_laws.specs.Values.{EachHolds, Empty, More}
-use Rattle.list_laws.proofs.Blocks.{found_set, reads_field}
-use Rattle.list_laws.proofs.Calling.{Returns, calls_back}
-use Rattle.list_laws.proofs.Changing.{IsOf, Wrote, put_block, put_static, wrote_at, list_changes, get_set_here, uses_apart}
+use Rattle.object_laws.specs.Known.{Known}
+use Rattle.object_laws.specs.Done.{HasLayout}
+use Rattle.object_laws.specs.Ghost.{Ghost, Grown, Use, Stays, Head, Array, use_of, ListOf}
+use Rattle.object_laws.specs.Represents.{Represents, ListAt, AreEmpty, head_block, array_block, Settled}
+use Rattle.object_laws.specs.Values.{EachHolds, Empty, More}
+use Rattle.object_laws.proofs.Blocks.{found_set, reads_field}
+use Rattle.object_laws.proofs.Calling.{Returns, calls_back}
+use Rattle.object_laws.proofs.Changing.{IsOf, Wrote, put_block, put_static, wrote_at, list_changes, settled_wrote, get_set_here, uses_apart}
 use Rattle.list_laws.proofs.Copying.{AllSet, array_with, copy_is, copies}
-use Rattle.list_laws.proofs.Growing.{use_grows, each_grows}
-use Rattle.list_laws.proofs.Made.{found_more, last_one, get_first}
+use Rattle.object_laws.proofs.Growing.{use_grows, each_grows}
+use Rattle.object_laws.proofs.Made.{found_more, last_one, get_first, settled_more, never_settled}
 use Rattle.list_laws.proofs.Making.{writes_newest}
-use Rattle.list_laws.proofs.Passing.{grown_none}
-use Rattle.list_laws.proofs.Valued.{held_set, each_long}
-use Rattle.list_laws.proofs.Writing.{Written, writes_field}
+use Rattle.object_laws.proofs.Growing.{grown_none}
+use Rattle.object_laws.proofs.Valued.{held_set, each_long}
+use Rattle.object_laws.proofs.Writing.{Written, writes_field}
 
 -- ---- lists
 
@@ -75,7 +76,7 @@ found_same g bs more statics (Ptr n) u same h = index_same bs more n (let l = be
 found_same g bs more statics (Static s) u same h = refl
 found_same g bs more statics _ u same h = absurd (cc)
 
-all_set : {layout : Layout} {kept : ℕ → Option Element} {g : Ghost} {heap : Heap} {left : ℕ} {blocks : List (Option Block)} {statics : List Block} {seen : Option Element} {xs : List Value} {vs : List Meant} → Represents layout kept g heap left blocks statics → EachHolds layout g seen xs vs → AllSet xs
+all_set : {layout : Layout} {known : Known} {g : Ghost} {heap : Heap} {left : ℕ} {blocks : List (Option Block)} {statics : List Block} {seen : Option Element} {xs : List Value} {vs : List Meant} → Represents layout known g heap left blocks statics → EachHolds layout known g seen xs vs → AllSet xs
 all_set r Empty = tt
 all_set r (More held each) = (held_set r held, all_set r each)
 
@@ -85,27 +86,33 @@ at_most m n h = let e : int_le (pos m) (pos n) ≡ true = grind (arith, nat_test
 more_than : (m n : ℕ) → n < m → binary_of binary.Le (Word (pos m)) (Word (pos n)) ≡ Ok (Flag false)
 more_than m n h = let e : int_le (pos m) (pos n) ≡ false = grind (arith, nat_tests, h) in ap (λ b. Ok (Flag b)) e
 
+no_more : (m n : ℕ) → nat_le m n ≡ true → m ≤ n
+no_more m n h = grind (arith, nat_tests, h)
+
+is_more : (m n : ℕ) → nat_le m n ≡ false → n < m
+is_more m n h = grind (arith, nat_tests, h)
+
 -- ---- memory with room
 
 -- the same lists, and this one has so many spare places
-pub record Roomy (layout : Layout) (kept : ℕ → Option Element) (g : Ghost) (heap : Heap) (left : ℕ) (blocks : List (Option Block)) (statics : List Block) (n i : ℕ) (head : Value) (items : List Meant) (more : ℕ) : Type 0 where
-  pub stands : Represents layout kept g heap left blocks statics
-  pub list : ListAt layout (kept n) g heap left blocks statics n i head
+pub record Roomy (layout : Layout) (known : Known) (g : Ghost) (heap : Heap) (left : ℕ) (blocks : List (Option Block)) (statics : List Block) (n i : ℕ) (head : Value) (items : List Meant) (more : ℕ) : Type 0 where
+  pub stands : Represents layout known g heap left blocks statics
+  pub list : ListAt layout known g heap left blocks statics n i head
   pub same : list.items ≡ items
   pub wide : more ≤ length list.spare
 
-pub record Roomed (p : LlProgram) (args : List (List ℕ)) (layout : Layout) (kept : ℕ → Option Element) (g : Ghost) (heap : Heap) (left n i : ℕ) (head : Value) (items : List Meant) (more f : ℕ) (core : Core) : Type 0 where
+pub record Roomed (p : LlProgram) (args : List (List ℕ)) (layout : Layout) (known : Known) (g : Ghost) (heap : Heap) (left n i : ℕ) (head : Value) (items : List Meant) (more f : ℕ) (core : Core) : Type 0 where
   pub blocks : List (Option Block)
   pub statics : List Block
   pub ghost : Ghost
   pub grown : Grown g ghost
   pub homes : ghost.homes ≡ g.homes
-  pub roomy : Roomy layout kept ghost heap left blocks statics n i head items more
+  pub roomy : Roomy layout known ghost heap left blocks statics n i head items more
   pub few : length blocks ≤ length core.blocks + 1
   pub returns : (waits : List Frame) → Returns p args (length items + 1) (Calling f (head ∷ Word (pos more) ∷ []) waits core) Unset waits (record core { blocks = blocks; statics = statics })
 
-module _ (p : LlProgram) (args : List (List ℕ)) (layout : Layout) (kept : ℕ → Option Element) (raised : ℕ → Value) (structs : HasLists p layout) (n : ℕ) (struct : is_list layout n ≡ true) (f : ℕ) (has : MakesRoom p layout raised n f)
-    (g : Ghost) (heap : Heap) (left : ℕ) (core : Core) (r : Represents layout kept g heap left core.blocks core.statics) (i : ℕ) (head : Value) (home : slice_get g.homes i ≡ Some (record { struct = n; head = head })) (l : ListAt layout (kept n) g heap left core.blocks core.statics n i head) (more : ℕ) where
+module _ (p : LlProgram) (args : List (List ℕ)) (layout : Layout) (known : Known) (raised : ℕ → Value) (structs : HasLayout p layout) (n : ℕ) (struct : is_list layout n ≡ true) (f : ℕ) (has : MakesRoom p layout raised n f)
+    (g : Ghost) (heap : Heap) (left : ℕ) (core : Core) (r : Represents layout known g heap left core.blocks core.statics) (i : ℕ) (head : Value) (home : slice_get g.homes i ≡ Some (record { sort = ListOf n; head = head })) (l : ListAt layout known g heap left core.blocks core.statics n i head) (more : ℕ) where
   abbrev count : ℕ
   count = length l.items
 
@@ -129,7 +136,7 @@ module _ (p : LlProgram) (args : List (List ℕ)) (layout : Layout) (kept : ℕ 
 
   -- ---- where there is room
 
-  enough : count + more < 2 ^ 63 → count + more ≤ length whole → Roomed p args layout kept g heap left n i head l.items more f core
+  enough : count + more < 2 ^ 63 → count + more ≤ length whole → Roomed p args layout known g heap left n i head l.items more f core
   unfolding room room_graph room_asks room_grows room_types
   enough fits there = record {
     blocks = core.blocks;
@@ -194,9 +201,9 @@ module _ (p : LlProgram) (args : List (List ℕ)) (layout : Layout) (kept : ℕ 
   new_apart e = (let q : slice_get g.blocks (length core.blocks) ≡ Some (Head i) = ap (use_of g) (sym e) ∙ l.head_use in let m = below_length g.blocks (length core.blocks) (Head i) q in let s = r.made in omega (arith, m, s))
 
   -- the head has the new array
-  represents : (blocks2 : List (Option Block)) (statics2 : List Block) → size < 2 ^ 63 → Wrote blocks1 core.statics head (head_block n count (Ptr (length core.blocks))) blocks2 statics2 → Roomy layout kept ghost heap left blocks2 statics2 n i head l.items more
-  represents blocks2 statics2 small wrote = subst (λ hp. Roomy layout kept ghost hp left blocks2 statics2 n i head l.items more) (set_same heap i (Listed l.items) l.object) (record {
-    stands = list_changes n i head l.items r ghost_grown refl (omega arith) home (length-append g.blocks (Array i ∷ []) ∙ ap (λ k. k + 1) r.made ∙ sym (length-append core.blocks (Some new_array ∷ [])) ∙ sym wrote.made) wrote.fixed kept_stays others changed;
+  represents : (blocks2 : List (Option Block)) (statics2 : List Block) → size < 2 ^ 63 → Wrote blocks1 core.statics head (head_block n count (Ptr (length core.blocks))) blocks2 statics2 → Roomy layout known ghost heap left blocks2 statics2 n i head l.items more
+  represents blocks2 statics2 small wrote = subst (λ hp. Roomy layout known ghost hp left blocks2 statics2 n i head l.items more) (set_same heap i (Listed l.items) l.object) (record {
+    stands = list_changes n i head l.items r ghost_grown refl (omega arith) home (length-append g.blocks (Array i ∷ []) ∙ ap (λ k. k + 1) r.made ∙ sym (length-append core.blocks (Some new_array ∷ [])) ∙ sym wrote.made) wrote.fixed kept_stays others settled changed;
     list = changed;
     same = refl;
     wide = (let q = replicate_long extra in omega (arith, q));
@@ -205,7 +212,10 @@ module _ (p : LlProgram) (args : List (List ℕ)) (layout : Layout) (kept : ℕ 
       others : (x : Value) (u : Use) → use_of g x ≡ Some u → (IsOf i u → ⊥) → found blocks2 statics2 x ≡ found core.blocks core.statics x
       others x u h apart = wrote.others x (uses_apart g x head u (Head i) h l.head_use (λ q. apart (subst (IsOf i) (sym q) refl))) ∙ found_same g core.blocks (Some new_array ∷ []) core.statics x u r.made h
 
-      changed : ListAt layout (kept n) ghost (slice_set heap i (Listed l.items)) left blocks2 statics2 n i head
+      settled : Settled layout ghost blocks2 statics2
+      settled = settled_wrote layout ghost (settled_more layout g.blocks g.statics g.homes g.homes core.blocks core.statics (Array i) new_array r.made r.settled (never_settled layout (Array i) new_array (structs.lists_apart n struct).1)) wrote (structs.lists_apart n struct).0
+
+      changed : ListAt layout known ghost (slice_set heap i (Listed l.items)) left blocks2 statics2 n i head
       changed = record {
         items = l.items;
         object = get_set_here heap i (Listed l.items) (Listed l.items) l.object;
@@ -267,7 +277,7 @@ module _ (p : LlProgram) (args : List (List ℕ)) (layout : Layout) (kept : ℕ 
       copying frames = copies p args a (small_number (small.Listed (Copy a a)) has.made).0 (item_of layout a) (structs.arrays n struct) (has.copies.graph ∙ ap Some (copy_is layout a has.copies.made)) frames core.blocks l.array (array_block n whole) refl (Word (pos size) ∷ []) before_copies l.values l.spare (replicate extra Unset)
           (ap (λ items. core.blocks ++ Some (array_with a (Word (pos size) ∷ []) items) ∷ []) raw_items) l.array_is refl (all_set r l.each) l.long
 
-  grows : size < 2 ^ 63 → length whole < count + more → Roomed p args layout kept g heap left n i head l.items more f core
+  grows : size < 2 ^ 63 → length whole < count + more → Roomed p args layout known g heap left n i head l.items more f core
   grows fitting none = record {
     blocks = put_block head head2 blocks1;
     statics = put_static head head2 core.statics;
@@ -282,9 +292,9 @@ module _ (p : LlProgram) (args : List (List ℕ)) (layout : Layout) (kept : ℕ 
       wrote : Wrote blocks1 core.statics head head2 (put_block head head2 blocks1) (put_static head head2 core.statics)
       wrote = wrote_at blocks1 core.statics head (head_block n count l.array) head2 (found_more core.blocks (Some new_array ∷ []) core.statics head (head_block n count l.array) l.head_is)
 
-  pub makes_room : size < 2 ^ 63 → Roomed p args layout kept g heap left n i head l.items more f core
+  pub makes_room : size < 2 ^ 63 → Roomed p args layout known g heap left n i head l.items more f core
   makes_room fitting = by (nat_le (count + more) (length whole)) refl
     where
-      by : (c : Bool) → nat_le (count + more) (length whole) ≡ c → Roomed p args layout kept g heap left n i head l.items more f core
-      by true h = enough (omega (arith, fitting)) (grind (arith, nat_tests, h))
-      by false h = grows fitting (grind (arith, nat_tests, h))
+      by : (c : Bool) → nat_le (count + more) (length whole) ≡ c → Roomed p args layout known g heap left n i head l.items more f core
+      by true h = enough (omega (arith, fitting)) (no_more (count + more) (length whole) h)
+      by false h = grows fitting (is_more (count + more) (length whole) h)

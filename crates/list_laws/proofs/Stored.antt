@@ -50,36 +50,34 @@ use Rattle.rtyper_list.specs.Lowering.{lowered, lowered_unless, of_some, of_thre
 use Rattle.rtyper_list.specs.Operands.{of_list, of_none, list_of, pointed, array_in}
 use Rattle.lower_laws.specs.Asked.{Ask, Make, all_asked}
 use Rattle.lower_laws.specs.Values.{IsBelow, AllBelow}
-use Rattle.lower_laws.proofs.Coming.{Comes}
 use Rattle.lower_laws.proofs.Doing.{after}
 use Rattle.lower_laws.proofs.Items.{gives_same}
 use Rattle.lower_laws.proofs.Single.{sets}
-use Rattle.lower_laws.proofs.Stayed.{field_is, stays_comes as plainly_comes}
+use Rattle.lower_laws.proofs.Stayed.{field_is}
 use Rattle.lower_laws.proofs.Tupled.{given_same}
+use Rattle.list_laws.specs.Done.{IsDone}
 use Rattle.list_laws.specs.Asked.{HasList, HasAll}
-use Rattle.list_laws.specs.Done.{Follows, HasLists, IsDone, references}
-use Rattle.list_laws.specs.Ghost.{Ghost, Use, Head, Array, use_of}
-use Rattle.list_laws.specs.Lists.{Stays, Plainly, AsList, AsMaybe, IsList, there_asks, ItemsAreStored}
-use Rattle.list_laws.specs.Represents.{Represents, ListAt, HasRoom, head_block, array_block}
-use Rattle.list_laws.specs.Values.{Given, Holds, EachHolds, Empty, More}
-use Rattle.list_laws.proofs.Blocks.{found_set, found_there, reads_field}
-use Rattle.list_laws.proofs.Changing.{IsOf, Wrote, list_changes, get_set_here, uses_apart}
+use Rattle.object_laws.specs.Known.{Known}
+use Rattle.object_laws.specs.Done.{Follows, HasLayout, references}
+use Rattle.object_laws.specs.Ghost.{Ghost, Use, Head, Array, use_of, ListOf}
+use Rattle.object_laws.specs.Staying.{Stays}
+use Rattle.list_laws.specs.Lists.{IsList, there_asks, ItemsAreStored}
+use Rattle.object_laws.specs.Represents.{Represents, ListAt, HasRoom, head_block, array_block}
+use Rattle.object_laws.specs.Values.{Given, Holds, EachHolds, Empty, More}
+use Rattle.object_laws.proofs.Blocks.{found_set, found_there, reads_field}
+use Rattle.object_laws.proofs.Changing.{IsOf, Wrote, list_changes, settled_wrote, get_set_here, uses_apart}
 use Rattle.list_laws.proofs.Indexed.{asked_both, has_first, has_more, there_covers, four_behind, place_inside}
 use Rattle.list_laws.proofs.Lengths.{HeadFound, count_fits}
 use Rattle.list_laws.proofs.Lowered.{list_comes, three_come}
-use Rattle.list_laws.proofs.Passing.{Pays, Passed, none_passed, sets_more, is_set_at, is_kept_at, operand_kept, behind, grown_none, Went, calls_at, throws_at, fails_at}
+use Rattle.object_laws.proofs.Growing.{grown_none}
+use Rattle.object_laws.proofs.Passing.{Pays, Passed, none_passed, sets_more, is_set_at, is_kept_at, operand_kept, behind, Went, calls_at, throws_at, fails_at}
 use Rattle.list_laws.proofs.Places.{PlaceGoes, place_is}
 use Rattle.list_laws.proofs.There.{Entered, entered}
-use Rattle.list_laws.proofs.Valued.{Listing, Absent, list_or_none, word_held, stays_typed, stays_there, stays_held, held_set, each_long}
+use Rattle.object_laws.proofs.Valued.{stays_comes, Listing, Absent, list_or_none, word_held, stays_typed, stays_there, stays_held, held_set, each_long}
 use Rattle.list_laws.proofs.Walked.{two_behind}
-use Rattle.list_laws.proofs.Writing.{Written, writes_item}
+use Rattle.object_laws.proofs.Writing.{Written, writes_item}
 
 -- ---- kinds
-
-pub stays_comes : (around : Around) (a : Operand) (to : Option Element) → Stays around.layout a.element to → Comes a
-stays_comes around a to (Plainly s) = plainly_comes s
-stays_comes around a to (AsList n f t k l) = ap never_comes k
-stays_comes around a to (AsMaybe n f t k l) = ap never_comes k
 
 not_none : (k : Kind) → of_list k ≡ true → of_none k ≡ false
 not_none kind.List h = refl
@@ -94,14 +92,14 @@ set_first (y ∷ xs) ys zero x h = refl
 set_first (y ∷ xs) ys (suc k) x h = ap (λ l. y ∷ l) (set_first xs ys k x (omega (arith, h)))
 
 -- one of the items is another
-each_set : {g : Ghost} (around : Around) {seen : Option Element} {xs : List Value} {vs : List Meant} (k : ℕ) (x : Value) (v : Meant) → Holds around.layout g seen x v → EachHolds around.layout g seen xs vs → EachHolds around.layout g seen (slice_set xs k x) (slice_set vs k v)
+each_set : {known : Known} {g : Ghost} (around : Around) {seen : Option Element} {xs : List Value} {vs : List Meant} (k : ℕ) (x : Value) (v : Meant) → Holds around.layout known g seen x v → EachHolds around.layout known g seen xs vs → EachHolds around.layout known g seen (slice_set xs k x) (slice_set vs k v)
 each_set around k x v held Empty = Empty
 each_set around zero x v held (More other each) = More held each
 each_set around (suc k) x v held (More other each) = More other (each_set around k x v held each)
 
 -- ---- an item that is stored
 
-module _ (kept : ℕ → Option Element) (around : Around) (place : Place) (a b c : Operand) (w : Writing) (n : ℕ) (item : Element) (of : IsList around kept a.element n item) (words : kind_of b ≡ kind.Word) (stay : Stays around.layout c.element (Some item)) (gives : Stays around.layout c.element place.element) where
+module _ (known : Known) (around : Around) (place : Place) (a b c : Operand) (w : Writing) (n : ℕ) (item : Element) (of : IsList around known a.element n item) (words : kind_of b ≡ kind.Word) (stay : Stays around.layout known c.element (Some item)) (gives : Stays around.layout known c.element place.element) where
   ent : Entered around a w
   ent = entered around a w of.is
 
@@ -175,7 +173,7 @@ module _ (kept : ℕ → Option Element) (around : Around) (place : Place) (a b 
   is_written : lower_list_op around row.StoreIndex place (a ∷ b ∷ c ∷ []) w ≡ writing found_last (record last_body { ops = last_body.ops ++ puts ∷ [] })
   unfolding lowered of_some of_three first_of_three store placed by_small stored array_in
   is_written =
-      three_come around row.StoreIndex place a b c w (list_comes a of.is) (ap never_comes words) (stays_comes around c (Some item) stay)
+      three_come around row.StoreIndex place a b c w (list_comes a of.is) (ap never_comes words) (stays_comes stay)
       ∙ ap (λ t. lowered_unless t around row.StoreIndex place (a ∷ b ∷ c ∷ []) w) (not_none (kind_of a) of.is)
       ∙ ap (λ t. if t then first_of_three around row.StoreIndex place a b c w else lower_op around row.StoreIndex place (a ∷ b ∷ c ∷ []) w) of.is
       ∙ ap (λ made. taking made (λ x next. taking (placed (list_of around a) x b.x next) (λ at later. taking (given around c (shape_in around a).item later) (λ value last. give around place c.x (type_of around c) (writing last.found (stored (shape_in around a) x at value last.body)))))) ent.written
@@ -187,15 +185,15 @@ module _ (kept : ℕ → Option Element) (around : Around) (place : Place) (a b 
   -- ---- once the list is in its variable
 
   module _ (p : LlProgram) (raised : ℕ → Value) (arguments : List (List ℕ)) (rest : List LlOp) (e : LlExit) (frames : List Frame) (core : Core) (g : Ghost) (most : ℕ) (one : 1 ≤ most) (world : World)
-      (structs : HasLists p around.layout) (has : HasList p around.layout raised (listed.Place n w.found.covered.index) number)
-      (stands : Represents around.layout kept g world.heap world.left core.blocks core.statics) (left : world.left ≡ core.steps)
+      (structs : HasLayout p around.layout) (has : HasList p around.layout raised (listed.Place n w.found.covered.index) number)
+      (stands : Represents around.layout known g world.heap world.left core.blocks core.statics) (left : world.left ≡ core.steps)
       (room : m1 + 2 ≤ length core.vars) (inside : place.variable < length w.body.types) (before : ent.x < m1)
-      (head : Value) (z : ℤ) (at : read core.vars ent.x ≡ head) (index_at : operand core.vars b.x ≡ Word z) (i : ℕ) (struct : is_list around.layout n ≡ true) (home : slice_get g.homes i ≡ Some (record { struct = n; head = head }))
-      (under : IsBelow (length w.body.types) c.x) (value : Value) (v : Meant) (value_at : operand core.vars c.x ≡ value) (held : Holds around.layout g c.element value v) where
+      (head : Value) (z : ℤ) (at : read core.vars ent.x ≡ head) (index_at : operand core.vars b.x ≡ Word z) (i : ℕ) (struct : is_list around.layout n ≡ true) (home : slice_get g.homes i ≡ Some (record { sort = ListOf n; head = head }))
+      (under : IsBelow (length w.body.types) c.x) (value : Value) (v : Meant) (value_at : operand core.vars c.x ≡ value) (held : Holds around.layout known g c.element value v) where
     abbrev There : State
     There = At (calls ∷ gets_array ∷ sets_item ∷ puts ∷ rest) e frames core
 
-    here : ListAt around.layout (kept n) g world.heap world.left core.blocks core.statics n i head
+    here : ListAt around.layout known g world.heap world.left core.blocks core.statics n i head
     here = stands.lists n i head home struct
 
     abbrev count : ℕ
@@ -229,8 +227,8 @@ module _ (kept : ℕ → Option Element) (around : Around) (place : Place) (a b 
     heads_apart e = uses_apart g head here.array (Head i) (Array i) here.head_use here.array_use (λ q. absurd (cc)) e
 
     -- what memory represents then
-    represents : (k : ℕ) → k < count → (end : Core) → Wrote core.blocks core.statics here.array (record (array_block n (here.values ++ here.spare)) { items = slice_set (here.values ++ here.spare) k value }) end.blocks end.statics → Represents around.layout kept g (world2 k).heap world.left end.blocks end.statics
-    represents k below end wrote = list_changes n i head (items2 k) stands grown_none refl (omega arith) home (stands.made ∙ sym wrote.made) wrote.fixed (λ x block h. h) others changed
+    represents : (k : ℕ) → k < count → (end : Core) → Wrote core.blocks core.statics here.array (record (array_block n (here.values ++ here.spare)) { items = slice_set (here.values ++ here.spare) k value }) end.blocks end.statics → Represents around.layout known g (world2 k).heap world.left end.blocks end.statics
+    represents k below end wrote = list_changes n i head (items2 k) stands grown_none refl (omega arith) home (stands.made ∙ sym wrote.made) wrote.fixed (λ x block h. h) others (settled_wrote around.layout g stands.settled wrote (structs.lists_apart n struct).1) changed
       where
         short : k < length here.values
         short = (let l = each_long here.each in omega (arith, below, l))
@@ -244,7 +242,7 @@ module _ (kept : ℕ → Option Element) (around : Around) (place : Place) (a b 
         values_long : length (slice_set here.values k value ++ here.spare) ≡ length (here.values ++ here.spare)
         values_long = length-append (slice_set here.values k value) here.spare ∙ ap (λ l. l + length here.spare) (length-set here.values k value) ∙ sym (length-append here.values here.spare)
 
-        changed : ListAt around.layout (kept n) g (world2 k).heap world.left end.blocks end.statics n i head
+        changed : ListAt around.layout known g (world2 k).heap world.left end.blocks end.statics n i head
         changed = record {
           items = items2 k;
           object = get_set_here world.heap i (Listed (items2 k)) (Listed here.items) here.object;
@@ -256,14 +254,14 @@ module _ (kept : ℕ → Option Element) (around : Around) (place : Place) (a b 
           head_is = wrote.others head heads_apart ∙ here.head_is ∙ ap (λ l. Some (head_block n l here.array)) (sym counts);
           array_is = wrote.there ∙ ap (λ l. Some (record { kind = word (n + 1); fields = Word (pos (length (here.values ++ here.spare))) ∷ []; items = l })) (set_first here.values here.spare k value short)
               ∙ ap (λ l. Some (record { kind = word (n + 1); fields = Word (pos l) ∷ []; items = slice_set here.values k value ++ here.spare })) (sym values_long);
-          each = each_set around k value v (subst (λ seen. Holds around.layout g seen value v) (sym of.known) (stays_held stay held)) here.each;
+          each = each_set around k value v (subst (λ seen. Holds around.layout known g seen value v) (sym of.item_is) (stays_held stay held)) here.each;
           empty = here.empty;
           long = subst (λ l. l < 2 ^ 63) (sym values_long) here.long;
           room = subst (λ l. HasRoom l world.left) (sym counts) here.room;
         }
 
     stores_item : (k : ℕ) → k < count → PlaceGoes p around.layout arguments raised n number core head here.array count (structs.heads n struct) here.head_is few w.found.covered.index z (Some k)
-        → Follows kept around place p arguments There rest e frames core g raised most (length w.body.types) world (Gives v (world2 k))
+        → Follows 2 known around place p arguments There rest e frames core g raised most (length w.body.types) world (Gives v (world2 k))
     stores_item k below comes = record {
       end = after wrote.end place.variable value;
       text = [];
@@ -271,7 +269,7 @@ module _ (kept : ℕ → Option Element) (around : Around) (place : Place) (a b 
       ghost = g;
       grown = grown_none;
       stands = represents k below wrote.end wrote.wrote;
-      holds = subst (λ x. Holds around.layout g place.element x v) (sym (is_set_at wrote.end place.variable value (omega (arith, inside, types_before, room, long3)))) (stays_held gives held);
+      holds = subst (λ x. Holds around.layout known g place.element x v) (sym (is_set_at wrote.end place.variable value (omega (arith, inside, types_before, room, long3)))) (stays_held gives held);
       few = (let l = wrote.wrote.made in omega (arith, l));
       memory = wrote.memory ∙ ap (λ t. forgotten (record core { blocks = wrote.end.blocks; statics = wrote.end.statics; steps = t })) (sym left);
       others = λ j lower other. is_kept_at wrote.end place.variable j value other ∙ ap (λ vars. read vars j) wrote.vars ∙ passed.others j lower;
@@ -316,16 +314,16 @@ module _ (kept : ℕ → Option Element) (around : Around) (place : Place) (a b 
         way4 = sets value (ap (λ vars. operand vars c.x) wrote.vars ∙ operand_kept passed c.x under ∙ value_at) value_set
 
     outside_of : (t : Bool) → PlaceGoes p around.layout arguments raised n number core head here.array count (structs.heads n struct) here.head_is few t z None
-        → Follows kept around place p arguments There rest e frames core g raised most (length w.body.types) world (failure t 6 fail.Index world)
+        → Follows 2 known around place p arguments There rest e frames core g raised most (length w.body.types) world (failure t 6 fail.Index world)
     outside_of true flies = throws_at same set (gets_array ∷ sets_item ∷ puts ∷ []) rest flies
     outside_of false ends = fails_at same set (gets_array ∷ sets_item ∷ puts ∷ rest) ends
 
     chosen : (o : Option ℕ) → meant_place z count ≡ o → PlaceGoes p around.layout arguments raised n number core head here.array count (structs.heads n struct) here.head_is few w.found.covered.index z o
-        → Follows kept around place p arguments There rest e frames core g raised most (length w.body.types) world (if_some (index_error w.found.covered) o (λ k. set_object i (Listed (items2 k)) v) world)
+        → Follows 2 known around place p arguments There rest e frames core g raised most (length w.body.types) world (if_some (index_error w.found.covered) o (λ k. set_object i (Listed (items2 k)) v) world)
     chosen None q goes = outside_of w.found.covered.index goes
     chosen (Some k) q goes = stores_item k (place_inside z count k q) goes
 
-    does : Fits z → Follows kept around place p arguments There rest e frames core g raised most (length w.body.types) world (if_some (index_error w.found.covered) (meant_place z count) (λ k. set_object i (Listed (items2 k)) v) world)
+    does : Fits z → Follows 2 known around place p arguments There rest e frames core g raised most (length w.body.types) world (if_some (index_error w.found.covered) (meant_place z count) (λ k. set_object i (Listed (items2 k)) v) world)
     does fits = chosen (meant_place z count) refl (place_is p around.layout arguments raised n number core head here.array count (structs.heads n struct) here.head_is few w.found.covered.index z has fits)
 
     pays : (o : Option ℕ) → Pays (if_some (index_error w.found.covered) o (λ k. set_object i (Listed (items2 k)) v) world)
@@ -339,12 +337,12 @@ module _ (kept : ℕ → Option Element) (around : Around) (place : Place) (a b 
   -- ---- the whole
 
   module _ (program : Program) (p : LlProgram) (numbers : Numbers) (raised : ℕ → Value) (arguments : List (List ℕ)) (rest : List LlOp) (e : LlExit) (frames : List Frame) (core : Core) (g : Ghost) (world : World)
-      (structs : HasLists p around.layout) (has : HasAll p around.layout numbers raised core asks w.found)
-      (stands : Represents around.layout kept g world.heap world.left core.blocks core.statics) (left : world.left ≡ core.steps)
+      (structs : HasLayout p around.layout) (has : HasAll p around.layout numbers raised core asks w.found)
+      (stands : Represents around.layout known g world.heap world.left core.blocks core.statics) (left : world.left ≡ core.steps)
       (room : length w.body.types + length (ent.new ++ type.Signed ∷ type.Ptr (word (n + 1)) ∷ []) ≤ length core.vars) (inside : place.variable < length w.body.types)
       (below : AllBelow (length w.body.types) (a ∷ b ∷ c ∷ [])) where
     abbrev Done : ℕ → Answer → Type 0
-    Done most answer = Follows kept around place p arguments (At (ent.ops ++ (calls ∷ gets_array ∷ sets_item ∷ puts ∷ rest)) e frames core) rest e frames core g raised most (length w.body.types) world answer
+    Done most answer = Follows 2 known around place p arguments (At (ent.ops ++ (calls ∷ gets_array ∷ sets_item ∷ puts ∷ rest)) e frames core) rest e frames core g raised most (length w.body.types) world answer
 
     has_there : HasAll p around.layout numbers raised core (there_asks around a w.found.covered) w.found
     has_there = has_first p around numbers raised core (there_asks around a w.found.covered) (Make outside ∷ []) w.found has
@@ -358,10 +356,10 @@ module _ (kept : ℕ → Option Element) (around : Around) (place : Place) (a b 
     m1_is : m1 ≡ length w.body.types + length ent.new
     m1_is = length-append w.body.types ent.new
 
-    there : (most : ℕ) → 1 ≤ most → (v u s : Meant) → (z : ℤ) → operand core.vars b.x ≡ Word z → u ≡ MeantWord z → Fits z → Holds around.layout g c.element (operand core.vars c.x) s → Listing around.layout g a.element (operand core.vars a.x) v → Done most (meant_op program w.found.covered row.StoreIndex (v ∷ u ∷ s ∷ []) world)
+    there : (most : ℕ) → 1 ≤ most → (v u s : Meant) → (z : ℤ) → operand core.vars b.x ≡ Word z → u ≡ MeantWord z → Fits z → Holds around.layout known g c.element (operand core.vars c.x) s → Listing around.layout known g a.element (operand core.vars a.x) v → Done most (meant_op program w.found.covered row.StoreIndex (v ∷ u ∷ s ∷ []) world)
     there most one v u s z low high fits held it =
         subst (Done most) (sym above)
-        (behind kept around place p arguments rest e frames core g raised most (length w.body.types) world went.passed went.way (if_some (index_error w.found.covered) (meant_place z (length mid_here.items)) (λ k. set_object it.i (Listed (slice_set mid_here.items k s)) s) world)
+        (behind 2 known around place p arguments rest e frames core g raised most (length w.body.types) world went.passed went.way (if_some (index_error w.found.covered) (meant_place z (length mid_here.items)) (λ k. set_object it.i (Listed (slice_set mid_here.items k s)) s) world)
         (pays p raised arguments rest e frames mid g most one world structs has_place stands_mid left_mid wide inside before x z went.is index_mid it.i struct home below.1.1.0 (operand core.vars c.x) s value_mid held (meant_place z (length mid_here.items)))
         (does p raised arguments rest e frames mid g most one world structs has_place stands_mid left_mid wide inside before x z went.is index_mid it.i struct home below.1.1.0 (operand core.vars c.x) s value_mid held fits))
       where
@@ -374,10 +372,10 @@ module _ (kept : ℕ → Option Element) (around : Around) (place : Place) (a b 
         struct : is_list around.layout n ≡ true
         struct = subst (λ k. is_list around.layout k ≡ true) number_is it.struct
 
-        home : slice_get g.homes it.i ≡ Some (record { struct = n; head = x })
-        home = subst (λ k. slice_get g.homes it.i ≡ Some (record { struct = k; head = x })) number_is it.home
+        home : slice_get g.homes it.i ≡ Some (record { sort = ListOf n; head = x })
+        home = subst (λ k. slice_get g.homes it.i ≡ Some (record { sort = ListOf k; head = x })) number_is it.home
 
-        l : ListAt around.layout (kept n) g world.heap world.left core.blocks core.statics n it.i x
+        l : ListAt around.layout known g world.heap world.left core.blocks core.statics n it.i x
         l = stands.lists n it.i x home struct
 
         went : Went p arguments (At (ent.ops ++ (calls ∷ gets_array ∷ sets_item ∷ puts ∷ rest)) e frames core) (calls ∷ gets_array ∷ sets_item ∷ puts ∷ rest) e frames core (length w.body.types) ent.x x
@@ -386,8 +384,8 @@ module _ (kept : ℕ → Option Element) (around : Around) (place : Place) (a b 
         mid : Core
         mid = went.mid
 
-        stands_mid : Represents around.layout kept g world.heap world.left mid.blocks mid.statics
-        stands_mid = subst (λ (c : Core). Represents around.layout kept g world.heap world.left c.blocks c.statics) (sym went.passed.memory) stands
+        stands_mid : Represents around.layout known g world.heap world.left mid.blocks mid.statics
+        stands_mid = subst (λ (c : Core). Represents around.layout known g world.heap world.left c.blocks c.statics) (sym went.passed.memory) stands
 
         left_mid : world.left ≡ mid.steps
         left_mid = left ∙ sym (ap (λ (c : Core). c.steps) went.passed.memory)
@@ -404,7 +402,7 @@ module _ (kept : ℕ → Option Element) (around : Around) (place : Place) (a b 
         value_mid : operand mid.vars c.x ≡ operand core.vars c.x
         value_mid = operand_kept went.passed c.x below.1.1.0
 
-        mid_here : ListAt around.layout (kept n) g world.heap world.left mid.blocks mid.statics n it.i x
+        mid_here : ListAt around.layout known g world.heap world.left mid.blocks mid.statics n it.i x
         mid_here = here p raised arguments rest e frames mid g most one world structs has_place stands_mid left_mid wide inside before x z went.is index_mid it.i struct home below.1.1.0 (operand core.vars c.x) s value_mid held
 
         above : meant_op program w.found.covered row.StoreIndex (v ∷ u ∷ s ∷ []) world ≡ if_some (index_error w.found.covered) (meant_place z (length mid_here.items)) (λ k. set_object it.i (Listed (slice_set mid_here.items k s)) s) world
@@ -412,31 +410,31 @@ module _ (kept : ℕ → Option Element) (around : Around) (place : Place) (a b 
 
     missing : (most : ℕ) (v u s : Meant) → Absent a.element (operand core.vars a.x) v → Done most (meant_op program w.found.covered row.StoreIndex (v ∷ u ∷ s ∷ []) world)
     missing most v u s gone = subst (λ v. Done most (meant_op program w.found.covered row.StoreIndex (v ∷ u ∷ s ∷ []) world)) (sym gone.high)
-        (ent.misses kept place p numbers raised arguments (calls ∷ gets_array ∷ sets_item ∷ puts ∷ []) rest e frames core g most world has_there gone.may gone.low)
+        (ent.misses known place p numbers raised arguments (calls ∷ gets_array ∷ sets_item ∷ puts ∷ []) rest e frames core g most world has_there gone.may gone.low)
 
-    either : (most : ℕ) → 1 ≤ most → (v u s : Meant) → (z : ℤ) → operand core.vars b.x ≡ Word z → u ≡ MeantWord z → Fits z → Holds around.layout g c.element (operand core.vars c.x) s → Listing around.layout g a.element (operand core.vars a.x) v ⊎ Absent a.element (operand core.vars a.x) v → Done most (meant_op program w.found.covered row.StoreIndex (v ∷ u ∷ s ∷ []) world)
+    either : (most : ℕ) → 1 ≤ most → (v u s : Meant) → (z : ℤ) → operand core.vars b.x ≡ Word z → u ≡ MeantWord z → Fits z → Holds around.layout known g c.element (operand core.vars c.x) s → Listing around.layout known g a.element (operand core.vars a.x) v ⊎ Absent a.element (operand core.vars a.x) v → Done most (meant_op program w.found.covered row.StoreIndex (v ∷ u ∷ s ∷ []) world)
     either most one v u s z low high fits held (inl it) = there most one v u s z low high fits held it
     either most one v u s z low high fits held (inr gone) = missing most v u s gone
 
-    follow : (vs : List Meant) → Given around g core (a ∷ b ∷ c ∷ []) vs → Follows kept around place p arguments (At ((ent.ops ++ (calls ∷ gets_array ∷ sets_item ∷ puts ∷ [])) ++ rest) e frames core) rest e frames core g raised (references world.heap vs) (length w.body.types) world (meant_op program w.found.covered row.StoreIndex vs world)
+    follow : (vs : List Meant) → Given known around g core (a ∷ b ∷ c ∷ []) vs → Follows 2 known around place p arguments (At ((ent.ops ++ (calls ∷ gets_array ∷ sets_item ∷ puts ∷ [])) ++ rest) e frames core) rest e frames core g raised (references world.heap vs) (length w.body.types) world (meant_op program w.found.covered row.StoreIndex vs world)
     follow [] given = absurd given
     follow (v ∷ []) given = absurd given.1
     follow (v ∷ u ∷ []) given = absurd given.1.1
     follow (v ∷ u ∷ s ∷ []) given =
         let y = word_held words given.1.0 in
-        subst (λ l. Follows kept around place p arguments (At l e frames core) rest e frames core g raised (references world.heap (v ∷ u ∷ s ∷ [])) (length w.body.types) world (meant_op program w.found.covered row.StoreIndex (v ∷ u ∷ s ∷ []) world)) (sym (append_assoc ent.ops (calls ∷ gets_array ∷ sets_item ∷ puts ∷ []) rest))
+        subst (λ l. Follows 2 known around place p arguments (At l e frames core) rest e frames core g raised (references world.heap (v ∷ u ∷ s ∷ [])) (length w.body.types) world (meant_op program w.found.covered row.StoreIndex (v ∷ u ∷ s ∷ []) world)) (sym (append_assoc ent.ops (calls ∷ gets_array ∷ sets_item ∷ puts ∷ []) rest))
         (either (references world.heap (v ∷ u ∷ s ∷ [])) (omega arith) v u s y.number y.low y.high y.fits given.1.1.0 (list_or_none of.is given.0))
     follow (v ∷ u ∷ s ∷ t ∷ vs) given = absurd given.1.1.1
 
-  pub store_done : IsDone kept around row.StoreIndex w.found.covered asks place (a ∷ b ∷ c ∷ []) w
+  pub store_done : IsDone known around row.StoreIndex w.found.covered asks place (a ∷ b ∷ c ∷ []) w
   store_done = record {
     ops = ent.ops ++ (calls ∷ gets_array ∷ sets_item ∷ puts ∷ []);
     new = ent.new ++ (type.Signed ∷ type.Ptr (word (n + 1)) ∷ []);
     asked = ap (λ (r : Writing). r.found) is_written ∙ sym (asked_both (there_asks around a w.found.covered) (Make outside ∷ []) w.found);
     written = ap (λ (r : Writing). r.body.ops) is_written ∙ four_behind w.body.ops ent.ops calls gets_array sets_item puts;
     types = ap (λ (r : Writing). r.body.types) is_written ∙ two_behind w.body.types ent.new type.Signed (type.Ptr (word (n + 1)));
-    follows = λ program p numbers raised arguments rest e frames core g world vs texts structs has stands left room inside below given. follow program p numbers raised arguments rest e frames core g world structs has stands left room inside below vs given;
+    follows = λ p numbers raised arguments rest e frames core g world vs structs has stands left room inside below given good. follow known.program p numbers raised arguments rest e frames core g world structs has stands left room inside below vs given;
   }
 
 pub items_are_stored : ItemsAreStored
-items_are_stored kept around place a b c w n item of words stay gives = store_done kept around place a b c w n item of words stay gives
+items_are_stored known around place a b c w n item of words stay gives = store_done known around place a b c w n item of words stay gives

@@ -1,7 +1,6 @@
 -- A list that has to be there, in a variable: `None` fails, or raises.
-use Rattle.std.proofs.Common.{◌≡◌, ◌<◌, ◌≤◌, ℕ, ◌+◌, ◌||◌, Bool, true, false, List, [], ◌∷◌, ◌++◌, length, Option, Some, Ok, refl, sym, ap, ◌∙◌, subst, arith}
+use Rattle.std.proofs.Common.{◌≡◌, ◌<◌, ◌≤◌, ℕ, ◌+◌, ◌||◌, Bool, true, false, List, [], ◌∷◌, ◌++◌, length, Some, Ok, refl, sym, ap, ◌∙◌, subst, arith}
 use Rattle.std.proofs.lemmas.List.{append-nil}
-use Rattle.ann_element.specs.declared.element.Element.{Element}
 use Rattle.rpy_base.specs.declared.outcome.FailName.TheVariants as fail
 use Rattle.csub_tree.specs.State.{Value, Flag, Null, Core}
 use Rattle.csub_tree.specs.Operation.{is_unset, compared}
@@ -31,12 +30,13 @@ use Rattle.lower_laws.specs.Asked.{all_asked, HasSmall}
 use Rattle.lower_laws.specs.Values.{IsBelow}
 use Rattle.lower_laws.proofs.Doing.{after}
 use Rattle.list_laws.specs.Asked.{HasAll}
-use Rattle.list_laws.specs.Done.{Follows}
-use Rattle.list_laws.specs.Ghost.{Ghost}
+use Rattle.object_laws.specs.Known.{Known}
+use Rattle.object_laws.specs.Done.{Follows}
+use Rattle.object_laws.specs.Ghost.{Ghost}
 use Rattle.list_laws.specs.Lists.{if_missing, there_asks}
-use Rattle.list_laws.proofs.Passing.{Passed, none_passed, sets_more, is_set_at, throws_at, fails_at, Went}
-use Rattle.list_laws.proofs.Present.{present_comes, present_flies, present_fails}
-use Rattle.list_laws.proofs.Variables.{InVariable, in_variable}
+use Rattle.object_laws.proofs.Passing.{Passed, none_passed, sets_more, is_set_at, throws_at, fails_at, Went}
+use Rattle.object_laws.proofs.Present.{present_comes, present_flies, present_fails}
+use Rattle.object_laws.proofs.Variables.{InVariable, in_variable}
 
 -- what is written for it, and what that does
 pub record Entered (around : Around) (a : Operand) (w : Writing) : Type 0 where
@@ -49,9 +49,9 @@ pub record Entered (around : Around) (a : Operand) (w : Writing) : Type 0 where
       → HasAll p around.layout numbers raised core (there_asks around a w.found.covered) w.found → length w.body.types + length new ≤ length core.vars
       → is_unset (operand core.vars a.x) ≡ false → compared (operand core.vars a.x) Null ≡ Ok (Flag false)
       → Went p arguments (At (ops ++ rest) e frames core) rest e frames core (length w.body.types) x (operand core.vars a.x)
-  pub misses : (kept : ℕ → Option Element) (place : Place) (p : LlProgram) (numbers : Numbers) (raised : ℕ → Value) (arguments : List (List ℕ)) (later rest : List LlOp) (e : LlExit) (frames : List Frame) (core : Core) (g : Ghost) (most : ℕ) (world : World)
+  pub misses : (known : Known) (place : Place) (p : LlProgram) (numbers : Numbers) (raised : ℕ → Value) (arguments : List (List ℕ)) (later rest : List LlOp) (e : LlExit) (frames : List Frame) (core : Core) (g : Ghost) (most : ℕ) (world : World)
       → HasAll p around.layout numbers raised core (there_asks around a w.found.covered) w.found → kind_of a ≡ kind.MaybeList → operand core.vars a.x ≡ Null
-      → Follows kept around place p arguments (At (ops ++ (later ++ rest)) e frames core) rest e frames core g raised most (length w.body.types) world (failure w.found.covered.attribute 9 fail.Attribute world)
+      → Follows 2 known around place p arguments (At (ops ++ (later ++ rest)) e frames core) rest e frames core g raised most (length w.body.types) world (failure w.found.covered.attribute 9 fail.Attribute world)
 
 -- the same, where it need not be in a variable
 pub record Met (around : Around) (a : Operand) (w : Writing) : Type 0 where
@@ -63,9 +63,9 @@ pub record Met (around : Around) (a : Operand) (w : Writing) : Type 0 where
       → HasAll p around.layout numbers raised core (there_asks around a w.found.covered) w.found → length w.body.types + length new ≤ length core.vars
       → is_unset (operand core.vars a.x) ≡ false → compared (operand core.vars a.x) Null ≡ Ok (Flag false)
       → (mid : Core) × Leads p arguments 0 (At (ops ++ rest) e frames core) [] (At rest e frames mid) × Passed (length w.body.types) core mid × (operand mid.vars x ≡ operand core.vars a.x)
-  pub misses : (kept : ℕ → Option Element) (place : Place) (p : LlProgram) (numbers : Numbers) (raised : ℕ → Value) (arguments : List (List ℕ)) (later rest : List LlOp) (e : LlExit) (frames : List Frame) (core : Core) (g : Ghost) (most : ℕ) (world : World)
+  pub misses : (known : Known) (place : Place) (p : LlProgram) (numbers : Numbers) (raised : ℕ → Value) (arguments : List (List ℕ)) (later rest : List LlOp) (e : LlExit) (frames : List Frame) (core : Core) (g : Ghost) (most : ℕ) (world : World)
       → HasAll p around.layout numbers raised core (there_asks around a w.found.covered) w.found → kind_of a ≡ kind.MaybeList → operand core.vars a.x ≡ Null
-      → Follows kept around place p arguments (At (ops ++ (later ++ rest)) e frames core) rest e frames core g raised most (length w.body.types) world (failure w.found.covered.attribute 9 fail.Attribute world)
+      → Follows 2 known around place p arguments (At (ops ++ (later ++ rest)) e frames core) rest e frames core g raised most (length w.body.types) world (failure w.found.covered.attribute 9 fail.Attribute world)
 
 module _ (around : Around) (a : Operand) (w : Writing) where
   abbrev m : ℕ
@@ -95,7 +95,7 @@ module _ (around : Around) (a : Operand) (w : Writing) where
       written = alone ∙ ap (λ (made : ℕ × Body). (made.0, writing w.found made.1)) value.written ∙ ap (λ f. (value.x, writing f (record { types = w.body.types ++ value.new; ops = w.body.ops ++ value.ops }))) (sym none_asked);
       inside = value.inside;
       enters = λ p numbers raised arguments rest e frames core has room set there. value.enters p arguments rest e frames core room set;
-      misses = λ kept place p numbers raised arguments later rest e frames core g most world has k low. absurd (never_missing k);
+      misses = λ known place p numbers raised arguments later rest e frames core g most world has k low. absurd (never_missing k);
     }
 
     itself : there around a w ≡ (a.x, w)
@@ -111,7 +111,7 @@ module _ (around : Around) (a : Operand) (w : Writing) where
           ∙ ap (λ ts. (a.x, writing (all_asked (there_asks around a w.found.covered) w.found) (record { types = ts; ops = w.body.ops }))) (sym (append-nil w.body.types))
           ∙ ap (λ os. (a.x, writing (all_asked (there_asks around a w.found.covered) w.found) (record { types = w.body.types ++ []; ops = os }))) (sym (append-nil w.body.ops));
       enters = λ p numbers raised arguments rest e frames core has room set there. (core, rests, none_passed, refl);
-      misses = λ kept place p numbers raised arguments later rest e frames core g most world has k low. absurd (never_missing k);
+      misses = λ known place p numbers raised arguments later rest e frames core g most world has k low. absurd (never_missing k);
     }
 
   -- ---- one that may be missing
@@ -131,11 +131,11 @@ module _ (around : Around) (a : Operand) (w : Writing) where
       present_has : HasSmall p around.layout raised (small.Present (type_of around a) w.found.covered.attribute) number
       present_has = (subst (λ k. HasAll p around.layout numbers raised core (if_missing (of_list_or_none k) (type_of around a) w.found.covered) w.found) h has).0
 
-      missing_follows : (kept : ℕ → Option Element) (place : Place) (later rest : List LlOp) (e : LlExit) (frames : List Frame) (g : Ghost) (most : ℕ) (world : World) → operand core.vars a.x ≡ Null
+      missing_follows : (known : Known) (place : Place) (later rest : List LlOp) (e : LlExit) (frames : List Frame) (g : Ghost) (most : ℕ) (world : World) → operand core.vars a.x ≡ Null
           → (c : Bool) → HasSmall p around.layout raised (small.Present (type_of around a) c) number
-          → Follows kept around place p arguments (At (op.Call (Some m) number (a.x ∷ []) ∷ (later ++ rest)) e frames core) rest e frames core g raised most m world (failure c 9 fail.Attribute world)
-      missing_follows kept place later rest e frames g most world low true s = throws_at (ap (λ x. x ∷ []) low) refl later rest (present_flies p around.layout arguments raised (type_of around a) number core s)
-      missing_follows kept place later rest e frames g most world low false s = fails_at (ap (λ x. x ∷ []) low) refl (later ++ rest) (present_fails p around.layout arguments raised (type_of around a) number core s)
+          → Follows 2 known around place p arguments (At (op.Call (Some m) number (a.x ∷ []) ∷ (later ++ rest)) e frames core) rest e frames core g raised most m world (failure c 9 fail.Attribute world)
+      missing_follows known place later rest e frames g most world low true s = throws_at (ap (λ x. x ∷ []) low) refl later rest (present_flies p around.layout arguments raised (type_of around a) number core s)
+      missing_follows known place later rest e frames g most world low false s = fails_at (ap (λ x. x ∷ []) low) refl (later ++ rest) (present_fails p around.layout arguments raised (type_of around a) number core s)
 
     by_present : Entered around a w
     by_present = record {
@@ -150,8 +150,8 @@ module _ (around : Around) (a : Operand) (w : Writing) where
         passed = sets_more m (operand core.vars a.x) (omega arith) none_passed;
         is = is_set_at core m (operand core.vars a.x) (omega (arith, room));
       };
-      misses = λ kept place p numbers raised arguments later rest e frames core g most world has k low.
-          missing_follows p numbers raised arguments core has kept place later rest e frames g most world low w.found.covered.attribute (present_has p numbers raised arguments core has);
+      misses = λ known place p numbers raised arguments later rest e frames core g most world has k low.
+          missing_follows p numbers raised arguments core has known place later rest e frames g most world low w.found.covered.attribute (present_has p numbers raised arguments core has);
     }
 
     called : there around a w ≡ (Var m, writing (small_number (small.Present (type_of around a) w.found.covered.attribute) w.found).1 (record { types = w.body.types ++ type_of around a ∷ []; ops = w.body.ops ++ op.Call (Some m) number (a.x ∷ []) ∷ [] }))
@@ -170,8 +170,8 @@ module _ (around : Around) (a : Operand) (w : Writing) where
         sets_more m (operand core.vars a.x) (omega arith) none_passed,
         is_set_at core m (operand core.vars a.x) (omega (arith, room)),
       );
-      misses = λ kept place p numbers raised arguments later rest e frames core g most world has k low.
-          missing_follows p numbers raised arguments core has kept place later rest e frames g most world low w.found.covered.attribute (present_has p numbers raised arguments core has);
+      misses = λ known place p numbers raised arguments later rest e frames core g most world has k low.
+          missing_follows p numbers raised arguments core has known place later rest e frames g most world low w.found.covered.attribute (present_has p numbers raised arguments core has);
     }
 
   -- ---- either

@@ -1,5 +1,5 @@
 -- Graphs of lists that are asked for stand at their numbers.
-use Rattle.std.specs.Prelude.{◌≡◌, ℕ, ◌+◌, List, [], ◌∷◌, Some, slice_get}
+use Rattle.std.specs.Prelude.{◌≡◌, ℕ, ◌+◌, List, [], Some, slice_get}
 use Rattle.csub_tree.specs.State.{Value, Core}
 use Rattle.ll_code.specs.declared.program.LlProgram.{LlProgram}
 use Rattle.ll_build.specs.declared.needs.Numbers.{Numbers}
@@ -11,7 +11,8 @@ use Rattle.rtyper_data.specs.declared.small.Listed.TheVariants.{Place, Room, App
 use Rattle.rtyper_data.specs.declared.small.Small.TheVariants as small
 use Rattle.rtyper_data.specs.Finding.{small_number}
 use Rattle.list_helpers.specs.Listing.{list_graph}
-use Rattle.lower_laws.specs.Asked.{Ask, Make, number_of, Has as HasOther, AllRaise, if_raised}
+use Rattle.lower_laws.specs.Asked.{Ask, Make, Has as HasOther, AllRaise, if_raised}
+use Rattle.object_laws.specs.Done.{AllAsked}
 
 -- the classes of what a graph of lists raises
 abbrev pub raised_by : Listed → List ℕ
@@ -43,5 +44,4 @@ Has p layout numbers raised core ask found = HasOther p layout numbers raised co
 
 -- what is asked for stands at its numbers
 abbrev pub HasAll : LlProgram → Layout → Numbers → (ℕ → Value) → Core → List Ask → Found → Type 0
-HasAll p layout numbers raised core [] found = Unit {0}
-HasAll p layout numbers raised core (a ∷ asks) found = Has p layout numbers raised core a found × HasAll p layout numbers raised core asks (number_of a found).1
+HasAll p layout numbers raised core asks found = AllAsked (Has p layout numbers raised core) asks found

@@ -1,8 +1,7 @@
 // Laws of operations on lists as they are lowered.
 ghost use Rattle.std.specs.Prelude.{ℕ, Option, codes};
 ghost use Rattle.rpy_meaning.specs.declared.row.RowOp.TheVariants as row;
-ghost use Rattle.list_laws.specs.Lists.{EmptyListsAreMade, ItemsAreAppended, ItemsAreRead, ItemsAreStored, LengthsAreRead, WalksBegin, WalksGive, WalksGoOn};
-ghost use Rattle.list_laws.specs.Rows.{TwoWords};
+ghost use Rattle.list_laws.specs.Lists.{EmptyListsAreMade, ItemsAreAppended, ItemsAreRead, ItemsAreStored, LengthsAreRead, ListsAreMade, WalksBegin, WalksGive, WalksGoOn};
 
 /// The length of a list; where the list may be missing, `None` fails, or raises.
 pub fn lengths_are_read()
@@ -18,11 +17,6 @@ pub fn items_are_read()
 pub fn empty_lists_are_made()
     ensures display { (site : ℕ) → EmptyListsAreMade (row.List site) }
     ensures comprehension { (site : ℕ) → EmptyListsAreMade (row.Comprehension site) }
-{}
-
-/// Two blocks represent a heap with one list of two words.
-pub fn two_words_are_a_list()
-    ensures { TwoWords }
 {}
 
 /// An item that is stored at an index, in every list that the blocks represent: no other list changes.
@@ -42,4 +36,9 @@ pub fn walks_are_done()
     ensures begin { WalksBegin }
     ensures on { WalksGoOn }
     ensures item { WalksGive }
+{}
+
+/// A list of so many items, by a display, at its cost.
+pub fn lists_are_made()
+    ensures { ListsAreMade }
 {}

@@ -6,5 +6,5 @@ mod laws;
 
 pub use laws::{
     empty_lists_are_made, items_are_appended, items_are_read, items_are_stored, lengths_are_read,
-    two_words_are_a_list, walks_are_done,
+    lists_are_made, walks_are_done,
 };

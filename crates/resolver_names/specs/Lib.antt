@@ -1,3 +1,4 @@
 pub mod Forms
+pub mod Nodes
 pub mod Tables
 pub mod Told

@@ -1,9 +1,10 @@
 // What the names of a module stand for.
-ghost use Rattle.std.specs.Prelude.{◌≡◌, ◌+◌, [], true, IfOk};
+ghost use Rattle.std.specs.Prelude.{◌≡◌, ℕ, ◌+◌, ◌%◌, ◌^◌, ◌≤◌, [], true, IfOk};
 ghost use Rattle.std.specs.Option.{option_copied};
 ghost use Rattle.rpy_meaning.specs.Resolved as meaning;
 ghost use Rattle.resolved_laws.specs.Meant.{clause_at};
 ghost use Rattle.resolver_names.specs.Forms as form;
+ghost use Rattle.resolver_names.specs.Nodes.{values, one_at};
 ghost use Rattle.resolver_names.specs.Told.{Knows, the_names, tree_of};
 
 use crate::index::Index;
@@ -36,7 +37,9 @@ fn step_in(of: &Use) -> i64
 
 impl<'a> Names<'a> {
     /// The number of a module's node in the program, as trees have it.
-    pub fn node(&self, node: NodeId) -> NodeId {
+    pub fn node(&self, node: NodeId) -> NodeId
+        ensures { result ≡ (self.now.first + node) % 2 ^ 32 }
+    {
         self.first.wrapping_add(node)
     }
 
@@ -143,7 +146,8 @@ pub fn meaningless(alloc: Global, node: NodeId) -> Expr
 
 /// The value of a name that stands for this.
 pub fn named_value(alloc: Global, names: &Names<'_>, node: NodeId, of: &Use) -> Result<Expr, NoMem>
-    ensures { IfOk result (λ made. tree_of names.now made ≡ meaning.named_value (the_names names.now) of.now) }
+    ensures tree { IfOk result (λ made. tree_of names.now made ≡ meaning.named_value (the_names names.now) of.now) }
+    ensures nodes { IfOk result (λ made. (k : ℕ) → values k made ≤ one_at k node) }
 {
     match of {
         Use::Local(local) => Ok(Expr::Local(node, *local)),

@@ -1,8 +1,9 @@
 // What single forms of expressions and targets are made of.
-ghost use Rattle.std.specs.Prelude.{◌≡◌, ◌<◌, [], ◌∷◌, true, sum_by, option_map, IfOk, IfSome};
+ghost use Rattle.std.specs.Prelude.{◌≡◌, ℕ, ◌+◌, ◌<◌, ◌≤◌, [], ◌∷◌, true, sum_by, option_map, IfOk, IfSome};
 ghost use Rattle.rpy_tree.specs.Size.{expr_nodes};
 ghost use Rattle.rpy_tree.specs.declared.syntax.Expr.{out-Expr};
 ghost use Rattle.rpy_meaning.specs.Resolved as meaning;
+ghost use Rattle.resolver_names.specs.Nodes.{values, bound_values, one_at, node_at};
 ghost use Rattle.resolver_names.specs.Told.{Knows, the_names, tree_of, aim_of};
 ghost use Rattle.resolver_names.specs.Forms as form;
 
@@ -132,7 +133,8 @@ fn checked_op(op: &RowOp) -> Option<RowOp>
 /// `ovfcheck` of an operation: that operation, whose failures have its own node, with its test.
 #[tactic(auto, using(crate::proofs::Making::apply_made, crate::proofs::Plain::unchecked, crate::proofs::Plain::checking))]
 pub fn checked(alloc: Global, names: &Names<'_>, node: NodeId, e: Expr) -> Result<Expr, NoMem>
-    ensures { IfOk result (λ made. tree_of names.now made ≡ meaning.checked_of (tree_of names.now e)) }
+    ensures tree { IfOk result (λ made. tree_of names.now made ≡ meaning.checked_of (tree_of names.now e)) }
+    ensures nodes { IfOk result (λ made. (k : ℕ) → values k made ≤ one_at k node + values k e) }
 {
     match e {
         Expr::Apply(inner, value, op, parts) => match checked_op(&op) {
@@ -184,7 +186,8 @@ pub fn range_args<'a>(names: &Names<'_>, e: &'a syntax::Expr) -> Option<&'a [syn
 /// The local that a name is bound to.
 pub fn bound_name(alloc: Global, names: &Names<'_>, n: NodeId) -> Target
     requires { Knows names.now }
-    ensures { aim_of names.now result ≡ meaning.bound_name (the_names names.now) ((the_names names.now).meant n) }
+    ensures aim { aim_of names.now result ≡ meaning.bound_name (the_names names.now) ((the_names names.now).meant n) }
+    ensures nodes { (k : ℕ) → bound_values k result ≤ node_at k names.now.first n }
 {
     match names.meant(n) {
         Use::Local(local) => Target::Name(names.node(n), *local),

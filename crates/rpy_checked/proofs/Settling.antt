@@ -30,7 +30,14 @@ module _ (p : Program) (gs : Graphs) (covers : Covers p gs) (stand : StandFor p 
   -- ---- an annotation was found
 
   settled_by : (n : Annotation) (h : spec.Annotates p (planned p gs (tables p)) (Ok n)) → settled.IsSettled p gs (tables p) n h.0
-  settled_by n h = record { read = h.1.0; closed = h.1.1.0; least = λ classes lt. (h.1.1.1 (basis p gs (tables p) classes lt)).least }
+  settled_by n h = record {
+    read = h.1.0;
+    closed = h.1.1.0;
+    fits = λ classes lt.
+        let grown = h.1.1.1 (basis p gs (tables p) classes lt) in
+        record { cells = grown.cells; marks = grown.marks; table = grown.table; above = grown.above; formed = grown.formed h.1.1.0.free };
+    least = λ classes lt. (h.1.1.1 (basis p gs (tables p) classes lt)).least;
+  }
 
   types_by : (n : Annotation) → spec.Annotates p (planned p gs (tables p)) (Ok n) → spec.Types p gs n (tables p) (Ok tt) → spec.HasTypes p gs n
   types_by n h t = record { covers = covers; stand = stand; state = h.0; settled = settled_by n h; typed = t }

@@ -1,5 +1,5 @@
 -- What the expressions that are made mean, form by form.
-use Rattle.std.proofs.Common.{◌≡◌, ℕ, zero, suc, ◌+◌, ◌-◌, ◌<◌, ◌≤◌, ℤ, pos, Bool, true, false, List, [], ◌∷◌, ◌++◌, map, length, get_or, take, drop, Bor, Option, Some, None, Result, Ok, Err, refl, sym, ap, ◌∙◌, arith, append_assoc}
+use Rattle.std.proofs.Common.{◌≡◌, ℕ, zero, suc, ◌+◌, ◌-◌, ◌<◌, ◌≤◌, ℤ, Bool, true, false, List, [], ◌∷◌, ◌++◌, map, length, get_or, take, drop, Bor, Option, Some, None, Result, Ok, Err, refl, sym, ap, ◌∙◌, arith, append_assoc}
 use Rattle.std.proofs.lemmas.List.{map-append}
 use Rattle.std.specs.Prelude.{if◌then◌else◌, option_map, slice_get, unwrap_or, IfOk, OnOk}
 use Rattle.rpy_base.specs.declared.fault.NoMem.{NoMem}
@@ -39,7 +39,7 @@ use Rattle.resolver_names.specs.Forms.{both, function_op, minus_in, range_args, 
 use Rattle.resolver_names.specs.Told.{the_names, tree_of, walked_of, aim_of}
 use Rattle.resolver_names.proofs.Making.{ok_map, apply_made, display_made, over_made, up_made, attr_made, item_made, parts_made, values_are, target_name, target_attr, target_item, target_tuple}
 use Rattle.resolver_names.proofs.Plain.{binary_bare, minus_same, unranged}
-use Rattle.rpy_resolver.specs.Parts.{part, parts, and_or}
+use Rattle.rpy_resolver.specs.Parts.{parts, and_or}
 
 -- ---- operations that are no copy
 
@@ -320,6 +320,16 @@ module _ (names : code.Names) where
 
   pub over_whole : (site : ℕ) (x : syntax.Expr) (e : Expr) → range_args the (out-Expr x) ≡ None → tree_of names e ≡ expr_by the x → walked_of names (ms.Over site e) ≡ meaning.subject_of site (said_by the x)
   over_whole site x e none_is h = over_made sites site e ∙ ap (tree.Over site) h ∙ unranged the x site none_is
+
+  many_range : (site : ℕ) (args : List syntax.Expr) → 4 ≤ length args → tree.Over site meaning.meaningless ≡ range_or site (meaning.range_of the (parts the args))
+  many_range site [] le = absurd (omega arith)
+  many_range site (a ∷ []) le = absurd (omega arith)
+  many_range site (a ∷ b ∷ []) le = absurd (omega arith)
+  many_range site (a ∷ b ∷ c ∷ []) le = absurd (omega arith)
+  many_range site (a ∷ b ∷ c ∷ d ∷ args) le = refl
+
+  pub many_whole : (site n : ℕ) (args : List syntax.Expr) (e : Expr) → 4 ≤ length args → e ≡ m.Apply n true row.Copy [] → walked_of names (ms.Over site e) ≡ range_or site (meaning.range_of the (parts the args))
+  many_whole site n args e le is = over_made sites site e ∙ ap (tree.Over site) (leaf_whole n true row.Copy e is) ∙ many_range site args le
 
   -- targets
 

@@ -1,3 +1,5 @@
+pub mod Counts
 pub mod Forms
+pub mod Sources
 pub mod Statements
 pub mod Listed

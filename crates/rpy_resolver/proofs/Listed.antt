@@ -5,26 +5,22 @@ use Rattle.std.specs.Prelude.{option_map, sum_by}
 use Rattle.std.proofs.lemmas.List.Sums.{sum_by-cons}
 use Rattle.rpy_tree.specs.declared.syntax.Member.{Member}
 use Rattle.rpy_tree.specs.declared.syntax.Module.{Module}
-use Rattle.rpy_resolved.specs.Count.{member_count, function_count}
+use Rattle.rpy_resolved.specs.Count.{member_count, method_count, function_count}
 use Rattle.rpy_tree.specs.declared.program.ClassInfo.{ClassInfo}
 use Rattle.rpy_tree.specs.declared.program.Const.{Const}
 use Rattle.rpy_tree.specs.declared.program.Program.{Program}
 use Rattle.rpy_tree.specs.declared.syntax.Expr as syntax
-use Rattle.rpy_tree.specs.declared.syntax.Function as source
-use Rattle.rpy_tree.specs.declared.syntax.Param.{Param}
 use Rattle.rpy_meaning.specs.Resolved as meaning
 use Rattle.rpy_meaning.specs.Resolved.{class_by, joined, stmt_by}
 use Rattle.rpy_meaning.specs.Tree as tree
 use Rattle.rpy_resolved.specs.declared.tree.Class.{Class}
-use Rattle.rpy_resolved.specs.declared.tree.Function.{Function}
 use Rattle.resolved_meaning.specs.Programs.{value_in, class_of, constants_in}
 use Rattle.resolved_laws.specs.Meant.{further_of}
 use Rattle.resolver_names.specs.declared.names.Names as code
-use Rattle.resolver_names.specs.Told.{IsTold, Knows, the_names, block_tree}
+use Rattle.resolver_names.specs.Told.{IsTold, Knows, the_names}
 use Rattle.resolver_names.specs.Forms.{default_in}
-use Rattle.resolver_laws.specs.Listing.{class_with, locals_in, tree_in}
-use Rattle.resolver_laws.proofs.Listed.{default_same, function_made, one_added}
-use Rattle.rpy_resolver.specs.Parts.{Added}
+use Rattle.resolver_laws.specs.Listing.{class_with}
+use Rattle.resolver_laws.proofs.Listed.{default_same}
 
 pub default_made : (names : code.Names) (d : Option syntax.Expr) (e : syntax.Expr) (c : Const) → d ≡ Some e → c ≡ default_in ((the_names names).meant (meaning.node_of e))
     → option_map (value_in names.program.now.sites) (Some c) ≡ meaning.default_of (the_names names) d
@@ -62,6 +58,10 @@ taken {A = A} f (y ∷ xs) (suc i) x lt e =
 pub counted : (members : List Member) (i : ℕ) (m : Member) (first old new : ℕ) → i < length members → m ≡ get_or members i m
     → old ≡ first + sum_by member_count (take i members) → new ≡ old + member_count m → new ≡ first + sum_by member_count (take (i + 1) members)
 counted members i m first old new lt e h n = let t = taken member_count members i m lt e in omega (arith, t, h, n)
+
+pub methods_counted : (members : List Member) (i : ℕ) (m : Member) (first old new : ℕ) → i < length members → m ≡ get_or members i m
+    → old ≡ first + sum_by method_count (take i members) → new ≡ old + method_count m → new ≡ first + sum_by method_count (take (i + 1) members)
+methods_counted members i m first old new lt e h n = let t = taken method_count members i m lt e in omega (arith, t, h, n)
 
 abbrev module_count : Module → ℕ
 module_count m = sum_by member_count m.members

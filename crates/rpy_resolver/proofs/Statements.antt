@@ -1,6 +1,6 @@
 -- What the statements that are made mean, form by form.
 use Rattle.std.proofs.Common.{◌≡◌, ℕ, ◌+◌, ◌<◌, ◌≤◌, Bool, true, false, List, [], ◌∷◌, ◌++◌, map, length, drop, Option, Some, None, Result, Ok, Err, refl, sym, ap, ◌∙◌, arith}
-use Rattle.std.specs.Prelude.{if◌then◌else◌, IfOk, OnOk}
+use Rattle.std.specs.Prelude.{if◌then◌else◌, IfOk}
 use Rattle.rpy_base.specs.declared.fault.NoMem.{NoMem}
 use Rattle.rpy_tree.specs.declared.program.Site.{Site}
 use Rattle.rpy_tree.specs.declared.syntax.BinOp.{BinOp}
@@ -28,7 +28,7 @@ use Rattle.resolved_meaning.specs.Trees.{heads}
 use Rattle.resolver_names.specs.declared.names.Names as code_names
 use Rattle.resolver_names.specs.Told.{the_names, tree_of, walked_of, aim_of, stmt_tree, block_tree, caught_tree, caught_by, arm_by}
 use Rattle.resolver_names.proofs.Making.{ok_map, apply_made}
-use Rattle.resolver_laws.proofs.Stating.{pass_made, break_made, continue_made, return_made, do_made, assign_made, augment_made, if_made, while_made, for_made, try_made, finally_made, pushed, onto_all, onto_done, joined_on, pass_by, break_by, continue_by, return_by, raise_by, assert_by, del_by, print_by, assign_by, aug_by, do_by, if_by, while_by, for_by, try_by, finally_by, clause_by}
+use Rattle.resolver_laws.proofs.Stating.{pass_made, break_made, continue_made, return_made, do_made, assign_made, augment_made, if_made, while_made, for_made, try_made, finally_made, pushed, pass_by, break_by, continue_by, return_by, raise_by, assert_by, del_by, print_by, assign_by, aug_by, do_by, if_by, while_by, for_by, try_by, finally_by, clause_by}
 use Rattle.rpy_resolver.specs.Parts.{Put}
 use Rattle.rpy_resolver.proofs.Forms.{all_whole}
 

@@ -1,5 +1,5 @@
 // Expressions and targets.
-ghost use Rattle.std.specs.Prelude.{◌≡◌, ◌++◌, true, map, option_map, IfOk, OnOk};
+ghost use Rattle.std.specs.Prelude.{◌≡◌, ℕ, ◌+◌, ◌≤◌, ◌++◌, true, map, option_map, IfOk, OnOk};
 ghost use Rattle.rpy_tree.specs.declared.syntax.Expr.{out-Expr};
 ghost use Rattle.rpy_meaning.specs.Resolved as meaning;
 ghost use Rattle.rpy_meaning.specs.Resolved.{expr_by, said_by, target_by};
@@ -8,6 +8,7 @@ ghost use Rattle.rpy_meaning.specs.Tree as tree;
 ghost use Rattle.resolved_laws.specs.Uncopied.{bare};
 ghost use Rattle.resolver_names.specs.Told.{Knows, the_names, tree_of, walked_of, aim_of};
 ghost use Rattle.resolver_names.specs.Forms.{both, range_or};
+ghost use Rattle.resolver_names.specs.Nodes.{total, pair_total, if_some, values, walked_values, bound_values, node_at, nodes, nodes_if, target_nodes};
 ghost use Rattle.rpy_tree.specs.declared.program.Builtin.TheVariants as builtin_of;
 ghost use Rattle.resolved_meaning.specs.Trees.{pairs as pairs_tree, condition as condition_tree};
 ghost use Rattle.rpy_resolver.specs.Parts.{parts, and_or};
@@ -27,7 +28,8 @@ use std::alloc::Global;
 #[cycle(expr)]
 pub fn resolve_expr(alloc: Global, names: &Names<'_>, e: &syntax::Expr) -> Result<Expr, NoMem>
     requires { Knows names.now }
-    ensures { IfOk result (λ made. tree_of names.now made ≡ expr_by (the_names names.now) e.now) }
+    ensures tree { IfOk result (λ made. tree_of names.now made ≡ expr_by (the_names names.now) e.now) }
+    ensures nodes { IfOk result (λ made. (k : ℕ) → values k made ≤ nodes k names.now.first e.now) }
 {
     match e {
         syntax::Expr::Int(n, word) => Ok(leaf(alloc, names.node(*n), true, RowOp::Word(*word))),
@@ -87,7 +89,8 @@ fn resolve_dict(
     pairs: &[(syntax::Expr, syntax::Expr)],
 ) -> Result<Expr, NoMem>
     requires { Knows names.now }
-    ensures { IfOk result (λ made. tree_of names.now made ≡ tree.Display (meaning.made_at (the_names names.now) n) (pairs_tree (map (both (expr_by (the_names names.now))) pairs.now))) }
+    ensures tree { IfOk result (λ made. tree_of names.now made ≡ tree.Display (meaning.made_at (the_names names.now) n) (pairs_tree (map (both (expr_by (the_names names.now))) pairs.now))) }
+    ensures nodes { IfOk result (λ made. (k : ℕ) → values k made ≤ node_at k names.now.first n + pair_total (map (both (nodes k names.now.first)) pairs.now)) }
 {
     let pairs = resolve_pairs(alloc, names, pairs)?;
     Ok(Expr::Display(names.node(n), names.made(n), pairs))
@@ -104,7 +107,8 @@ fn resolve_comp(
     condition: &Option<Own<syntax::Expr>>,
 ) -> Result<Expr, NoMem>
     requires { Knows names.now }
-    ensures { IfOk result (λ made. tree_of names.now made ≡ tree.Comprehension (meaning.made_at (the_names names.now) n) (expr_by (the_names names.now) item.now) (target_by (the_names names.now) target.now) (meaning.subject_of ((the_names names.now).walk n) (said_by (the_names names.now) subject.now)) (condition_tree (option_map (expr_by (the_names names.now)) condition.now))) }
+    ensures tree { IfOk result (λ made. tree_of names.now made ≡ tree.Comprehension (meaning.made_at (the_names names.now) n) (expr_by (the_names names.now) item.now) (target_by (the_names names.now) target.now) (meaning.subject_of ((the_names names.now).walk n) (said_by (the_names names.now) subject.now)) (condition_tree (option_map (expr_by (the_names names.now)) condition.now))) }
+    ensures nodes { IfOk result (λ made. (k : ℕ) → values k made ≤ node_at k names.now.first n + nodes k names.now.first item.now + target_nodes k names.now.first target.now + nodes k names.now.first subject.now + nodes_if k names.now.first condition.now) }
 {
     let item = resolve_own(alloc, names, item)?;
     let target = Own::new(alloc, resolve_target(alloc, names, target)?)?;
@@ -126,7 +130,8 @@ fn resolve_comp(
 #[cycle(expr)]
 fn resolve_own(alloc: Global, names: &Names<'_>, e: &syntax::Expr) -> Result<Own<Expr>, NoMem>
     requires { Knows names.now }
-    ensures { IfOk result (λ made. tree_of names.now made ≡ expr_by (the_names names.now) e.now) }
+    ensures tree { IfOk result (λ made. tree_of names.now made ≡ expr_by (the_names names.now) e.now) }
+    ensures nodes { IfOk result (λ made. (k : ℕ) → values k made ≤ nodes k names.now.first e.now) }
 {
     let e = resolve_expr(alloc, names, e)?;
     Own::new(alloc, e)
@@ -139,7 +144,8 @@ fn resolve_option(
     e: &Option<Own<syntax::Expr>>,
 ) -> Result<Option<Own<Expr>>, NoMem>
     requires { Knows names.now }
-    ensures { IfOk result (λ made. option_map (tree_of names.now) made ≡ option_map (expr_by (the_names names.now)) e.now) }
+    ensures tree { IfOk result (λ made. option_map (tree_of names.now) made ≡ option_map (expr_by (the_names names.now)) e.now) }
+    ensures nodes { IfOk result (λ made. (k : ℕ) → if_some (option_map (values k) made) ≤ nodes_if k names.now.first e.now) }
 {
     match e {
         None => Ok(None),
@@ -155,7 +161,8 @@ pub fn resolve_exprs(
     parts: &mut Seq<Expr>,
 ) -> Result<(), NoMem>
     requires { Knows names.now }
-    ensures { OnOk result (map (tree_of names.now) parts.new ≡ map (tree_of names.now) parts.old ++ map (expr_by (the_names names.now)) es.now) }
+    ensures tree { OnOk result (map (tree_of names.now) parts.new ≡ map (tree_of names.now) parts.old ++ map (expr_by (the_names names.now)) es.now) }
+    ensures nodes { OnOk result ((k : ℕ) → total (map (values k) parts.new) ≤ total (map (values k) parts.old) + total (map (nodes k names.now.first) es.now)) }
 {
     for e in es {
         let e = resolve_expr(alloc, names, e)?;
@@ -171,7 +178,8 @@ fn resolve_pair(
     pair: &(syntax::Expr, syntax::Expr),
 ) -> Result<(Expr, Expr), NoMem>
     requires { Knows names.now }
-    ensures { IfOk result (λ made. both (tree_of names.now) made ≡ both (expr_by (the_names names.now)) pair.now) }
+    ensures tree { IfOk result (λ made. both (tree_of names.now) made ≡ both (expr_by (the_names names.now)) pair.now) }
+    ensures nodes { IfOk result (λ made. (k : ℕ) → values k made.0 + values k made.1 ≤ nodes k names.now.first pair.now.0 + nodes k names.now.first pair.now.1) }
 {
     let key = resolve_expr(alloc, names, &pair.0)?;
     let value = resolve_expr(alloc, names, &pair.1)?;
@@ -185,7 +193,8 @@ fn resolve_pairs(
     pairs: &[(syntax::Expr, syntax::Expr)],
 ) -> Result<Seq<(Expr, Expr)>, NoMem>
     requires { Knows names.now }
-    ensures { IfOk result (λ made. map (both (tree_of names.now)) made ≡ map (both (expr_by (the_names names.now))) pairs.now) }
+    ensures tree { IfOk result (λ made. map (both (tree_of names.now)) made ≡ map (both (expr_by (the_names names.now))) pairs.now) }
+    ensures nodes { IfOk result (λ made. (k : ℕ) → pair_total (map (both (values k)) made) ≤ pair_total (map (both (nodes k names.now.first)) pairs.now)) }
 {
     let mut parts = Seq::new(alloc);
     for pair in pairs {
@@ -204,7 +213,8 @@ fn resolve_one(
     a: &syntax::Expr,
 ) -> Result<Expr, NoMem>
     requires { Knows names.now }
-    ensures { IfOk result (λ made. tree_of names.now made ≡ bare op (tree.more (expr_by (the_names names.now) a.now) tree.none)) }
+    ensures tree { IfOk result (λ made. tree_of names.now made ≡ bare op (tree.more (expr_by (the_names names.now) a.now) tree.none)) }
+    ensures nodes { IfOk result (λ made. (k : ℕ) → values k made ≤ node_at k names.now.first n + nodes k names.now.first a.now) }
 {
     let a = resolve_expr(alloc, names, a)?;
     one_of(alloc, names.node(n), op, a)
@@ -220,7 +230,8 @@ fn resolve_two(
     b: &syntax::Expr,
 ) -> Result<Expr, NoMem>
     requires { Knows names.now }
-    ensures { IfOk result (λ made. tree_of names.now made ≡ bare op (tree.more (expr_by (the_names names.now) a.now) (tree.more (expr_by (the_names names.now) b.now) tree.none))) }
+    ensures tree { IfOk result (λ made. tree_of names.now made ≡ bare op (tree.more (expr_by (the_names names.now) a.now) (tree.more (expr_by (the_names names.now) b.now) tree.none))) }
+    ensures nodes { IfOk result (λ made. (k : ℕ) → values k made ≤ node_at k names.now.first n + nodes k names.now.first a.now + nodes k names.now.first b.now) }
 {
     let a = resolve_expr(alloc, names, a)?;
     let b = resolve_expr(alloc, names, b)?;
@@ -236,7 +247,8 @@ fn resolve_all(
     es: &[syntax::Expr],
 ) -> Result<Expr, NoMem>
     requires { Knows names.now }
-    ensures { IfOk result (λ made. tree_of names.now made ≡ bare op (meaning.exprs (map (expr_by (the_names names.now)) es.now))) }
+    ensures tree { IfOk result (λ made. tree_of names.now made ≡ bare op (meaning.exprs (map (expr_by (the_names names.now)) es.now))) }
+    ensures nodes { IfOk result (λ made. (k : ℕ) → values k made ≤ node_at k names.now.first n + total (map (nodes k names.now.first) es.now)) }
 {
     let mut parts = Seq::new(alloc);
     resolve_exprs(alloc, names, es, &mut parts)?;
@@ -254,7 +266,8 @@ fn resolve_first(
     es: &[syntax::Expr],
 ) -> Result<Expr, NoMem>
     requires { Knows names.now }
-    ensures { IfOk result (λ made. tree_of names.now made ≡ bare op (tree.more (expr_by (the_names names.now) first.now) (meaning.exprs (map (expr_by (the_names names.now)) es.now)))) }
+    ensures tree { IfOk result (λ made. tree_of names.now made ≡ bare op (tree.more (expr_by (the_names names.now) first.now) (meaning.exprs (map (expr_by (the_names names.now)) es.now)))) }
+    ensures nodes { IfOk result (λ made. (k : ℕ) → values k made ≤ node_at k names.now.first n + nodes k names.now.first first.now + total (map (nodes k names.now.first) es.now)) }
 {
     let mut parts = Seq::new(alloc);
     let first = resolve_expr(alloc, names, first)?;
@@ -273,7 +286,8 @@ fn resolve_logic(
     b: &syntax::Expr,
 ) -> Result<Expr, NoMem>
     requires { Knows names.now }
-    ensures { IfOk result (λ made. tree_of names.now made ≡ and_or is_and (expr_by (the_names names.now) a.now) (expr_by (the_names names.now) b.now)) }
+    ensures tree { IfOk result (λ made. tree_of names.now made ≡ and_or is_and (expr_by (the_names names.now) a.now) (expr_by (the_names names.now) b.now)) }
+    ensures nodes { IfOk result (λ made. (k : ℕ) → values k made ≤ node_at k names.now.first n + nodes k names.now.first a.now + nodes k names.now.first b.now) }
 {
     let a = resolve_own(alloc, names, a)?;
     let b = resolve_own(alloc, names, b)?;
@@ -294,7 +308,8 @@ fn resolve_attr(
     name: &Text,
 ) -> Result<Expr, NoMem>
     requires { Knows names.now }
-    ensures { IfOk result (λ made. tree_of names.now made ≡ meaning.attribute_value (the_names names.now) ((the_names names.now).meant n) (expr_by (the_names names.now) a.now) name.now) }
+    ensures tree { IfOk result (λ made. tree_of names.now made ≡ meaning.attribute_value (the_names names.now) ((the_names names.now).meant n) (expr_by (the_names names.now) a.now) name.now) }
+    ensures nodes { IfOk result (λ made. (k : ℕ) → values k made ≤ node_at k names.now.first n + nodes k names.now.first a.now) }
 {
     match names.meant(n) {
         Use::Nothing => resolve_one(alloc, names, n, RowOp::Attr(name.copy(alloc)?), a),
@@ -312,7 +327,8 @@ fn resolve_slice(
     high: &Option<Own<syntax::Expr>>,
 ) -> Result<Expr, NoMem>
     requires { Knows names.now }
-    ensures { IfOk result (λ made. tree_of names.now made ≡ meaning.slice_of (meaning.made_at (the_names names.now) n) (expr_by (the_names names.now) a.now) (option_map (expr_by (the_names names.now)) low.now) (option_map (expr_by (the_names names.now)) high.now)) }
+    ensures tree { IfOk result (λ made. tree_of names.now made ≡ meaning.slice_of (meaning.made_at (the_names names.now) n) (expr_by (the_names names.now) a.now) (option_map (expr_by (the_names names.now)) low.now) (option_map (expr_by (the_names names.now)) high.now)) }
+    ensures nodes { IfOk result (λ made. (k : ℕ) → values k made ≤ node_at k names.now.first n + nodes k names.now.first a.now + nodes_if k names.now.first low.now + nodes_if k names.now.first high.now) }
 {
     let site = names.made(n);
     match low {
@@ -357,7 +373,8 @@ fn resolve_part(
     high: &syntax::Expr,
 ) -> Result<Expr, NoMem>
     requires { Knows names.now }
-    ensures { IfOk result (λ made. tree_of names.now made ≡ tree.Apply (row.Slice (meaning.made_at (the_names names.now) n) true true) (tree.more (expr_by (the_names names.now) a.now) (tree.more (expr_by (the_names names.now) low.now) (tree.more (expr_by (the_names names.now) high.now) tree.none)))) }
+    ensures tree { IfOk result (λ made. tree_of names.now made ≡ tree.Apply (row.Slice (meaning.made_at (the_names names.now) n) true true) (tree.more (expr_by (the_names names.now) a.now) (tree.more (expr_by (the_names names.now) low.now) (tree.more (expr_by (the_names names.now) high.now) tree.none)))) }
+    ensures nodes { IfOk result (λ made. (k : ℕ) → values k made ≤ node_at k names.now.first n + nodes k names.now.first a.now + nodes k names.now.first low.now + nodes k names.now.first high.now) }
 {
     let mut parts = Seq::new(alloc);
     let a = resolve_expr(alloc, names, a)?;
@@ -379,7 +396,8 @@ fn resolve_call(
     args: &[syntax::Expr],
 ) -> Result<Expr, NoMem>
     requires { Knows names.now }
-    ensures { IfOk result (λ made. tree_of names.now made ≡ meaning.call_by (the_names names.now) (out-Expr callee.now) n (expr_by (the_names names.now) callee.now) (parts (the_names names.now) args.now)) }
+    ensures tree { IfOk result (λ made. tree_of names.now made ≡ meaning.call_by (the_names names.now) (out-Expr callee.now) n (expr_by (the_names names.now) callee.now) (parts (the_names names.now) args.now)) }
+    ensures nodes { IfOk result (λ made. (k : ℕ) → values k made ≤ node_at k names.now.first n + nodes k names.now.first callee.now + total (map (nodes k names.now.first) args.now)) }
 {
     match callee {
         syntax::Expr::Name(m, _) => {
@@ -415,7 +433,8 @@ fn resolve_named(
     args: &[syntax::Expr],
 ) -> Result<Expr, NoMem>
     requires { Knows names.now }
-    ensures { IfOk result (λ made. tree_of names.now made ≡ meaning.named_call (the_names names.now) of.now class (expr_by (the_names names.now) callee.now) (parts (the_names names.now) args.now)) }
+    ensures tree { IfOk result (λ made. tree_of names.now made ≡ meaning.named_call (the_names names.now) of.now class (expr_by (the_names names.now) callee.now) (parts (the_names names.now) args.now)) }
+    ensures nodes { IfOk result (λ made. (k : ℕ) → values k made ≤ node_at k names.now.first n + nodes k names.now.first callee.now + total (map (nodes k names.now.first) args.now)) }
 {
     match of {
         Use::Function(function) => {
@@ -437,7 +456,8 @@ fn resolve_builtin(
     args: &[syntax::Expr],
 ) -> Result<Expr, NoMem>
     requires { Knows names.now }
-    ensures { IfOk result (λ made. tree_of names.now made ≡ meaning.builtin_call (the_names names.now) builtin (parts (the_names names.now) args.now)) }
+    ensures tree { IfOk result (λ made. tree_of names.now made ≡ meaning.builtin_call (the_names names.now) builtin (parts (the_names names.now) args.now)) }
+    ensures nodes { IfOk result (λ made. (k : ℕ) → values k made ≤ node_at k names.now.first n + total (map (nodes k names.now.first) args.now)) }
 {
     match builtin {
         Builtin::IsInstance => resolve_isinstance(alloc, names, n, args),
@@ -457,7 +477,8 @@ fn resolve_isinstance(
     args: &[syntax::Expr],
 ) -> Result<Expr, NoMem>
     requires { Knows names.now }
-    ensures { IfOk result (λ made. tree_of names.now made ≡ meaning.builtin_call (the_names names.now) builtin_of.IsInstance (parts (the_names names.now) args.now)) }
+    ensures tree { IfOk result (λ made. tree_of names.now made ≡ meaning.builtin_call (the_names names.now) builtin_of.IsInstance (parts (the_names names.now) args.now)) }
+    ensures nodes { IfOk result (λ made. (k : ℕ) → values k made ≤ node_at k names.now.first n + total (map (nodes k names.now.first) args.now)) }
 {
     match args {
         [] => Ok(meaningless(alloc, names.node(n))),
@@ -478,7 +499,8 @@ fn resolve_ovfcheck(
     args: &[syntax::Expr],
 ) -> Result<Expr, NoMem>
     requires { Knows names.now }
-    ensures { IfOk result (λ made. tree_of names.now made ≡ meaning.builtin_call (the_names names.now) builtin_of.Ovfcheck (parts (the_names names.now) args.now)) }
+    ensures tree { IfOk result (λ made. tree_of names.now made ≡ meaning.builtin_call (the_names names.now) builtin_of.Ovfcheck (parts (the_names names.now) args.now)) }
+    ensures nodes { IfOk result (λ made. (k : ℕ) → values k made ≤ node_at k names.now.first n + total (map (nodes k names.now.first) args.now)) }
 {
     match args {
         [] => Ok(meaningless(alloc, names.node(n))),
@@ -499,14 +521,15 @@ pub fn resolve_subject(
     e: &syntax::Expr,
 ) -> Result<Subject, NoMem>
     requires { Knows names.now }
-    ensures { IfOk result (λ made. walked_of names.now made ≡ meaning.subject_of site (said_by (the_names names.now) e.now)) }
+    ensures tree { IfOk result (λ made. walked_of names.now made ≡ meaning.subject_of site (said_by (the_names names.now) e.now)) }
+    ensures nodes { IfOk result (λ made. (k : ℕ) → walked_values k made ≤ nodes k names.now.first e.now) }
 {
     match range_args(names, e) {
         None => {
             let e = resolve_expr(alloc, names, e)?;
             Ok(Subject::Over(site, e))
         }
-        Some(args) => resolve_range(alloc, names, site, args),
+        Some(args) => resolve_range(alloc, names, node_of(e), site, args),
     }
 }
 
@@ -514,18 +537,20 @@ pub fn resolve_subject(
 fn resolve_range(
     alloc: Global,
     names: &Names<'_>,
+    n: NodeId,
     site: u32,
     args: &[syntax::Expr],
 ) -> Result<Subject, NoMem>
     requires { Knows names.now }
-    ensures { IfOk result (λ made. walked_of names.now made ≡ range_or site (meaning.range_of (the_names names.now) (parts (the_names names.now) args.now))) }
+    ensures tree { IfOk result (λ made. walked_of names.now made ≡ range_or site (meaning.range_of (the_names names.now) (parts (the_names names.now) args.now))) }
+    ensures nodes { IfOk result (λ made. (k : ℕ) → walked_values k made ≤ node_at k names.now.first n + total (map (nodes k names.now.first) args.now)) }
 {
     match args {
-        [] => Ok(Subject::Over(site, meaningless(alloc, 0))),
+        [] => Ok(Subject::Over(site, meaningless(alloc, names.node(n)))),
         [end] => Ok(Subject::UpTo(resolve_expr(alloc, names, end)?)),
         [start, end] => resolve_from(alloc, names, start, end, 1),
         [start, end, step] => resolve_from(alloc, names, start, end, names.step(node_of(step))),
-        [_, _, _, _, ..] => Ok(Subject::Over(site, meaningless(alloc, 0))),
+        [_, _, _, _, ..] => Ok(Subject::Over(site, meaningless(alloc, names.node(n)))),
     }
 }
 
@@ -538,7 +563,8 @@ fn resolve_from(
     step: i64,
 ) -> Result<Subject, NoMem>
     requires { Knows names.now }
-    ensures { IfOk result (λ made. walked_of names.now made ≡ tree.FromTo (expr_by (the_names names.now) start.now) (expr_by (the_names names.now) end.now) step) }
+    ensures tree { IfOk result (λ made. walked_of names.now made ≡ tree.FromTo (expr_by (the_names names.now) start.now) (expr_by (the_names names.now) end.now) step) }
+    ensures nodes { IfOk result (λ made. (k : ℕ) → walked_values k made ≤ nodes k names.now.first start.now + nodes k names.now.first end.now) }
 {
     let start = resolve_expr(alloc, names, start)?;
     let end = resolve_expr(alloc, names, end)?;
@@ -553,7 +579,8 @@ pub fn resolve_target(
     target: &syntax::Target,
 ) -> Result<Target, NoMem>
     requires { Knows names.now }
-    ensures { IfOk result (λ made. aim_of names.now made ≡ target_by (the_names names.now) target.now) }
+    ensures tree { IfOk result (λ made. aim_of names.now made ≡ target_by (the_names names.now) target.now) }
+    ensures nodes { IfOk result (λ made. (k : ℕ) → bound_values k made ≤ target_nodes k names.now.first target.now) }
 {
     match target {
         syntax::Target::Name(n, _) => Ok(bound_name(alloc, names, *n)),
@@ -580,7 +607,8 @@ pub fn resolve_targets(
     targets: &[syntax::Target],
 ) -> Result<Seq<Target>, NoMem>
     requires { Knows names.now }
-    ensures { IfOk result (λ made. map (aim_of names.now) made ≡ map (target_by (the_names names.now)) targets.now) }
+    ensures tree { IfOk result (λ made. map (aim_of names.now) made ≡ map (target_by (the_names names.now)) targets.now) }
+    ensures nodes { IfOk result (λ made. (k : ℕ) → total (map (bound_values k) made) ≤ total (map (target_nodes k names.now.first) targets.now)) }
 {
     let mut parts = Seq::new(alloc);
     for target in targets {

@@ -1,5 +1,5 @@
 // Statements without blocks.
-ghost use Rattle.std.specs.Prelude.{◌≡◌, [], ◌∷◌, IfOk, OnOk};
+ghost use Rattle.std.specs.Prelude.{◌≡◌, ℕ, ◌+◌, ◌≤◌, [], ◌∷◌, false, map, IfOk, OnOk};
 ghost use Rattle.std.specs.Option.{option_copied};
 ghost use Rattle.resolved_laws.specs.Uncopied.{bare};
 ghost use Rattle.rpy_tree.specs.declared.syntax.Expr.{out-Expr};
@@ -8,6 +8,7 @@ ghost use Rattle.rpy_meaning.specs.Resolved as meaning;
 ghost use Rattle.rpy_meaning.specs.Resolved.{expr_by, target_by, said_by, stmt_by, alone};
 ghost use Rattle.rpy_meaning.specs.Tree as tree;
 ghost use Rattle.resolved_laws.specs.Meant.{classes_of as classes_in, local_of as local_in};
+ghost use Rattle.resolver_names.specs.Nodes.{total, given, values, walked_values, bound_values, done_values, nodes, nodes_if, target_nodes};
 ghost use Rattle.resolver_names.specs.Told.{Knows, the_names, tree_of, walked_of, aim_of, stmt_tree, block_tree};
 ghost use Rattle.rpy_resolver.specs.Parts.{Put};
 
@@ -43,7 +44,8 @@ fn done_by(
     op: RowOp,
     a: Expr,
 ) -> Result<Stmt, NoMem>
-    ensures { IfOk result (λ made. stmt_tree names.now made ≡ tree.Do (bare op (tree.more (tree_of names.now a) tree.none))) }
+    ensures tree { IfOk result (λ made. stmt_tree names.now made ≡ tree.Do (bare op (tree.more (tree_of names.now a) tree.none))) }
+    ensures nodes { IfOk result (λ made. (k : ℕ) → done_values k made ≤ given k false op node + values k a) }
 {
     let mut parts = Seq::new(alloc);
     parts.push(a)?;
@@ -57,7 +59,8 @@ pub fn return_of(
     e: &Option<syntax::Expr>,
 ) -> Result<Stmt, NoMem>
     requires { Knows names.now }
-    ensures { IfOk result (λ made. alone (the_names names.now) (stmt_tree names.now made) ≡ stmt_by (the_names names.now) (code.Return n e.now)) }
+    ensures tree { IfOk result (λ made. alone (the_names names.now) (stmt_tree names.now made) ≡ stmt_by (the_names names.now) (code.Return n e.now)) }
+    ensures nodes { IfOk result (λ made. (k : ℕ) → done_values k made ≤ nodes_if k names.now.first e.now) }
 {
     let node = names.node(n);
     match e {
@@ -81,7 +84,8 @@ fn class_raised(names: &Names<'_>, e: &syntax::Expr) -> Option<ClassId>
 #[tactic(auto, using(crate::proofs::Statements::class_whole))]
 fn raised(alloc: Global, names: &Names<'_>, e: &syntax::Expr) -> Result<Expr, NoMem>
     requires { Knows names.now }
-    ensures { IfOk result (λ made. tree_of names.now made ≡ meaning.raised_by (the_names names.now) (meaning.class_named (the_names names.now) (meaning.name_in (the_names names.now) (out-Expr e.now))) (expr_by (the_names names.now) e.now)) }
+    ensures tree { IfOk result (λ made. tree_of names.now made ≡ meaning.raised_by (the_names names.now) (meaning.class_named (the_names names.now) (meaning.name_in (the_names names.now) (out-Expr e.now))) (expr_by (the_names names.now) e.now)) }
+    ensures nodes { IfOk result (λ made. (k : ℕ) → values k made ≤ nodes k names.now.first e.now) }
 {
     match class_raised(names, e) {
         None => resolve_expr(alloc, names, e),
@@ -96,7 +100,8 @@ pub fn raise_of(
     e: &syntax::Expr,
 ) -> Result<Stmt, NoMem>
     requires { Knows names.now }
-    ensures { IfOk result (λ made. alone (the_names names.now) (stmt_tree names.now made) ≡ stmt_by (the_names names.now) (code.Raise n e.now)) }
+    ensures tree { IfOk result (λ made. alone (the_names names.now) (stmt_tree names.now made) ≡ stmt_by (the_names names.now) (code.Raise n e.now)) }
+    ensures nodes { IfOk result (λ made. (k : ℕ) → done_values k made ≤ nodes k names.now.first e.now) }
 {
     let e = raised(alloc, names, e)?;
     done_by(alloc, names, names.node(n), RowOp::Raise, e)
@@ -109,7 +114,8 @@ pub fn assert_of(
     e: &syntax::Expr,
 ) -> Result<Stmt, NoMem>
     requires { Knows names.now }
-    ensures { IfOk result (λ made. alone (the_names names.now) (stmt_tree names.now made) ≡ stmt_by (the_names names.now) (code.Assert n e.now)) }
+    ensures tree { IfOk result (λ made. alone (the_names names.now) (stmt_tree names.now made) ≡ stmt_by (the_names names.now) (code.Assert n e.now)) }
+    ensures nodes { IfOk result (λ made. (k : ℕ) → done_values k made ≤ nodes k names.now.first e.now) }
 {
     let node = names.node(n);
     let test = resolve_expr(alloc, names, e)?;
@@ -127,7 +133,8 @@ pub fn del_of(
     i: &syntax::Expr,
 ) -> Result<Stmt, NoMem>
     requires { Knows names.now }
-    ensures { IfOk result (λ made. alone (the_names names.now) (stmt_tree names.now made) ≡ stmt_by (the_names names.now) (code.Del n a.now i.now)) }
+    ensures tree { IfOk result (λ made. alone (the_names names.now) (stmt_tree names.now made) ≡ stmt_by (the_names names.now) (code.Del n a.now i.now)) }
+    ensures nodes { IfOk result (λ made. (k : ℕ) → done_values k made ≤ nodes k names.now.first a.now + nodes k names.now.first i.now) }
 {
     let node = names.node(n);
     let mut parts = Seq::new(alloc);
@@ -145,7 +152,8 @@ pub fn print_of(
     es: &[syntax::Expr],
 ) -> Result<Stmt, NoMem>
     requires { Knows names.now }
-    ensures { IfOk result (λ made. alone (the_names names.now) (stmt_tree names.now made) ≡ stmt_by (the_names names.now) (code.Print n es.now)) }
+    ensures tree { IfOk result (λ made. alone (the_names names.now) (stmt_tree names.now made) ≡ stmt_by (the_names names.now) (code.Print n es.now)) }
+    ensures nodes { IfOk result (λ made. (k : ℕ) → done_values k made ≤ total (map (nodes k names.now.first) es.now)) }
 {
     let node = names.node(n);
     let mut parts = Seq::new(alloc);
@@ -174,7 +182,8 @@ pub fn aug_of(
     e: &syntax::Expr,
 ) -> Result<Stmt, NoMem>
     requires { Knows names.now }
-    ensures { IfOk result (λ made. alone (the_names names.now) (stmt_tree names.now made) ≡ stmt_by (the_names names.now) (code.Aug n target.now op e.now)) }
+    ensures tree { IfOk result (λ made. alone (the_names names.now) (stmt_tree names.now made) ≡ stmt_by (the_names names.now) (code.Aug n target.now op e.now)) }
+    ensures nodes { IfOk result (λ made. (k : ℕ) → done_values k made ≤ target_nodes k names.now.first target.now + nodes k names.now.first e.now) }
 {
     let target = resolve_target(alloc, names, target)?;
     let e = resolve_expr(alloc, names, e)?;
@@ -189,7 +198,8 @@ pub fn assign_of(
     e: &syntax::Expr,
 ) -> Result<Stmt, NoMem>
     requires { Knows names.now }
-    ensures { IfOk result (λ made. alone (the_names names.now) (stmt_tree names.now made) ≡ stmt_by (the_names names.now) (code.Assign n targets.now e.now)) }
+    ensures tree { IfOk result (λ made. alone (the_names names.now) (stmt_tree names.now made) ≡ stmt_by (the_names names.now) (code.Assign n targets.now e.now)) }
+    ensures nodes { IfOk result (λ made. (k : ℕ) → done_values k made ≤ total (map (target_nodes k names.now.first) targets.now) + nodes k names.now.first e.now) }
 {
     let targets = resolve_targets(alloc, names, targets)?;
     let e = resolve_expr(alloc, names, e)?;
@@ -198,7 +208,8 @@ pub fn assign_of(
 
 pub fn do_of(alloc: Global, names: &Names<'_>, n: NodeId, e: &syntax::Expr) -> Result<Stmt, NoMem>
     requires { Knows names.now }
-    ensures { IfOk result (λ made. alone (the_names names.now) (stmt_tree names.now made) ≡ stmt_by (the_names names.now) (code.Expr n e.now)) }
+    ensures tree { IfOk result (λ made. alone (the_names names.now) (stmt_tree names.now made) ≡ stmt_by (the_names names.now) (code.Expr n e.now)) }
+    ensures nodes { IfOk result (λ made. (k : ℕ) → done_values k made ≤ nodes k names.now.first e.now) }
 {
     let e = resolve_expr(alloc, names, e)?;
     Ok(Stmt::Do(names.node(n), e))
@@ -210,7 +221,8 @@ pub fn own_target(
     target: &syntax::Target,
 ) -> Result<Own<Target>, NoMem>
     requires { Knows names.now }
-    ensures { IfOk result (λ made. aim_of names.now made ≡ target_by (the_names names.now) target.now) }
+    ensures tree { IfOk result (λ made. aim_of names.now made ≡ target_by (the_names names.now) target.now) }
+    ensures nodes { IfOk result (λ made. (k : ℕ) → bound_values k made ≤ target_nodes k names.now.first target.now) }
 {
     let target = resolve_target(alloc, names, target)?;
     Own::new(alloc, target)
@@ -224,7 +236,8 @@ pub fn own_subject(
     over: &syntax::Expr,
 ) -> Result<Own<Subject>, NoMem>
     requires { Knows names.now }
-    ensures { IfOk result (λ made. walked_of names.now made ≡ meaning.subject_of ((the_names names.now).walk n) (said_by (the_names names.now) over.now)) }
+    ensures tree { IfOk result (λ made. walked_of names.now made ≡ meaning.subject_of ((the_names names.now).walk n) (said_by (the_names names.now) over.now)) }
+    ensures nodes { IfOk result (λ made. (k : ℕ) → walked_values k made ≤ nodes k names.now.first over.now) }
 {
     let subject = resolve_subject(alloc, names, names.walk(n), over)?;
     Own::new(alloc, subject)

@@ -1,9 +1,10 @@
 // Statements with blocks, and blocks.
-ghost use Rattle.std.specs.Prelude.{◌≡◌, map, IfOk, OnOk};
+ghost use Rattle.std.specs.Prelude.{◌≡◌, ℕ, ◌+◌, ◌≤◌, map, IfOk, OnOk};
 ghost use Rattle.rpy_meaning.specs.Resolved as meaning;
 ghost use Rattle.rpy_meaning.specs.Resolved.{expr_by, stmt_by, alone, onto, joined};
 ghost use Rattle.rpy_tree.specs.declared.syntax.Stmt.TheVariants as code;
 ghost use Rattle.rpy_meaning.specs.Tree as tree;
+ghost use Rattle.resolver_names.specs.Nodes.{total, done_values, caught_values, block_values, nodes, target_nodes, stmt_nodes, clause_nodes, block_nodes, arm_nodes, last_nodes};
 ghost use Rattle.resolver_names.specs.Told.{Knows, the_names, stmt_tree, block_tree, caught_tree, caught_by, arm_by};
 
 use crate::expression::resolve_expr;
@@ -27,7 +28,8 @@ fn resolve_stmt(
     block: &mut Seq<Stmt>,
 ) -> Result<(), NoMem>
     requires { Knows names.now }
-    ensures { OnOk result (block_tree names.now block.new ≡ onto (the_names names.now) (block_tree names.now block.old) (stmt_by (the_names names.now) s.now)) }
+    ensures tree { OnOk result (block_tree names.now block.new ≡ onto (the_names names.now) (block_tree names.now block.old) (stmt_by (the_names names.now) s.now)) }
+    ensures nodes { OnOk result ((k : ℕ) → block_values k block.new ≤ block_values k block.old + stmt_nodes k names.now.first s.now) }
 {
     match s {
         syntax::Stmt::Pass(n) => block.push(Stmt::Pass(names.node(*n))),
@@ -85,7 +87,8 @@ fn resolve_branches(
     block: &mut Seq<Stmt>,
 ) -> Result<(), NoMem>
     requires { Knows names.now }
-    ensures { OnOk result (block_tree names.now block.new ≡ onto (the_names names.now) (block_tree names.now block.old) (meaning.if_of (the_names names.now) (map (arm_by (the_names names.now)) arms.now) (map (stmt_by (the_names names.now)) other.now))) }
+    ensures tree { OnOk result (block_tree names.now block.new ≡ onto (the_names names.now) (block_tree names.now block.old) (meaning.if_of (the_names names.now) (map (arm_by (the_names names.now)) arms.now) (map (stmt_by (the_names names.now)) other.now))) }
+    ensures nodes { OnOk result ((k : ℕ) → block_values k block.new ≤ block_values k block.old + total (map (arm_nodes k names.now.first) arms.now) + block_nodes k names.now.first other.now) }
 {
     match arms {
         [] => resolve_into(alloc, names, other, block),
@@ -102,7 +105,8 @@ fn resolve_while(
     body: &[syntax::Stmt],
 ) -> Result<Stmt, NoMem>
     requires { Knows names.now }
-    ensures { IfOk result (λ made. alone (the_names names.now) (stmt_tree names.now made) ≡ stmt_by (the_names names.now) (code.While n test.now body.now)) }
+    ensures tree { IfOk result (λ made. alone (the_names names.now) (stmt_tree names.now made) ≡ stmt_by (the_names names.now) (code.While n test.now body.now)) }
+    ensures nodes { IfOk result (λ made. (k : ℕ) → done_values k made ≤ nodes k names.now.first test.now + block_nodes k names.now.first body.now) }
 {
     let test = resolve_expr(alloc, names, test)?;
     let body = resolve_block(alloc, names, body)?;
@@ -119,7 +123,8 @@ fn resolve_for(
     body: &[syntax::Stmt],
 ) -> Result<Stmt, NoMem>
     requires { Knows names.now }
-    ensures { IfOk result (λ made. alone (the_names names.now) (stmt_tree names.now made) ≡ stmt_by (the_names names.now) (code.For n target.now over.now body.now)) }
+    ensures tree { IfOk result (λ made. alone (the_names names.now) (stmt_tree names.now made) ≡ stmt_by (the_names names.now) (code.For n target.now over.now body.now)) }
+    ensures nodes { IfOk result (λ made. (k : ℕ) → done_values k made ≤ target_nodes k names.now.first target.now + nodes k names.now.first over.now + block_nodes k names.now.first body.now) }
 {
     let target = own_target(alloc, names, target)?;
     let subject = own_subject(alloc, names, n, over)?;
@@ -136,7 +141,8 @@ fn resolve_finally(
     last: &[syntax::Stmt],
 ) -> Result<Stmt, NoMem>
     requires { Knows names.now }
-    ensures { IfOk result (λ made. stmt_tree names.now made ≡ tree.Finally (block_tree names.now tried) (joined (the_names names.now) (map (stmt_by (the_names names.now)) last.now))) }
+    ensures tree { IfOk result (λ made. stmt_tree names.now made ≡ tree.Finally (block_tree names.now tried) (joined (the_names names.now) (map (stmt_by (the_names names.now)) last.now))) }
+    ensures nodes { IfOk result (λ made. (k : ℕ) → done_values k made ≤ block_values k tried + block_nodes k names.now.first last.now) }
 {
     let last = resolve_block(alloc, names, last)?;
     Ok(Stmt::Finally(names.node(n), tried, last))
@@ -155,7 +161,8 @@ fn resolve_tried(
     block: &mut Seq<Stmt>,
 ) -> Result<(), NoMem>
     requires { Knows names.now }
-    ensures { OnOk result (block_tree names.now block.new ≡ onto (the_names names.now) (block_tree names.now block.old) (stmt_by (the_names names.now) (code.Try n body.now clauses.now other.now last.now))) }
+    ensures tree { OnOk result (block_tree names.now block.new ≡ onto (the_names names.now) (block_tree names.now block.old) (stmt_by (the_names names.now) (code.Try n body.now clauses.now other.now last.now))) }
+    ensures nodes { OnOk result ((k : ℕ) → block_values k block.new ≤ block_values k block.old + block_nodes k names.now.first body.now + total (map (clause_nodes k names.now.first) clauses.now) + block_nodes k names.now.first other.now + last_nodes k names.now.first last.now) }
 {
     match last {
         None => resolve_try(alloc, names, n, body, clauses, other, block),
@@ -182,7 +189,8 @@ fn resolve_try(
     block: &mut Seq<Stmt>,
 ) -> Result<(), NoMem>
     requires { Knows names.now }
-    ensures { OnOk result (block_tree names.now block.new ≡ onto (the_names names.now) (block_tree names.now block.old) (meaning.try_of (the_names names.now) (joined (the_names names.now) (map (stmt_by (the_names names.now)) body.now)) (map (caught_by (the_names names.now)) clauses.now) (joined (the_names names.now) (map (stmt_by (the_names names.now)) other.now)))) }
+    ensures tree { OnOk result (block_tree names.now block.new ≡ onto (the_names names.now) (block_tree names.now block.old) (meaning.try_of (the_names names.now) (joined (the_names names.now) (map (stmt_by (the_names names.now)) body.now)) (map (caught_by (the_names names.now)) clauses.now) (joined (the_names names.now) (map (stmt_by (the_names names.now)) other.now)))) }
+    ensures nodes { OnOk result ((k : ℕ) → block_values k block.new ≤ block_values k block.old + block_nodes k names.now.first body.now + total (map (clause_nodes k names.now.first) clauses.now) + block_nodes k names.now.first other.now) }
 {
     match clauses {
         [] => resolve_into(alloc, names, body, block),
@@ -203,7 +211,8 @@ fn resolve_clauses_of(
     other: &[syntax::Stmt],
 ) -> Result<Stmt, NoMem>
     requires { Knows names.now }
-    ensures { IfOk result (λ made. stmt_tree names.now made ≡ tree.Try (joined (the_names names.now) (map (stmt_by (the_names names.now)) body.now)) (meaning.clauses_of (the_names names.now) (map (caught_by (the_names names.now)) clauses.now)) (joined (the_names names.now) (map (stmt_by (the_names names.now)) other.now))) }
+    ensures tree { IfOk result (λ made. stmt_tree names.now made ≡ tree.Try (joined (the_names names.now) (map (stmt_by (the_names names.now)) body.now)) (meaning.clauses_of (the_names names.now) (map (caught_by (the_names names.now)) clauses.now)) (joined (the_names names.now) (map (stmt_by (the_names names.now)) other.now))) }
+    ensures nodes { IfOk result (λ made. (k : ℕ) → done_values k made ≤ block_nodes k names.now.first body.now + total (map (clause_nodes k names.now.first) clauses.now) + block_nodes k names.now.first other.now) }
 {
     let body = resolve_block(alloc, names, body)?;
     let clauses = resolve_clauses(alloc, names, clauses)?;
@@ -219,7 +228,8 @@ fn resolve_into(
     block: &mut Seq<Stmt>,
 ) -> Result<(), NoMem>
     requires { Knows names.now }
-    ensures { OnOk result (block_tree names.now block.new ≡ onto (the_names names.now) (block_tree names.now block.old) (joined (the_names names.now) (map (stmt_by (the_names names.now)) body.now))) }
+    ensures tree { OnOk result (block_tree names.now block.new ≡ onto (the_names names.now) (block_tree names.now block.old) (joined (the_names names.now) (map (stmt_by (the_names names.now)) body.now))) }
+    ensures nodes { OnOk result ((k : ℕ) → block_values k block.new ≤ block_values k block.old + block_nodes k names.now.first body.now) }
 {
     for s in body {
         resolve_stmt(alloc, names, s, block)?;
@@ -235,7 +245,8 @@ pub fn resolve_block(
     body: &[syntax::Stmt],
 ) -> Result<Seq<Stmt>, NoMem>
     requires { Knows names.now }
-    ensures { IfOk result (λ block. block_tree names.now block ≡ joined (the_names names.now) (map (stmt_by (the_names names.now)) body.now)) }
+    ensures tree { IfOk result (λ block. block_tree names.now block ≡ joined (the_names names.now) (map (stmt_by (the_names names.now)) body.now)) }
+    ensures nodes { IfOk result (λ block. (k : ℕ) → block_values k block ≤ block_nodes k names.now.first body.now) }
 {
     let mut block = Seq::new(alloc);
     resolve_into(alloc, names, body, &mut block)?;
@@ -252,7 +263,8 @@ fn resolve_arm(
     other: Seq<Stmt>,
 ) -> Result<Seq<Stmt>, NoMem>
     requires { Knows names.now }
-    ensures { IfOk result (λ block. block_tree names.now block ≡ tree.line (tree.If (expr_by (the_names names.now) arm.now.0) (joined (the_names names.now) (map (stmt_by (the_names names.now)) arm.now.1)) (block_tree names.now other)) tree.done) }
+    ensures tree { IfOk result (λ block. block_tree names.now block ≡ tree.line (tree.If (expr_by (the_names names.now) arm.now.0) (joined (the_names names.now) (map (stmt_by (the_names names.now)) arm.now.1)) (block_tree names.now other)) tree.done) }
+    ensures nodes { IfOk result (λ block. (k : ℕ) → block_values k block ≤ arm_nodes k names.now.first arm.now + block_values k other) }
 {
     let test = resolve_expr(alloc, names, &arm.0)?;
     let body = resolve_block(alloc, names, arm.1.as_slice())?;
@@ -268,7 +280,8 @@ fn resolve_arms(
     other: &[syntax::Stmt],
 ) -> Result<Seq<Stmt>, NoMem>
     requires { Knows names.now }
-    ensures { IfOk result (λ block. block_tree names.now block ≡ meaning.if_of (the_names names.now) (map (arm_by (the_names names.now)) arms.now) (map (stmt_by (the_names names.now)) other.now)) }
+    ensures tree { IfOk result (λ block. block_tree names.now block ≡ meaning.if_of (the_names names.now) (map (arm_by (the_names names.now)) arms.now) (map (stmt_by (the_names names.now)) other.now)) }
+    ensures nodes { IfOk result (λ block. (k : ℕ) → block_values k block ≤ total (map (arm_nodes k names.now.first) arms.now) + block_nodes k names.now.first other.now) }
 {
     let mut further = resolve_block(alloc, names, other)?;
     let mut left = arms.len();
@@ -289,7 +302,8 @@ fn resolve_if(
     other: &[syntax::Stmt],
 ) -> Result<Stmt, NoMem>
     requires { Knows names.now }
-    ensures { IfOk result (λ made. stmt_tree names.now made ≡ tree.If (expr_by (the_names names.now) arm.now.0) (joined (the_names names.now) (map (stmt_by (the_names names.now)) arm.now.1)) (meaning.if_of (the_names names.now) (map (arm_by (the_names names.now)) rest.now) (map (stmt_by (the_names names.now)) other.now))) }
+    ensures tree { IfOk result (λ made. stmt_tree names.now made ≡ tree.If (expr_by (the_names names.now) arm.now.0) (joined (the_names names.now) (map (stmt_by (the_names names.now)) arm.now.1)) (meaning.if_of (the_names names.now) (map (arm_by (the_names names.now)) rest.now) (map (stmt_by (the_names names.now)) other.now))) }
+    ensures nodes { IfOk result (λ made. (k : ℕ) → done_values k made ≤ arm_nodes k names.now.first arm.now + total (map (arm_nodes k names.now.first) rest.now) + block_nodes k names.now.first other.now) }
 {
     let test = resolve_expr(alloc, names, &arm.0)?;
     let body = resolve_block(alloc, names, arm.1.as_slice())?;
@@ -304,7 +318,8 @@ fn resolve_clause(
     clause: &syntax::Clause,
 ) -> Result<Clause, NoMem>
     requires { Knows names.now }
-    ensures { IfOk result (λ made. caught_tree names.now made ≡ caught_by (the_names names.now) clause.now) }
+    ensures tree { IfOk result (λ made. caught_tree names.now made ≡ caught_by (the_names names.now) clause.now) }
+    ensures nodes { IfOk result (λ made. (k : ℕ) → caught_values k made ≤ clause_nodes k names.now.first clause.now) }
 {
     let info = names.clause(clause.node);
     let classes = classes_of(alloc, info)?;
@@ -326,7 +341,8 @@ fn resolve_clauses(
     clauses: &[syntax::Clause],
 ) -> Result<Seq<Clause>, NoMem>
     requires { Knows names.now }
-    ensures { IfOk result (λ made. map (caught_tree names.now) made ≡ map (caught_by (the_names names.now)) clauses.now) }
+    ensures tree { IfOk result (λ made. map (caught_tree names.now) made ≡ map (caught_by (the_names names.now)) clauses.now) }
+    ensures nodes { IfOk result (λ made. (k : ℕ) → total (map (caught_values k) made) ≤ total (map (clause_nodes k names.now.first) clauses.now)) }
 {
     let mut resolved = Seq::new(alloc);
     for clause in clauses {

@@ -1,5 +1,5 @@
 // Whole programs.
-ghost use Rattle.std.specs.Prelude.{◌≡◌, ◌≤◌, ◌+◌, ◌<◌, ◌^◌, [], ◌∷◌, length, sum_by, IfOk, OnOk};
+ghost use Rattle.std.specs.Prelude.{◌≡◌, ◌≤◌, ◌+◌, ◌<◌, ◌^◌, List, [], ◌∷◌, ◌++◌, length, sum_by, IfOk, OnOk};
 ghost use Rattle.std.specs.List.{flat_map};
 ghost use Rattle.rpy_resolved.specs.Count.{function_count, member_count, method_count};
 ghost use Rattle.resolved_meaning.specs.Trees.{program_of};
@@ -7,6 +7,7 @@ ghost use Rattle.resolved_laws.specs.Meant.{meant_by};
 ghost use Rattle.resolved_laws.specs.Uncopied.{uncopied};
 ghost use Rattle.resolver_names.specs.Told.{IsTold, Knows, the_names};
 ghost use Rattle.resolver_laws.specs.Listing.{locals_in, method_pairs, member_pairs, module_pairs, HasNoInnerClasses};
+ghost use Rattle.resolver_laws.specs.Made.{Source, method_sources, member_sources, sources, AreFrom, IsMadeOf};
 ghost use Rattle.rpy_resolver.specs.Parts.{Added};
 
 use crate::parts::{classes_of, copy_sites, defaults_of};
@@ -55,6 +56,7 @@ fn add_function(
     requires { Knows names.now }
     ensures count { OnOk result (length functions.new ≡ length functions.old + 1) }
     ensures added { OnOk result (Added names.now.program.now functions.old functions.new (((the_names names.now), f.now) ∷ [])) }
+    ensures from { OnOk result ((done : List Source) → AreFrom functions.old done → AreFrom functions.new (done ++ (names.now.first, f.now) ∷ [])) }
 {
     let number = functions.len();
     let function = Function {
@@ -78,6 +80,7 @@ fn add_method(
     requires { Knows names.now }
     ensures count { OnOk result (length functions.new ≡ length functions.old + method_count member.now) }
     ensures added { OnOk result (Added names.now.program.now functions.old functions.new (method_pairs (the_names names.now) member.now)) }
+    ensures from { OnOk result ((done : List Source) → AreFrom functions.old done → AreFrom functions.new (done ++ method_sources names.now.first member.now)) }
 {
     match member {
         Member::Def(f) => add_function(alloc, names, labels, f, functions),
@@ -95,6 +98,7 @@ fn add_methods(
     requires { Knows names.now }
     ensures count { OnOk result (length functions.new ≡ length functions.old + sum_by method_count members.now) }
     ensures added { OnOk result (Added names.now.program.now functions.old functions.new (flat_map (method_pairs (the_names names.now)) members.now)) }
+    ensures from { OnOk result ((done : List Source) → AreFrom functions.old done → AreFrom functions.new (done ++ flat_map (method_sources names.now.first) members.now)) }
 {
     for member in members {
         add_method(alloc, names, labels, member, functions)?;
@@ -112,6 +116,7 @@ fn add_member(
     requires { Knows names.now }
     ensures count { OnOk result (length functions.new ≡ length functions.old + member_count member.now) }
     ensures added { OnOk result (Added names.now.program.now functions.old functions.new (member_pairs (the_names names.now) member.now)) }
+    ensures from { OnOk result ((done : List Source) → AreFrom functions.old done → AreFrom functions.new (done ++ member_sources names.now.first member.now)) }
 {
     match member {
         Member::Def(f) => add_function(alloc, names, labels, f, functions),
@@ -132,6 +137,7 @@ fn add_members(
     requires { Knows names.now }
     ensures count { OnOk result (length functions.new ≡ length functions.old + sum_by member_count members.now) }
     ensures added { OnOk result (Added names.now.program.now functions.old functions.new (flat_map (member_pairs (the_names names.now)) members.now)) }
+    ensures from { OnOk result ((done : List Source) → AreFrom functions.old done → AreFrom functions.new (done ++ flat_map (member_sources names.now.first) members.now)) }
 {
     for member in members {
         add_member(alloc, names, labels, member, functions)?;
@@ -149,6 +155,7 @@ fn functions_of(
     requires { IsTold program.now index.now }
     ensures count { IfOk result (λ functions. length functions ≡ function_count program.now.modules) }
     ensures added { IfOk result (λ functions. Added program.now [] functions (module_pairs program.now 0 program.now.modules)) }
+    ensures from { IfOk result (λ functions. AreFrom functions (sources 0 program.now.modules)) }
 {
     let mut functions = Seq::new(alloc);
     let mut first: NodeId = 0;
@@ -174,10 +181,11 @@ fn functions_of(
 }
 
 /// A program with its names bound in its trees. Without the copies of checked operations it is the program that
-/// the meaning makes of the modules, where no class stands within a class.
+/// the meaning makes of the modules, where no class stands within a class. Each function gives values of the nodes of its own text alone.
 pub fn resolved(alloc: Global, program: &Program) -> Result<Resolved, NoMem>
     ensures count { IfOk result (λ resolved. length resolved.functions ≡ function_count program.now.modules) }
     ensures meant { IfOk result (λ resolved. HasNoInnerClasses program.now.modules → function_count program.now.modules ≤ length program.now.functions → uncopied (program_of resolved) ≡ meant_by program.now) }
+    ensures made { IfOk result (λ resolved. IsMadeOf program.now resolved) }
 {
     let index = Index::new(alloc, program)?;
     let labels = labels_of(alloc, program)?;

@@ -31,6 +31,9 @@ decreases-put_branches l = 16 * expr_size l.e.now + 6
 abbrev pub decreases-put_simple : goal.decreases-put_simple
 decreases-put_simple l = 16 * expr_size l.e.now + 5
 
+abbrev pub decreases-put_beside : goal.decreases-put_beside
+decreases-put_beside l = 16 * expr_size l.e.now + 4
+
 abbrev pub decreases-put_whole : goal.decreases-put_whole
 decreases-put_whole l = 16 * expr_size l.e.now + 1
 

@@ -4,4 +4,4 @@ use Rattle.flow_space.proofs.source.put_store.Goals as goal
 pub returns : goal.returns
 returns c =
     let act = rw (c.op_at.ensures, c.in_ok-all.ensures, c.in_ok-jump.ensures) at c.in_ok-store.ensures in
-    ok_map c.put_taken.result (λ b h. part_map (λ r gs f k. (c.in_ok-store.store, k.1, k.0)) (λ r x g w k. k) (part_then act h)) c.put_taken.ensures
+    ok_map c.put_taken.result (λ b h. part_map (λ r gs f lo hi k. (c.in_ok-store.store, k.0, k.1, k.2)) (λ r x g w k. k) (part_then act h)) c.put_taken.ensures

@@ -11,5 +11,5 @@ returns c =
     let read = rw (c.op_at-of-2.ensures, c.in_ok-args-2.ensures, c.in_ok-jump-2.ensures, c.in_ok-index.ensures, c.in_ok-old.ensures) at c.in_ok-read.ensures in
     let place = rw c.in_ok-index.ensures at c.in_ok-place.ensures in
     ok_map c.put_expr-3.result (λ b h.
-    part_map (λ r gs f k. (c.in_ok-place.place, c.in_ok-read.read, c.in_ok-value.value, c.in_ok-new.new, c.in_ok-store.store, k.1.1.1.1.1, k.1.1.1.1.0, k.1.1.1.0, k.1.1.0, k.1.0, k.0)) (λ r x g w k. either (λ a. inr (inr (inl (inl a)))) (either (λ a. inl a) (either (λ a. inr (inr (inr a))) (either (λ a. inr (inl (a.0, a.1))) (either (λ a. inr (inr (inl (inr (inr a))))) (λ a. inr (inr (inl (inr (inl a))))))))) k)
+    part_map (λ r gs f lo hi k. (c.in_ok-place.place, c.in_ok-read.read, c.in_ok-value.value, c.in_ok-new.new, c.in_ok-store.store, k.0, k.2.0, k.2.2.0, k.2.2.2.0, k.2.2.2.2.0, k.1, k.2.1, k.2.2.1, k.2.2.2.1, k.2.2.2.2.1, k.2.2.2.2.2)) (λ r x g w k. either (λ a. inr (inr (inl (inl a)))) (either (λ a. inl a) (either (λ a. inr (inr (inr a))) (either (λ a. inr (inl (a.0, a.1))) (either (λ a. inr (inr (inl (inr (inr a))))) (λ a. inr (inr (inl (inr (inl a))))))))) k)
     (part_then store (part_then new (part_then value (part_then read (part_then place h)))))) c.put_expr-3.ensures

@@ -9,5 +9,5 @@ returns c =
     let right = rw c.in_ok-more.ensures at c.in_ok-right.ensures in
     let copy = rw (c.op_at-of-2.ensures, c.in_ok-args-2.ensures, c.in_ok-jump-2.ensures, c.in_ok-place.ensures.place) at c.put_op-2.ensures in
     ok_map c.put_op-2.result (λ b h.
-    part_map (λ r gs f k. (lt, (c.in_ok-right.right, c.in_ok-new.new, c.in_ok-store.store, k.1.1.1, k.1.1.0, k.1.0, k.0))) (λ r x g w k. either (λ a. inr (inr (inl a))) (either (λ a. inl a) (either (λ a. inr (inr (inr a))) (λ a. inr (inl (a.0, a.1))))) k)
+    part_map (λ r gs f lo hi k. (c.in_ok-right.right, c.in_ok-new.new, c.in_ok-store.store, k.0, k.2.0, k.2.2.0, lt, k.1, k.2.1, k.2.2.1, k.2.2.2)) (λ r x g w k. either (λ a. inr (inr (inl a))) (either (λ a. inl a) (either (λ a. inr (inr (inr a))) (λ a. inr (inl (a.0, a.1))))) k)
     (part_then store (part_then c.in_ok-new.ensures (part_then right h)))) copy

@@ -8,5 +8,5 @@ returns c =
     let fork = rw (c.in_ok-more.ensures, c.in_ok-yes.ensures) at c.in_ok-fork.ensures in
     let begin = rw (c.op_at-of-3.ensures, c.in_ok-args-2.ensures, c.in_ok-jump-3.ensures, c.in_ok-at.ensures) at c.put_op-3.ensures in
     ok_map c.put_op-3.result (λ b h.
-    part_map (λ r gs f k. (c.in_ok-fork.fork, c.in_ok-paid.paid, c.in_ok-item.item, k.1.1.1, k.1.1.0, k.1.0, k.0)) (λ r x g w k. either (λ a. (a.0, a.1)) (either (λ a. (a.0, a.1)) (either (λ a. absurd a) (λ a. (a.0, a.1)))) k)
+    part_map (λ r gs f lo hi k. (c.in_ok-fork.fork, c.in_ok-paid.paid, c.in_ok-item.item, k.0, k.2.0, k.2.2.0, k.1, k.2.1, k.2.2.1, k.2.2.2)) (λ r x g w k. either (λ a. (a.0, a.1)) (either (λ a. (a.0, a.1)) (either (λ a. absurd a) (λ a. (a.0, a.1)))) k)
     (part_then item (part_then paid (part_then fork h)))) begin

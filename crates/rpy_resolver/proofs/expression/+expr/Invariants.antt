@@ -1,8 +1,9 @@
-use Rattle.std.proofs.Common.{◌≡◌, ◌+◌, ◌*◌, ◌++◌, map, drop}
+use Rattle.std.proofs.Common.{◌≡◌, ℕ, ◌+◌, ◌*◌, ◌≤◌, ◌++◌, map, drop}
 use Rattle.std.specs.Prelude.{sum_by}
 use Rattle.std.specs.Option.{option_map_or}
-use Rattle.rpy_tree.specs.Size.{expr_nodes, target_nodes}
+use Rattle.rpy_tree.specs.Size.{expr_nodes, target_nodes as target_size}
 use Rattle.rpy_meaning.specs.Resolved.{expr_by, target_by}
+use Rattle.resolver_names.specs.Nodes.{total, pair_total, values, bound_values, nodes, target_nodes}
 use Rattle.resolver_names.specs.Told.{the_names, tree_of, aim_of}
 use Rattle.resolver_names.specs.Forms.{both}
 use Rattle.rpy_resolver.proofs.expression.+expr.Given as goal
@@ -75,29 +76,32 @@ abbrev pub decreases-resolve_from : goal.decreases-resolve_from
 decreases-resolve_from l = 8 * (expr_nodes l.start.now + expr_nodes l.end.now) + 1
 
 abbrev pub decreases-resolve_target : goal.decreases-resolve_target
-decreases-resolve_target l = 8 * target_nodes l.target.now
+decreases-resolve_target l = 8 * target_size l.target.now
 
 abbrev pub decreases-resolve_targets : goal.decreases-resolve_targets
-decreases-resolve_targets l = 8 * sum_by target_nodes l.targets.now + 1
+decreases-resolve_targets l = 8 * sum_by target_size l.targets.now + 1
 
 abbrev pub decreases-resolve_dict : goal.decreases-resolve_dict
 decreases-resolve_dict l = 8 * sum_by (λ p. expr_nodes p.0 + expr_nodes p.1) l.pairs.now + 3
 
 abbrev pub decreases-resolve_comp : goal.decreases-resolve_comp
-decreases-resolve_comp l = 8 * (expr_nodes l.item.now + target_nodes l.target.now + expr_nodes l.subject.now + option_map_or expr_nodes l.condition.now 0) + 3
+decreases-resolve_comp l = 8 * (expr_nodes l.item.now + target_size l.target.now + expr_nodes l.subject.now + option_map_or expr_nodes l.condition.now 0) + 3
 
 -- What is made so far, and what is left, are the whole.
 abbrev pub invariant-resolve_exprs-loop-e : goal.invariant-resolve_exprs-loop-e
 invariant-resolve_exprs-loop-e l =
-    map (tree_of l.names) l.parts ++ map (expr_by (the_names l.names)) (drop l.e-index l.es)
-    ≡ map (tree_of l.names) l.initial.parts ++ map (expr_by (the_names l.names)) l.es
+    (map (tree_of l.names) l.parts ++ map (expr_by (the_names l.names)) (drop l.e-index l.es)
+    ≡ map (tree_of l.names) l.initial.parts ++ map (expr_by (the_names l.names)) l.es)
+    × ((k : ℕ) → total (map (values k) l.parts) + total (map (nodes k l.names.first) (drop l.e-index l.es)) ≤ total (map (values k) l.initial.parts) + total (map (nodes k l.names.first) l.es))
 
 abbrev pub invariant-resolve_pairs-loop-pair : goal.invariant-resolve_pairs-loop-pair
 invariant-resolve_pairs-loop-pair l =
-    map (both (tree_of l.names)) l.parts ++ map (both (expr_by (the_names l.names))) (drop l.pair-index l.pairs)
-    ≡ map (both (expr_by (the_names l.names))) l.pairs
+    (map (both (tree_of l.names)) l.parts ++ map (both (expr_by (the_names l.names))) (drop l.pair-index l.pairs)
+    ≡ map (both (expr_by (the_names l.names))) l.pairs)
+    × ((k : ℕ) → pair_total (map (both (values k)) l.parts) + pair_total (map (both (nodes k l.names.first)) (drop l.pair-index l.pairs)) ≤ pair_total (map (both (nodes k l.names.first)) l.pairs))
 
 abbrev pub invariant-resolve_targets-loop-target : goal.invariant-resolve_targets-loop-target
 invariant-resolve_targets-loop-target l =
-    map (aim_of l.names) l.parts ++ map (target_by (the_names l.names)) (drop l.target-index l.targets)
-    ≡ map (target_by (the_names l.names)) l.targets
+    (map (aim_of l.names) l.parts ++ map (target_by (the_names l.names)) (drop l.target-index l.targets)
+    ≡ map (target_by (the_names l.names)) l.targets)
+    × ((k : ℕ) → total (map (bound_values k) l.parts) + total (map (target_nodes k l.names.first) (drop l.target-index l.targets)) ≤ total (map (target_nodes k l.names.first) l.targets))

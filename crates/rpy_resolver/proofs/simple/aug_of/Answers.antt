@@ -1,9 +1,10 @@
-use Rattle.std.proofs.Common.{◌≡◌, ◌++◌, [], ◌∷◌, false, map, sym, ap, ◌∙◌}
-use Rattle.rpy_meaning.specs.Resolved.{expr_by, alone}
-use Rattle.rpy_resolved.specs.declared.tree.Stmt.TheVariants as made
-use Rattle.resolver_names.specs.Told.{the_names, tree_of, stmt_tree}
+use Rattle.std.proofs.Common.{arith}
+use Rattle.resolver_names.proofs.Counting.{augment_counts}
 use Rattle.rpy_resolver.proofs.Statements.{aug_whole}
 use Rattle.rpy_resolver.proofs.simple.aug_of.Goals as goal
 
-pub returns : goal.returns
-returns c = aug_whole c.args.names.now c.args.n c.node.result c.args.target.now c.args.op c.args.e.now c.in_ok-target.target c.augmented.result c.in_ok-e.e c.in_ok-target.ensures c.augmented.ensures c.in_ok-e.ensures
+pub returns-clause-tree : goal.returns-clause-tree
+returns-clause-tree c = aug_whole c.args.names.now c.args.n c.node.result c.args.target.now c.args.op c.args.e.now c.in_ok-target.target c.augmented.result c.in_ok-e.e c.in_ok-target.ensures.tree c.augmented.ensures c.in_ok-e.ensures.tree
+
+pub returns-clause-nodes : goal.returns-clause-nodes
+returns-clause-nodes c = λ k. let v = augment_counts k c.node.result c.in_ok-target.target c.augmented.result c.in_ok-e.e in let g = c.in_ok-target.ensures.nodes k in let h = c.in_ok-e.ensures.nodes k in omega (arith, v, g, h)

@@ -1,4 +1,4 @@
-use Rattle.std.proofs.Common.{length, false, add-zero, ap, ◌∙◌}
+use Rattle.std.proofs.Common.{false, add-zero}
 use Rattle.flow_stands.specs.Places.{GiveBack}
 use Rattle.flow_space.proofs.Parts.{ok_put, part_push}
 use Rattle.flow_space.proofs.code.Code.put_return.Goals as goal
@@ -6,4 +6,4 @@ use Rattle.flow_space.proofs.code.Code.put_return.Goals as goal
 pub returns-clause-put : goal.returns-clause-put
 returns-clause-put c =
     ok_put c.put.result _ _ _ c.put.ensures.at c.put.ensures.put (λ b at e.
-    part_push _ _ c.in_ok-base.base 0 false b 1 GiveBack (λ x g w h. h) (at ∙ ap length (c.take.ensures.blocks)) (rw (add-zero c.in_ok-base.base) (rw (c.take.ensures.blocks, c.in_ok-inputs.ensures, c.new.ensures, add-zero c.in_ok-base.base) at e)))
+    part_push _ _ c.args.self.now.next 0 false b 1 GiveBack (λ x g w h. h) at (rw (add-zero c.args.self.now.next) (rw (c.in_ok-inputs.ensures, c.new.ensures, add-zero c.args.self.now.next) at e)))

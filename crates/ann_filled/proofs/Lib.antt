@@ -1,0 +1,3 @@
+mod Owning
+mod Placing
+pub mod Filling

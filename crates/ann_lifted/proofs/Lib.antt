@@ -1,0 +1,4 @@
+mod Tidy
+mod Speaking
+mod Blocks
+pub mod Whole

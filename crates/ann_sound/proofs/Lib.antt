@@ -1,0 +1,4 @@
+pub mod Callees
+pub mod Nodes
+pub mod Returns
+pub mod Twice

@@ -1,0 +1,35 @@
+-- Annotations of the trees of a program that the checks have looked at.
+use Rattle.std.specs.Prelude.{◌<◌, ◌≤◌, length}
+use Rattle.rpy_tree.specs.declared.program.Program.{Program}
+use Rattle.resolved_meaning.specs.Trees.{program_of}
+use Rattle.resolver_laws.specs.Made.{HaveApartNodes}
+use Rattle.flow_graph.specs.declared.graph.Graphs.{Graphs}
+use Rattle.flow_space.specs.Placed.{StandFor}
+use Rattle.flow_space.specs.Trees.{functions_of}
+use Rattle.class_desc.specs.Tables.{tables}
+use Rattle.ann_laws.specs.Rows.{HasClasses}
+use Rattle.ann_needs.specs.View.{nowhere, assignment, whole}
+use Rattle.ann_needs.specs.declared.state.State.{State}
+use Rattle.ann_layout.specs.Layout.{plan, planned}
+use Rattle.ann_places.specs.Spots.{start}
+use Rattle.ann_tree.specs.Annotation.{Annotation}
+use Rattle.ann_read.specs.Reading.{reading}
+use Rattle.ann_least.specs.Least.{IsAnnotation, IsLeast}
+
+-- The classes are a tree of at most 2^32, there is a site, no number is the node of two functions, and cells and marks are fewer than the number of what
+-- does not exist.
+pub record HasTrees (p : Program) (gs : Graphs) : Type 0 where
+  pub classes : HasClasses (tables p)
+  pub sites : 0 < length p.sites
+  pub nodes : HaveApartNodes p.modules
+  pub cells : (planned p gs (tables p)).cells ≤ nowhere
+  pub marks : (planned p gs (tables p)).marks ≤ nowhere
+
+module _ (p : Program) (gs : Graphs) (stand : StandFor p gs) where
+  -- an annotation of the trees with bound names for which the graphs stand
+  abbrev pub IsOfTrees : Annotation → Type 0
+  IsOfTrees a = IsAnnotation (whole (plan p gs (tables p))) (program_of stand.resolved).sites (functions_of stand.resolved) (start (planned p gs (tables p))) a
+
+  -- what stands in these cells and marks, read at the nodes of these trees, is their least annotation
+  abbrev pub IsLeastOfTrees : State → Type 0
+  IsLeastOfTrees s = IsLeast (whole (plan p gs (tables p))) (program_of stand.resolved).sites (functions_of stand.resolved) (start (planned p gs (tables p))) (reading (whole (plan p gs (tables p))) (assignment s))

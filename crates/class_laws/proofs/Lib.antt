@@ -1,0 +1,15 @@
+pub mod Attributes
+pub mod Beginning
+pub mod Comparing
+pub mod Copied
+pub mod Fields
+pub mod Lowered
+pub mod Making
+pub mod Naming
+pub mod Nothings
+pub mod Presence
+pub mod Reading
+pub mod Rows
+pub mod Storing
+pub mod Telling
+pub mod Truths

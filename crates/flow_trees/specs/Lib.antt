@@ -1,0 +1,4 @@
+pub mod Tree
+pub mod Tells
+pub mod Marks
+pub mod Ops

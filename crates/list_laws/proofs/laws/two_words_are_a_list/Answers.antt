@@ -1,5 +1,0 @@
-use Rattle.list_laws.proofs.Rows.{two_words}
-use Rattle.list_laws.proofs.laws.two_words_are_a_list.Goals as goal
-
-pub returns : goal.returns
-returns c = two_words

@@ -1,0 +1,14 @@
+pub mod Blocks
+pub mod Bridged
+pub mod Calling
+pub mod Changing
+pub mod Growing
+pub mod Held
+pub mod Made
+pub mod Parts
+pub mod Passing
+pub mod Present
+pub mod Rows
+pub mod Valued
+pub mod Variables
+pub mod Writing
