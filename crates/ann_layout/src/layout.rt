@@ -1,6 +1,7 @@
 // Where the parts of a program stand: the cells and the marks are numbered part by part.
-ghost use Rattle.std.specs.Prelude.{◌≡◌, ◌+◌, ◌++◌, ◌∷◌, [], max, map, length, sum, slice_get, IfOk, OnOk};
+ghost use Rattle.std.specs.Prelude.{◌≡◌, ◌≤◌, ◌+◌, ◌++◌, ◌∷◌, [], max, map, length, sum, slice_get, IfOk, OnOk};
 ghost use Rattle.class_desc.specs.Tables.{declared};
+ghost use Rattle.ann_needs.specs.View.{nowhere};
 ghost use Rattle.ann_layout.specs.Layout as spec;
 
 use crate::callee::{callees_of, plus};
@@ -303,14 +304,17 @@ fn laid_out(
     )
 }
 
-/// The plan of a program with its graphs and its classes.
+/// The plan of a program with its graphs and its classes. It has no cell and no mark with the number of
+/// what does not exist.
 pub fn plan_of(
     alloc: Global,
     program: &Program,
     graphs: Graphs,
     classes: Classes,
 ) -> Result<Planned, NoMem>
-    ensures { IfOk result (λ planned. planned ≡ spec.planned program.now graphs classes) }
+    ensures plan { IfOk result (λ planned. planned ≡ spec.planned program.now graphs classes) }
+    ensures cells { IfOk result (λ planned. planned.cells ≤ nowhere) }
+    ensures marks { IfOk result (λ planned. planned.marks ≤ nowhere) }
 {
     let callees = callees_of(alloc, program)?;
     let layout = laid_out(alloc, program, &graphs, &classes, callees.as_slice())?;

@@ -1,9 +1,14 @@
-//! What the checks of a program say of its trees.
+//! What the checks of a program say of its trees, and of those of the program that texts are.
 #![tactic(auto)]
 
 mod laws;
+mod texts;
 
 pub use laws::{
     conflicts_leave_trees_without_annotation, faults_are_of_the_least_annotation_of_the_trees,
     types_are_of_the_least_annotation_of_the_trees,
+};
+pub use texts::{
+    conflicts_leave_texts_without_annotation, faults_of_texts_are_of_the_least_annotation,
+    programs_of_texts_have_trees, types_of_texts_are_of_the_least_annotation,
 };

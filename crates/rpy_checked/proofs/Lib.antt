@@ -1,2 +1,3 @@
 -- Lemmas for the code.
 pub mod Settling
+pub mod Counted

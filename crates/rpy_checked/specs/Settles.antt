@@ -1,12 +1,13 @@
 -- What the checks of a program say of it.
-use Rattle.std.specs.Prelude.{◌≡◌, ◌<◌, ◌^◌, ℕ, List, length, Option, None, Result, Ok, Err}
-use Rattle.rpy_tree.specs.Places.{node_file, node_line}
+use Rattle.std.specs.Prelude.{◌≡◌, ◌<◌, ◌≤◌, ◌-◌, ◌^◌, ℕ, List, length, Option, None, Result, Ok, Err}
+use Rattle.rpy_tree.specs.Places.{node_count, node_file, node_line}
 use Rattle.rpy_tree.specs.declared.program.Program.{Program}
 use Rattle.flow_graph.specs.declared.graph.Graphs.{Graphs}
 use Rattle.flow_graph.specs.Whole.{Covers}
 use Rattle.flow_space.specs.Placed.{StandFor}
 use Rattle.class_desc.specs.Tables.{Tables, tables}
 use Rattle.ann_element.specs.declared.annotation.Annotation.{Annotation}
+use Rattle.ann_needs.specs.View.{nowhere}
 use Rattle.ann_needs.specs.declared.state.State.{State}
 use Rattle.ann_layout.specs.Layout.{plan, planned}
 use Rattle.ann_layout.specs.declared.layout.Planned.{Planned}
@@ -70,11 +71,19 @@ checked q n = record { graphs = q.plan.graphs; classes = q.plan.classes; annotat
 
 -- ---- programs
 
+-- The numbers of nodes and of classes are 32 bits wide, and no cell and no mark has the number of what does not exist.
+pub record IsSmall (p : Program) (gs : Graphs) : Type 0 where
+  pub nodes : node_count p.modules < 2 ^ 32
+  pub classes : length p.classes < 2 ^ 32 - 1
+  pub cells : (planned p gs (tables p)).cells ≤ nowhere
+  pub marks : (planned p gs (tables p)).marks ≤ nowhere
+
 -- Graphs that stand for the program's functions, with the least annotation that is closed under all that they ask and free of conflict; no operation
 -- shows a fault of types.
 pub record HasTypes (p : Program) (gs : Graphs) (n : Annotation) : Type 0 where
   pub covers : Covers p gs
   pub stand : StandFor p gs
+  pub small : IsSmall p gs
   pub state : State
   pub settled : settled.IsSettled p gs (tables p) n state
   pub typed : least_fault p gs n (tables p) ≡ None
@@ -85,6 +94,7 @@ pub record HasConflict (p : Program) (e : CheckFault) : Type 0 where
   pub graphs : Graphs
   pub covers : Covers p graphs
   pub stand : StandFor p graphs
+  pub small : IsSmall p graphs
   pub none : settled.NoneSettled p graphs (tables p)
   pub told : Told
   pub met : IsMet p (plan p graphs (tables p)) (start (planned p graphs (tables p))) told
@@ -95,6 +105,7 @@ pub record HasFault (p : Program) (e : CheckFault) : Type 0 where
   pub graphs : Graphs
   pub covers : Covers p graphs
   pub stand : StandFor p graphs
+  pub small : IsSmall p graphs
   pub annotation : Annotation
   pub state : State
   pub settled : settled.IsSettled p graphs (tables p) annotation state

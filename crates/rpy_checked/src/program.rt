@@ -1,6 +1,7 @@
 // The checks of a program: annotation and types.
-ghost use Rattle.std.specs.Prelude.{◌≡◌, ◌++◌, IfOk, OnOk};
+ghost use Rattle.std.specs.Prelude.{◌≡◌, ◌<◌, ◌++◌, ◌-◌, ◌^◌, length, ltb, true, IfOk, OnOk};
 ghost use Rattle.std.specs.List.{flat_map};
+ghost use Rattle.rpy_tree.specs.Places.{node_count};
 ghost use Rattle.flow_graph.specs.Whole.{Covers};
 ghost use Rattle.ann_shown.specs.Told.{IsPlanOf};
 ghost use Rattle.rpy_checked.specs.Settles as spec;
@@ -19,7 +20,7 @@ use flow_space::flow;
 use rpy_base::{NoMem, Text};
 use rpy_kinds::{Kind, kind_at, word_of};
 use rpy_resolved::{Labels, labels_of};
-use rpy_tree::{NodeId, Program};
+use rpy_tree::{Module, NodeId, Program};
 use rtyper_core::{TypeFault, typing};
 use std::alloc::Global;
 
@@ -150,6 +151,30 @@ fn untyped(program: &Program, fault: TypeFault) -> CheckFault
     }
 }
 
+// ---- sizes
+
+// Whether a number of 32 bits counts the nodes.
+fn has_few_nodes(modules: &[Module]) -> bool
+    ensures { result ≡ ltb (node_count modules.now) (2 ^ 32) }
+{
+    let mut count = 0u32;
+    for module in modules {
+        match count.checked_add(module.nodes) {
+            None => return false,
+            Some(sum) => count = sum,
+        }
+    }
+    true
+}
+
+// Whether nodes and classes have numbers of 32 bits.
+fn is_small(program: &Program) -> bool
+    ensures nodes { result ≡ true → node_count program.now.modules < 2 ^ 32 }
+    ensures classes { result ≡ true → length program.now.classes < 2 ^ 32 - 1 }
+{
+    program.classes.len() < 4294967295 && has_few_nodes(program.modules.as_slice())
+}
+
 // ---- the whole
 
 fn annotated(alloc: Global, program: &Program, planned: &Planned) -> Result<Annotation, CheckFault>
@@ -201,9 +226,9 @@ fn checked_of(planned: Planned, annotation: Annotation) -> Checked
     }
 }
 
-/// The graphs, the classes and the least annotation of a program that has types; else the first cause of
-/// its refusal: a conflict, or the least fault of types.
-pub fn check(alloc: Global, program: &Program) -> Result<Checked, CheckFault>
+fn check_small(alloc: Global, program: &Program) -> Result<Checked, CheckFault>
+    requires nodes { node_count program.now.modules < 2 ^ 32 }
+    requires classes { length program.now.classes < 2 ^ 32 - 1 }
     ensures covers { IfOk result (λ checked. Covers program.now checked.graphs) }
     ensures checks { spec.Checks program.now result }
 {
@@ -216,5 +241,19 @@ pub fn check(alloc: Global, program: &Program) -> Result<Checked, CheckFault>
             Err(fault) => Err(fault),
             Ok(()) => Ok(checked_of(planned, annotation)),
         },
+    }
+}
+
+/// The graphs, the classes and the least annotation of a program that has types; else the first cause of
+/// its refusal: a conflict, or the least fault of types. Nodes and classes have numbers of 32 bits: for a
+/// program of more the answer is want of memory.
+pub fn check(alloc: Global, program: &Program) -> Result<Checked, CheckFault>
+    ensures covers { IfOk result (λ checked. Covers program.now checked.graphs) }
+    ensures checks { spec.Checks program.now result }
+{
+    if is_small(program) {
+        check_small(alloc, program)
+    } else {
+        Err(CheckFault::NoMem)
     }
 }

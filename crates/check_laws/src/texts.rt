@@ -1,0 +1,58 @@
+// Laws of the checks of the program that texts are.
+ghost use Rattle.std.specs.Prelude.{◌≡◌, ℕ, List, Some};
+ghost use Rattle.rpy_tree.specs.declared.program.Program.{Program};
+ghost use Rattle.rpy_nodes.specs.declared.listing.Named.{Named};
+ghost use Rattle.rpy_names.specs.Resolve.{prog};
+ghost use Rattle.rpy_front.specs.Modules.{AreModules};
+ghost use Rattle.flow_graph.specs.declared.graph.Graphs.{Graphs};
+ghost use Rattle.ann_element.specs.declared.annotation.Annotation as element;
+ghost use Rattle.ann_tree.specs.Annotation.{Annotation};
+ghost use Rattle.rpy_checked.specs.declared.fault.CheckFault.{CheckFault};
+ghost use Rattle.rpy_checked.specs.Settles.{IsSmall, HasTypes, HasConflict, HasFault};
+ghost use Rattle.check_laws.specs.Trees.{HasTrees, IsOfTrees, IsLeastOfTrees};
+
+use crate::laws::{
+    conflicts_leave_trees_without_annotation, faults_are_of_the_least_annotation_of_the_trees,
+    types_are_of_the_least_annotation_of_the_trees,
+};
+use names_forest::{classes_are_a_forest, programs_have_a_site};
+use parse_nodes::modules_number_their_nodes;
+use resolver_nodes::numbered_modules_have_apart_nodes;
+
+/// Texts are modules and these make a program, whose numbers have room: then it has all that the laws of
+/// trees ask. Its classes are a tree, it has a site, and no number is the node of two functions.
+pub fn programs_of_texts_have_trees()
+    ensures { (sources names : List (List ℕ)) (modules : List Named) (p : Program) (gs : Graphs) → AreModules sources names modules → prog modules ≡ Some p → IsSmall p gs → HasTrees p gs }
+{
+    classes_are_a_forest();
+    programs_have_a_site();
+    modules_number_their_nodes();
+    numbered_modules_have_apart_nodes();
+}
+
+/// Where the checks find that the program has types, as `rpyc` ensures for status 0 of `check`, `annotate`,
+/// `flow` and, but for programs of the first path, `build`, the annotation which they settled, read at the
+/// nodes of the trees with bound names, is the least annotation of these trees. (Of `Answer.Annotates` the
+/// premises are `make.are`, `make.is` and `annotates.types`; so it is of the other clauses.)
+pub fn types_of_texts_are_of_the_least_annotation()
+    ensures { (sources names : List (List ℕ)) (modules : List Named) (p : Program) (gs : Graphs) (n : element.Annotation) (types : HasTypes p gs n) → AreModules sources names modules → prog modules ≡ Some p → IsLeastOfTrees p gs types.stand types.state }
+{
+    programs_of_texts_have_trees();
+    types_are_of_the_least_annotation_of_the_trees();
+}
+
+/// Where a fault of types is told, for status 5, it is one of the least annotation of the trees.
+pub fn faults_of_texts_are_of_the_least_annotation()
+    ensures { (sources names : List (List ℕ)) (modules : List Named) (p : Program) (e : CheckFault) (fault : HasFault p e) → AreModules sources names modules → prog modules ≡ Some p → IsLeastOfTrees p fault.graphs fault.stand fault.state }
+{
+    programs_of_texts_have_trees();
+    faults_are_of_the_least_annotation_of_the_trees();
+}
+
+/// Where a conflict is shown, for status 4, the trees have no annotation.
+pub fn conflicts_leave_texts_without_annotation()
+    ensures { (sources names : List (List ℕ)) (modules : List Named) (p : Program) (e : CheckFault) (conflict : HasConflict p e) → AreModules sources names modules → prog modules ≡ Some p → (a : Annotation) → IsOfTrees p conflict.graphs conflict.stand a → ⊥ }
+{
+    programs_of_texts_have_trees();
+    conflicts_leave_trees_without_annotation();
+}

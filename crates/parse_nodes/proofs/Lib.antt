@@ -1,0 +1,17 @@
+pub mod Aims
+pub mod Compound
+pub mod Counts
+pub mod Expressions
+pub mod Grown
+pub mod Held
+pub mod Kept
+pub mod Members
+pub mod Modules
+pub mod Most
+pub mod Seen
+pub mod Simple
+pub mod Steps
+pub mod Stmts
+pub mod Targets
+pub mod Trees
+pub mod Weights
