@@ -346,26 +346,36 @@ impl Classes {
         }
     }
 
+    fn initial_of(
+        &self,
+        alloc: Global,
+        c: ClassId,
+        constant: &(Text, Const),
+    ) -> Result<Initial, NoMem>
+        ensures { IfOk result (λ initial. initial ≡ spec.initial_of self.now c constant.now) }
+    {
+        let home = self.home(c, &constant.0).unwrap_or(c);
+        let name = constant.0.copy(alloc)?;
+        let value = copy_const(alloc, &constant.1)?;
+        Ok(Initial { home, name, value })
+    }
+
     // A constant that no nearer class has is an initial value.
     fn add_initial(
         &self,
         alloc: Global,
         c: ClassId,
         constant: &(Text, Const),
-        starts: Starts,
-    ) -> Result<Starts, NoMem>
-        ensures { IfOk result (λ all. all ≡ spec.with_initial self.now c constant.now starts) }
+        starts: &mut Starts,
+    ) -> Result<(), NoMem>
+        ensures { OnOk result (starts.new ≡ spec.with_initial self.now c constant.now starts.old) }
     {
         if starts.names.has(&constant.0) {
-            return Ok(starts);
+            return Ok(());
         }
-        let home = self.home(c, &constant.0).unwrap_or(c);
-        let name = constant.0.copy(alloc)?;
-        let value = copy_const(alloc, &constant.1)?;
-        let mut starts = starts;
-        starts.names.add(alloc, &name)?;
-        starts.values.push(Initial { home, name, value })?;
-        Ok(starts)
+        let initial = self.initial_of(alloc, c, constant)?;
+        starts.values.push(initial)?;
+        starts.names.add(alloc, &constant.0)
     }
 
     fn add_initials(
@@ -373,15 +383,14 @@ impl Classes {
         alloc: Global,
         c: ClassId,
         constants: &[(Text, Const)],
-        starts: Starts,
-    ) -> Result<Starts, NoMem>
-        ensures { IfOk result (λ all. all ≡ spec.with_initials self.now c constants.now starts) }
+        starts: &mut Starts,
+    ) -> Result<(), NoMem>
+        ensures { OnOk result (starts.new ≡ spec.with_initials self.now c constants.now starts.old) }
     {
-        let mut starts = starts;
         for constant in constants {
-            starts = self.add_initial(alloc, c, constant, starts)?;
+            self.add_initial(alloc, c, constant, starts)?;
         }
-        Ok(starts)
+        Ok(())
     }
 
     #[tactic(auto, using(crate::proofs::Turns::line_turn))]
@@ -395,7 +404,7 @@ impl Classes {
         };
         let mut class = c;
         for _turn in 0..infos.len() {
-            starts = self.add_initials(alloc, c, own_constants(infos, class), starts)?;
+            self.add_initials(alloc, c, own_constants(infos, class), &mut starts)?;
             match base_of(infos, class) {
                 None => return Ok(starts),
                 Some(base) => class = base,

@@ -42,7 +42,6 @@ impl Stores {
 }
 
 #[cycle(expr)]
-#[tactic(auto, using(crate::proofs::Displays::read_dict))]
 fn read_expr(alloc: Global, first: &Text, e: &Expr, stores: &mut Stores) -> Result<(), NoMem>
     ensures { OnOk result (stores.new ≡ spec.expr first.now e.now stores.old) }
 {
@@ -50,69 +49,125 @@ fn read_expr(alloc: Global, first: &Text, e: &Expr, stores: &mut Stores) -> Resu
         Expr::Int(_, _) => stores.pass(),
         Expr::Str(_, _) => stores.pass(),
         Expr::Name(_, name) => stores.read(first, name),
-        Expr::Unary(_, _, a) => {
-            read_expr(alloc, first, a.get(), stores)?;
-            stores.pass()
-        }
-        Expr::Binary(_, _, a, b) => {
-            read_expr(alloc, first, a.get(), stores)?;
-            read_expr(alloc, first, b.get(), stores)?;
-            stores.pass()
-        }
-        Expr::Compare(_, _, a, b) => {
-            read_expr(alloc, first, a.get(), stores)?;
-            read_expr(alloc, first, b.get(), stores)?;
-            stores.pass()
-        }
-        Expr::Logic(_, _, a, b) => {
-            read_expr(alloc, first, a.get(), stores)?;
-            read_expr(alloc, first, b.get(), stores)?;
-            stores.pass()
-        }
-        Expr::Not(_, a) => {
-            read_expr(alloc, first, a.get(), stores)?;
-            stores.pass()
-        }
-        Expr::Call(_, callee, args) => {
-            read_expr(alloc, first, callee.get(), stores)?;
-            read_exprs(alloc, first, args.as_slice(), stores)?;
-            stores.pass()
-        }
-        Expr::Attr(_, a, _) => {
-            read_expr(alloc, first, a.get(), stores)?;
-            stores.pass()
-        }
-        Expr::Index(_, a, i) => {
-            read_expr(alloc, first, a.get(), stores)?;
-            read_expr(alloc, first, i.get(), stores)?;
-            stores.pass()
-        }
-        Expr::Slice(_, a, from, to) => {
-            read_expr(alloc, first, a.get(), stores)?;
-            read_option(alloc, first, from, stores)?;
-            read_option(alloc, first, to, stores)?;
-            stores.pass()
-        }
-        Expr::Tuple(_, items) => {
-            read_exprs(alloc, first, items.as_slice(), stores)?;
-            stores.pass()
-        }
-        Expr::List(_, items) => {
-            read_exprs(alloc, first, items.as_slice(), stores)?;
-            stores.pass()
-        }
-        Expr::Dict(_, pairs) => {
-            read_pairs(alloc, first, pairs.as_slice(), stores)?;
-            stores.pass()
-        }
+        Expr::Unary(_, _, a) => read_one(alloc, first, a, stores),
+        Expr::Binary(_, _, a, b) => read_two(alloc, first, a, b, stores),
+        Expr::Compare(_, _, a, b) => read_two(alloc, first, a, b, stores),
+        Expr::Logic(_, _, a, b) => read_two(alloc, first, a, b, stores),
+        Expr::Not(_, a) => read_one(alloc, first, a, stores),
+        Expr::Call(_, callee, args) => read_call(alloc, first, callee, args, stores),
+        Expr::Attr(_, a, _) => read_one(alloc, first, a, stores),
+        Expr::Index(_, a, i) => read_two(alloc, first, a, i, stores),
+        Expr::Slice(_, a, from, to) => read_slice(alloc, first, a, from, to, stores),
+        Expr::Tuple(_, items) => read_items(alloc, first, items, stores),
+        Expr::List(_, items) => read_items(alloc, first, items, stores),
+        Expr::Dict(_, pairs) => read_dict(alloc, first, pairs, stores),
         Expr::Comp(_, item, target, over, test) => {
-            read_expr(alloc, first, item.get(), stores)?;
-            read_target(alloc, first, target.get(), stores)?;
-            read_expr(alloc, first, over.get(), stores)?;
-            read_option(alloc, first, test, stores)?;
-            stores.pass()
+            read_comp(alloc, first, item, target, over, test, stores)
         }
     }
+}
+
+// An expression with one part.
+#[cycle(expr)]
+fn read_one(alloc: Global, first: &Text, a: &Own<Expr>, stores: &mut Stores) -> Result<(), NoMem>
+    ensures { OnOk result (stores.new ≡ spec.pass (spec.expr first.now a.now stores.old)) }
+{
+    read_expr(alloc, first, a.get(), stores)?;
+    stores.pass()
+}
+
+// An expression with two parts.
+#[cycle(expr)]
+fn read_two(
+    alloc: Global,
+    first: &Text,
+    a: &Own<Expr>,
+    b: &Own<Expr>,
+    stores: &mut Stores,
+) -> Result<(), NoMem>
+    ensures { OnOk result (stores.new ≡ spec.pass (spec.expr first.now b.now (spec.expr first.now a.now stores.old))) }
+{
+    read_expr(alloc, first, a.get(), stores)?;
+    read_expr(alloc, first, b.get(), stores)?;
+    stores.pass()
+}
+
+#[cycle(expr)]
+fn read_call(
+    alloc: Global,
+    first: &Text,
+    callee: &Own<Expr>,
+    args: &Seq<Expr>,
+    stores: &mut Stores,
+) -> Result<(), NoMem>
+    ensures { OnOk result (stores.new ≡ spec.pass (spec.exprs first.now args.now (spec.expr first.now callee.now stores.old))) }
+{
+    read_expr(alloc, first, callee.get(), stores)?;
+    read_exprs(alloc, first, args.as_slice(), stores)?;
+    stores.pass()
+}
+
+#[cycle(expr)]
+fn read_slice(
+    alloc: Global,
+    first: &Text,
+    a: &Own<Expr>,
+    from: &Option<Own<Expr>>,
+    to: &Option<Own<Expr>>,
+    stores: &mut Stores,
+) -> Result<(), NoMem>
+    ensures { OnOk result (stores.new ≡ spec.pass (spec.option_expr first.now to.now (spec.option_expr first.now from.now (spec.expr first.now a.now stores.old)))) }
+{
+    read_expr(alloc, first, a.get(), stores)?;
+    read_option(alloc, first, from, stores)?;
+    read_option(alloc, first, to, stores)?;
+    stores.pass()
+}
+
+// The elements of a display.
+#[cycle(expr)]
+fn read_items(
+    alloc: Global,
+    first: &Text,
+    items: &Seq<Expr>,
+    stores: &mut Stores,
+) -> Result<(), NoMem>
+    ensures { OnOk result (stores.new ≡ spec.pass (spec.exprs first.now items.now stores.old)) }
+{
+    read_exprs(alloc, first, items.as_slice(), stores)?;
+    stores.pass()
+}
+
+#[cycle(expr)]
+fn read_dict(
+    alloc: Global,
+    first: &Text,
+    entries: &Seq<(Expr, Expr)>,
+    stores: &mut Stores,
+) -> Result<(), NoMem>
+    ensures { OnOk result (stores.new ≡ spec.pass (spec.pairs first.now entries.now stores.old)) }
+{
+    read_pairs(alloc, first, entries.as_slice(), stores)?;
+    stores.pass()
+}
+
+#[cycle(expr)]
+fn read_comp(
+    alloc: Global,
+    first: &Text,
+    item: &Own<Expr>,
+    target: &Own<Target>,
+    over: &Own<Expr>,
+    test: &Option<Own<Expr>>,
+    stores: &mut Stores,
+) -> Result<(), NoMem>
+    ensures { OnOk result (stores.new ≡ spec.pass (spec.option_expr first.now test.now (spec.expr first.now over.now (spec.target first.now target.now (spec.expr first.now item.now stores.old))))) }
+{
+    read_expr(alloc, first, item.get(), stores)?;
+    read_target(alloc, first, target.get(), stores)?;
+    read_expr(alloc, first, over.get(), stores)?;
+    read_option(alloc, first, test, stores)?;
+    stores.pass()
 }
 
 #[cycle(expr)]
@@ -220,8 +275,47 @@ fn read_return(
     }
 }
 
+fn read_del(
+    alloc: Global,
+    first: &Text,
+    a: &Expr,
+    i: &Expr,
+    stores: &mut Stores,
+) -> Result<(), NoMem>
+    ensures { OnOk result (stores.new ≡ spec.expr first.now i.now (spec.expr first.now a.now stores.old)) }
+{
+    read_expr(alloc, first, a, stores)?;
+    read_expr(alloc, first, i, stores)
+}
+
+fn read_assign(
+    alloc: Global,
+    first: &Text,
+    targets: &Seq<Target>,
+    e: &Expr,
+    stores: &mut Stores,
+) -> Result<(), NoMem>
+    ensures { OnOk result (stores.new ≡ spec.expr first.now e.now (spec.targets first.now targets.now stores.old)) }
+{
+    read_targets(alloc, first, targets.as_slice(), stores)?;
+    read_expr(alloc, first, e, stores)
+}
+
+// A target, and what its values are taken from.
+fn read_aimed(
+    alloc: Global,
+    first: &Text,
+    target: &Target,
+    e: &Expr,
+    stores: &mut Stores,
+) -> Result<(), NoMem>
+    ensures { OnOk result (stores.new ≡ spec.expr first.now e.now (spec.target first.now target.now stores.old)) }
+{
+    read_target(alloc, first, target, stores)?;
+    read_expr(alloc, first, e, stores)
+}
+
 #[cycle(stmt)]
-#[tactic(auto, using(crate::proofs::Displays::read_if))]
 fn read_stmt(alloc: Global, first: &Text, s: &Stmt, stores: &mut Stores) -> Result<(), NoMem>
     ensures { OnOk result (stores.new ≡ spec.stmt first.now s.now stores.old) }
 {
@@ -232,40 +326,80 @@ fn read_stmt(alloc: Global, first: &Text, s: &Stmt, stores: &mut Stores) -> Resu
         Stmt::Return(_, e) => read_return(alloc, first, e, stores),
         Stmt::Raise(_, e) => read_expr(alloc, first, e, stores),
         Stmt::Assert(_, e) => read_expr(alloc, first, e, stores),
-        Stmt::Del(_, a, i) => {
-            read_expr(alloc, first, a, stores)?;
-            read_expr(alloc, first, i, stores)
-        }
+        Stmt::Del(_, a, i) => read_del(alloc, first, a, i, stores),
         Stmt::Print(_, es) => read_exprs(alloc, first, es.as_slice(), stores),
-        Stmt::Assign(_, targets, e) => {
-            read_targets(alloc, first, targets.as_slice(), stores)?;
-            read_expr(alloc, first, e, stores)
-        }
-        Stmt::Aug(_, target, _, e) => {
-            read_target(alloc, first, target, stores)?;
-            read_expr(alloc, first, e, stores)
-        }
+        Stmt::Assign(_, targets, e) => read_assign(alloc, first, targets, e, stores),
+        Stmt::Aug(_, target, _, e) => read_aimed(alloc, first, target, e, stores),
         Stmt::Expr(_, e) => read_expr(alloc, first, e, stores),
-        Stmt::If(_, arms, other) => {
-            read_arms(alloc, first, arms.as_slice(), stores)?;
-            read_block(alloc, first, other.as_slice(), stores)
-        }
-        Stmt::While(_, test, body) => {
-            read_expr(alloc, first, test, stores)?;
-            read_block(alloc, first, body.as_slice(), stores)
-        }
-        Stmt::For(_, target, over, body) => {
-            read_target(alloc, first, target, stores)?;
-            read_expr(alloc, first, over, stores)?;
-            read_block(alloc, first, body.as_slice(), stores)
-        }
+        Stmt::If(_, arms, other) => read_if(alloc, first, arms, other, stores),
+        Stmt::While(_, test, body) => read_tested(alloc, first, test, body, stores),
+        Stmt::For(_, target, over, body) => read_for(alloc, first, target, over, body, stores),
         Stmt::Try(_, body, clauses, other, last) => {
-            read_block(alloc, first, body.as_slice(), stores)?;
-            read_clauses(alloc, first, clauses.as_slice(), stores)?;
-            read_block(alloc, first, other.as_slice(), stores)?;
-            read_finally(alloc, first, last, stores)
+            read_try(alloc, first, body, clauses, other, last, stores)
         }
     }
+}
+
+// A test, and the block that is run after it.
+#[cycle(stmt)]
+fn read_tested(
+    alloc: Global,
+    first: &Text,
+    test: &Expr,
+    body: &Seq<Stmt>,
+    stores: &mut Stores,
+) -> Result<(), NoMem>
+    ensures { OnOk result (stores.new ≡ spec.block first.now body.now (spec.expr first.now test.now stores.old)) }
+{
+    read_expr(alloc, first, test, stores)?;
+    read_block(alloc, first, body.as_slice(), stores)
+}
+
+#[cycle(stmt)]
+fn read_if(
+    alloc: Global,
+    first: &Text,
+    branches: &Seq<(Expr, Seq<Stmt>)>,
+    other: &Seq<Stmt>,
+    stores: &mut Stores,
+) -> Result<(), NoMem>
+    ensures { OnOk result (stores.new ≡ spec.block first.now other.now (spec.arms first.now branches.now stores.old)) }
+{
+    read_arms(alloc, first, branches.as_slice(), stores)?;
+    read_block(alloc, first, other.as_slice(), stores)
+}
+
+#[cycle(stmt)]
+fn read_for(
+    alloc: Global,
+    first: &Text,
+    target: &Target,
+    over: &Expr,
+    body: &Seq<Stmt>,
+    stores: &mut Stores,
+) -> Result<(), NoMem>
+    ensures { OnOk result (stores.new ≡ spec.block first.now body.now (spec.expr first.now over.now (spec.target first.now target.now stores.old))) }
+{
+    read_aimed(alloc, first, target, over, stores)?;
+    read_block(alloc, first, body.as_slice(), stores)
+}
+
+#[cycle(stmt)]
+fn read_try(
+    alloc: Global,
+    first: &Text,
+    body: &Seq<Stmt>,
+    clauses: &Seq<Clause>,
+    other: &Seq<Stmt>,
+    last: &Option<Seq<Stmt>>,
+    stores: &mut Stores,
+) -> Result<(), NoMem>
+    ensures { OnOk result (stores.new ≡ spec.finally first.now last.now (spec.block first.now other.now (spec.clauses first.now clauses.now (spec.block first.now body.now stores.old)))) }
+{
+    read_block(alloc, first, body.as_slice(), stores)?;
+    read_clauses(alloc, first, clauses.as_slice(), stores)?;
+    read_block(alloc, first, other.as_slice(), stores)?;
+    read_finally(alloc, first, last, stores)
 }
 
 #[cycle(stmt)]
@@ -302,8 +436,7 @@ fn read_arm(
 ) -> Result<(), NoMem>
     ensures { OnOk result (stores.new ≡ spec.arm first.now arm.now stores.old) }
 {
-    read_expr(alloc, first, &arm.0, stores)?;
-    read_block(alloc, first, arm.1.as_slice(), stores)
+    read_tested(alloc, first, &arm.0, &arm.1, stores)
 }
 
 #[cycle(stmt)]

@@ -17,22 +17,34 @@ invariant-read_arms-loop-arm l = arms l.node (drop l.arm-index l.arms) l.search 
 
 -- Each call has fewer nodes, or as many and a lower rank.
 abbrev pub decreases-read_stmt : goal.decreases-read_stmt
-decreases-read_stmt l = 4 * stmt_nodes l.s.now
+decreases-read_stmt l = 6 * stmt_nodes l.s.now
 
 abbrev pub decreases-read_clause : goal.decreases-read_clause
-decreases-read_clause l = 4 * clause_nodes l.clause.now
+decreases-read_clause l = 6 * clause_nodes l.clause.now
 
 abbrev pub decreases-read_block : goal.decreases-read_block
-decreases-read_block l = 4 * body_nodes l.body.now + 1
+decreases-read_block l = 6 * body_nodes l.body.now + 1
 
 abbrev pub decreases-read_clauses : goal.decreases-read_clauses
-decreases-read_clauses l = 4 * sum_by clause_nodes l.clauses.now + 1
+decreases-read_clauses l = 6 * sum_by clause_nodes l.clauses.now + 1
 
 abbrev pub decreases-read_finally : goal.decreases-read_finally
-decreases-read_finally l = 4 * option_map_or body_nodes l.last.now 0 + 2
+decreases-read_finally l = 6 * option_map_or body_nodes l.last.now 0 + 2
 
 abbrev pub decreases-read_arm : goal.decreases-read_arm
-decreases-read_arm l = 4 * (expr_nodes l.arm.now.0 + body_nodes l.arm.now.1) + 2
+decreases-read_arm l = 6 * (expr_nodes l.arm.now.0 + body_nodes l.arm.now.1) + 3
 
 abbrev pub decreases-read_arms : goal.decreases-read_arms
-decreases-read_arms l = 4 * sum_by (λ arm. expr_nodes arm.0 + body_nodes arm.1) l.arms.now + 3
+decreases-read_arms l = 6 * sum_by (λ arm. expr_nodes arm.0 + body_nodes arm.1) l.arms.now + 4
+
+abbrev pub decreases-read_tested : goal.decreases-read_tested
+decreases-read_tested l = 6 * (expr_nodes l.test.now + body_nodes l.body.now) + 2
+
+abbrev pub decreases-read_if : goal.decreases-read_if
+decreases-read_if l = 6 * (sum_by (λ arm. expr_nodes arm.0 + body_nodes arm.1) l.branches.now + body_nodes l.other.now) + 5
+
+abbrev pub decreases-read_for : goal.decreases-read_for
+decreases-read_for l = 6 * body_nodes l.body.now + 2
+
+abbrev pub decreases-read_try : goal.decreases-read_try
+decreases-read_try l = 6 * (body_nodes l.body.now + sum_by clause_nodes l.clauses.now + body_nodes l.other.now + option_map_or body_nodes l.last.now 0) + 3

@@ -1,5 +1,8 @@
 -- What each form says: the parts that are made, and what the meaning makes of it.
-use Rattle.std.proofs.Common.{rules, ◌≡◌, ◌+◌, ◌++◌, [], ◌∷◌, true, false, map, drop, sym, ap, ◌∙◌, arith, refl}
+use Rattle.std.proofs.Common.{rules, ◌≡◌, ◌+◌, ◌*◌, ◌<◌, ◌++◌, [], ◌∷◌, true, false, map, drop, sym, ap, ◌∙◌, arith, refl}
+use Rattle.std.specs.Prelude.{sum_by}
+use Rattle.std.specs.Option.{option_map_or}
+use Rattle.rpy_tree.specs.Size.{expr_nodes, target_nodes as target_size}
 use Rattle.rpy_tree.specs.declared.syntax.Expr as syntax
 use Rattle.rpy_tree.specs.declared.syntax.Expr.{out-Expr}
 use Rattle.rpy_tree.specs.declared.syntax.Expr.TheVariants as s
@@ -17,6 +20,7 @@ use Rattle.resolver_names.proofs.Plain.{literal_same, ranged}
 use Rattle.resolver_names.proofs.Saying.{slice_said, tuple_said, list_said}
 use Rattle.rpy_resolver.proofs.Counts.{from_less, node_is, apply_less, leaf_less, range_less, one_more_counted, one_pair_counted}
 use Rattle.rpy_resolver.proofs.Forms.{same_tree, same_walk, one_more, drop_at, one_item, two_items, three_items, all_whole, leaf_whole, display_whole, builtin_whole, method_whole, no_method_whole, other_whole, function_whole, new_whole, value_whole, instance_whole, checked_whole, but_last_whole, end_whole, up_whole, step_whole, name_aim, attr_aim, item_aim, tuple_aim, over_whole, none_ranged, some_ranged, many_whole, int_said, str_said, name_said, unary_said, not_said, binary_said, compare_said, logic_said, call_said, attr_said, index_said}
+use Rattle.rpy_resolver.proofs.Sizes.{item_less, unary_size, binary_size, compare_size, logic_size, not_size, call_size, attr_size, index_size, slice_size, tuple_size, list_size, dict_size, comp_size, aim_attr_size, aim_item_size, aim_tuple_size}
 use Rattle.rpy_resolver.proofs.expression.+expr.Goals as goal
 
 pub resolve_all-returns-clause-tree : goal.resolve_all-returns-clause-tree
@@ -287,3 +291,200 @@ resolve_targets-loop-target-preserved t c = (
   one_more (aim_of c.args.names.now) (target_by (the_names c.args.names.now)) c.loop-target.parts c.push.new.self c.in_ok-target.target c.target-item.result (drop c.loop-target.target-index c.args.targets.now) (drop (c.loop-target.target-index + 1) c.args.targets.now) _ c.in_ok-push.ensures.ok c.in_ok-target.ensures.tree (drop_at c.args.targets.now c.loop-target.target-index c.target-item.result c.loop-target-test.true c.target-item.is) c.loop-target.invariant.0,
   λ k. one_more_counted (bound_values k) (target_nodes k c.args.names.now.first) c.loop-target.parts c.push.new.self c.in_ok-target.target c.target-item.result (drop c.loop-target.target-index c.args.targets.now) (drop (c.loop-target.target-index + 1) c.args.targets.now) _ c.in_ok-push.ensures.ok (c.in_ok-target.ensures.nodes k) (drop_at c.args.targets.now c.loop-target.target-index c.target-item.result c.loop-target-test.true c.target-item.is) (c.loop-target.invariant.1 k),
 )
+
+-- ---- calls: what each is given is smaller
+
+pub resolve_all-resolve_exprs-requires : goal.resolve_all-resolve_exprs-requires
+resolve_all-resolve_exprs-requires t c = (let d : 8 * sum_by expr_nodes c.args.es.now + 2 ≡ t = c.decreases in omega (arith, d), c.requires)
+
+pub resolve_attr-resolve_one-requires : goal.resolve_attr-resolve_one-requires
+resolve_attr-resolve_one-requires t c = (let d : 8 * expr_nodes c.args.a.now + 2 ≡ t = c.decreases in omega (arith, d), c.requires)
+
+pub resolve_builtin-resolve_isinstance-requires : goal.resolve_builtin-resolve_isinstance-requires
+resolve_builtin-resolve_isinstance-requires t c = (let d : 8 * sum_by expr_nodes c.args.args.now + 3 ≡ t = c.decreases in omega (arith, d), c.requires)
+
+pub resolve_builtin-resolve_ovfcheck-requires : goal.resolve_builtin-resolve_ovfcheck-requires
+resolve_builtin-resolve_ovfcheck-requires t c = (let d : 8 * sum_by expr_nodes c.args.args.now + 3 ≡ t = c.decreases in omega (arith, d), c.requires)
+
+pub resolve_builtin-resolve_all-requires : goal.resolve_builtin-resolve_all-requires
+resolve_builtin-resolve_all-requires t c = (let d : 8 * sum_by expr_nodes c.args.args.now + 3 ≡ t = c.decreases in omega (arith, d), c.requires)
+
+pub resolve_call-resolve_named-requires : goal.resolve_call-resolve_named-requires
+resolve_call-resolve_named-requires t c = (let d : 8 * (expr_nodes c.args.callee.now + sum_by expr_nodes c.args.args.now) + 5 ≡ t = c.decreases in omega (arith, d), c.requires)
+
+pub resolve_call-resolve_first-requires : goal.resolve_call-resolve_first-requires
+resolve_call-resolve_first-requires t c = (let d : 8 * (expr_nodes c.args.callee.now + sum_by expr_nodes c.args.args.now) + 5 ≡ t = c.decreases in let e = ap expr_nodes (c.in-Attr.is ∙ ap (λ x. s.Attr c.in-Attr.m x c.in-Attr.name) (sym c.get.ensures)) ∙ attr_size c.in-Attr.m c.get.result.now c.in-Attr.name in omega (arith, d, e), c.requires)
+
+pub resolve_call-resolve_first-requires-else-is_method : goal.resolve_call-resolve_first-requires-else-is_method
+resolve_call-resolve_first-requires-else-is_method t c = (let d : 8 * (expr_nodes c.args.callee.now + sum_by expr_nodes c.args.args.now) + 5 ≡ t = c.decreases in omega (arith, d), c.requires)
+
+pub resolve_call-resolve_named-requires-in_default-meant : goal.resolve_call-resolve_named-requires-in_default-meant
+resolve_call-resolve_named-requires-in_default-meant t c = (let d : 8 * (expr_nodes c.args.callee.now + sum_by expr_nodes c.args.args.now) + 5 ≡ t = c.decreases in omega (arith, d), c.requires)
+
+pub resolve_call-resolve_first-requires-in_default : goal.resolve_call-resolve_first-requires-in_default
+resolve_call-resolve_first-requires-in_default t c = (let d : 8 * (expr_nodes c.args.callee.now + sum_by expr_nodes c.args.args.now) + 5 ≡ t = c.decreases in omega (arith, d), c.requires)
+
+pub resolve_comp-resolve_own-requires : goal.resolve_comp-resolve_own-requires
+resolve_comp-resolve_own-requires t c = (let d : 8 * (expr_nodes c.args.item.now + target_size c.args.target.now + expr_nodes c.args.subject.now + option_map_or expr_nodes c.args.condition.now 0) + 3 ≡ t = c.decreases in omega (arith, d), c.requires)
+
+pub resolve_comp-resolve_target-requires : goal.resolve_comp-resolve_target-requires
+resolve_comp-resolve_target-requires t c = (let d : 8 * (expr_nodes c.args.item.now + target_size c.args.target.now + expr_nodes c.args.subject.now + option_map_or expr_nodes c.args.condition.now 0) + 3 ≡ t = c.decreases in omega (arith, d), c.requires)
+
+pub resolve_comp-resolve_subject-requires : goal.resolve_comp-resolve_subject-requires
+resolve_comp-resolve_subject-requires t c = (let d : 8 * (expr_nodes c.args.item.now + target_size c.args.target.now + expr_nodes c.args.subject.now + option_map_or expr_nodes c.args.condition.now 0) + 3 ≡ t = c.decreases in omega (arith, d), c.requires)
+
+pub resolve_comp-resolve_option-requires : goal.resolve_comp-resolve_option-requires
+resolve_comp-resolve_option-requires t c = (let d : 8 * (expr_nodes c.args.item.now + target_size c.args.target.now + expr_nodes c.args.subject.now + option_map_or expr_nodes c.args.condition.now 0) + 3 ≡ t = c.decreases in omega (arith, d), c.requires)
+
+pub resolve_dict-resolve_pairs-requires : goal.resolve_dict-resolve_pairs-requires
+resolve_dict-resolve_pairs-requires t c = (let d : 8 * sum_by (λ p. expr_nodes p.0 + expr_nodes p.1) c.args.pairs.now + 3 ≡ t = c.decreases in omega (arith, d), c.requires)
+
+pub resolve_expr-resolve_one-requires : goal.resolve_expr-resolve_one-requires
+resolve_expr-resolve_one-requires t c = (let d : 8 * expr_nodes c.args.e.now ≡ t = c.decreases in let e = ap expr_nodes (c.in-Unary.is ∙ ap (s.Unary c.in-Unary.n c.in-Unary.op) (sym c.get.ensures)) ∙ unary_size c.in-Unary.n c.in-Unary.op c.get.result.now in omega (arith, d, e), c.requires)
+
+pub resolve_expr-resolve_two-requires : goal.resolve_expr-resolve_two-requires
+resolve_expr-resolve_two-requires t c = (let d : 8 * expr_nodes c.args.e.now ≡ t = c.decreases in let e = ap expr_nodes (c.in-Binary.is ∙ (λ i. s.Binary c.in-Binary.n c.in-Binary.op (sym c.get-in-Binary.ensures i) (sym c.get-in-Binary-2.ensures i))) ∙ binary_size c.in-Binary.n c.in-Binary.op c.get-in-Binary.result.now c.get-in-Binary-2.result.now in omega (arith, d, e), c.requires)
+
+pub resolve_expr-resolve_two-requires-in-Compare : goal.resolve_expr-resolve_two-requires-in-Compare
+resolve_expr-resolve_two-requires-in-Compare t c = (let d : 8 * expr_nodes c.args.e.now ≡ t = c.decreases in let e = ap expr_nodes (c.in-Compare.is ∙ (λ i. s.Compare c.in-Compare.n c.in-Compare.op (sym c.get-in-Compare.ensures i) (sym c.get-in-Compare-2.ensures i))) ∙ compare_size c.in-Compare.n c.in-Compare.op c.get-in-Compare.result.now c.get-in-Compare-2.result.now in omega (arith, d, e), c.requires)
+
+pub resolve_expr-resolve_logic-requires : goal.resolve_expr-resolve_logic-requires
+resolve_expr-resolve_logic-requires t c = (let d : 8 * expr_nodes c.args.e.now ≡ t = c.decreases in let e = ap expr_nodes (c.in-Logic.is ∙ (λ i. s.Logic c.in-Logic.n c.in-Logic.is_and (sym c.get-in-Logic.ensures i) (sym c.get-in-Logic-2.ensures i))) ∙ logic_size c.in-Logic.n c.in-Logic.is_and c.get-in-Logic.result.now c.get-in-Logic-2.result.now in omega (arith, d, e), c.requires)
+
+pub resolve_expr-resolve_one-requires-in-Not : goal.resolve_expr-resolve_one-requires-in-Not
+resolve_expr-resolve_one-requires-in-Not t c = (let d : 8 * expr_nodes c.args.e.now ≡ t = c.decreases in let e = ap expr_nodes (c.in-Not.is ∙ ap (s.Not c.in-Not.n) (sym c.get-in-Not.ensures)) ∙ not_size c.in-Not.n c.get-in-Not.result.now in omega (arith, d, e), c.requires)
+
+pub resolve_expr-resolve_call-requires : goal.resolve_expr-resolve_call-requires
+resolve_expr-resolve_call-requires t c = (let d : 8 * expr_nodes c.args.e.now ≡ t = c.decreases in let e = ap expr_nodes (c.in-Call.is ∙ (λ i. s.Call c.in-Call.n (sym c.get-in-Call.ensures i) (sym c.as_slice.ensures i))) ∙ call_size c.in-Call.n c.get-in-Call.result.now c.as_slice.result.now in omega (arith, d, e), c.requires)
+
+pub resolve_expr-resolve_attr-requires : goal.resolve_expr-resolve_attr-requires
+resolve_expr-resolve_attr-requires t c = (let d : 8 * expr_nodes c.args.e.now ≡ t = c.decreases in let e = ap expr_nodes (c.in-Attr.is ∙ ap (λ x. s.Attr c.in-Attr.n x c.in-Attr.name) (sym c.get-in-Attr.ensures)) ∙ attr_size c.in-Attr.n c.get-in-Attr.result.now c.in-Attr.name in omega (arith, d, e), c.requires)
+
+pub resolve_expr-resolve_two-requires-in-Index : goal.resolve_expr-resolve_two-requires-in-Index
+resolve_expr-resolve_two-requires-in-Index t c = (let d : 8 * expr_nodes c.args.e.now ≡ t = c.decreases in let e = ap expr_nodes (c.in-Index.is ∙ (λ i. s.Index c.in-Index.n (sym c.get-in-Index-2.ensures i) (sym c.get-in-Index-3.ensures i))) ∙ index_size c.in-Index.n c.get-in-Index-2.result.now c.get-in-Index-3.result.now in omega (arith, d, e), c.requires)
+
+pub resolve_expr-resolve_slice-requires : goal.resolve_expr-resolve_slice-requires
+resolve_expr-resolve_slice-requires t c = (let d : 8 * expr_nodes c.args.e.now ≡ t = c.decreases in let e = ap expr_nodes (c.in-Slice.is ∙ ap (λ x. s.Slice c.in-Slice.n x c.in-Slice.low c.in-Slice.high) (sym c.get-in-Slice.ensures)) ∙ slice_size c.in-Slice.n c.get-in-Slice.result.now c.in-Slice.low c.in-Slice.high in omega (arith, d, e), c.requires)
+
+pub resolve_expr-resolve_all-requires : goal.resolve_expr-resolve_all-requires
+resolve_expr-resolve_all-requires t c = (let d : 8 * expr_nodes c.args.e.now ≡ t = c.decreases in let e = ap expr_nodes (c.in-Tuple.is ∙ ap (s.Tuple c.in-Tuple.n) (sym c.as_slice-in-Tuple.ensures)) ∙ tuple_size c.in-Tuple.n c.as_slice-in-Tuple.result.now in omega (arith, d, e), c.requires)
+
+pub resolve_expr-resolve_all-requires-in-List : goal.resolve_expr-resolve_all-requires-in-List
+resolve_expr-resolve_all-requires-in-List t c = (let d : 8 * expr_nodes c.args.e.now ≡ t = c.decreases in let e = ap expr_nodes (c.in-List.is ∙ ap (s.List c.in-List.n) (sym c.as_slice-in-List.ensures)) ∙ list_size c.in-List.n c.as_slice-in-List.result.now in omega (arith, d, e), c.requires)
+
+pub resolve_expr-resolve_dict-requires : goal.resolve_expr-resolve_dict-requires
+resolve_expr-resolve_dict-requires t c = (let d : 8 * expr_nodes c.args.e.now ≡ t = c.decreases in let e = ap expr_nodes (c.in-Dict.is ∙ ap (s.Dict c.in-Dict.n) (sym c.as_slice-in-Dict.ensures)) ∙ dict_size c.in-Dict.n c.as_slice-in-Dict.result.now in omega (arith, d, e), c.requires)
+
+pub resolve_expr-resolve_comp-requires : goal.resolve_expr-resolve_comp-requires
+resolve_expr-resolve_comp-requires t c = (let d : 8 * expr_nodes c.args.e.now ≡ t = c.decreases in let e = ap expr_nodes (c.in-Comp.is ∙ (λ i. s.Comp c.in-Comp.n (sym c.get-in-Comp.ensures i) (sym c.get-target.ensures i) (sym c.get-in-Comp-2.ensures i) c.in-Comp.condition)) ∙ comp_size c.in-Comp.n c.get-in-Comp.result.now c.get-target.result.now c.get-in-Comp-2.result.now c.in-Comp.condition in omega (arith, d, e), c.requires)
+
+pub resolve_exprs-resolve_expr-requires : goal.resolve_exprs-resolve_expr-requires
+resolve_exprs-resolve_expr-requires t c = (let d : 8 * sum_by expr_nodes c.args.es.now + 1 ≡ t = c.decreases in let e = item_less expr_nodes c.args.es.now c.loop-e.e-index c.e-item.result c.loop-e-test.true c.e-item.is in omega (arith, d, e), c.requires)
+
+pub resolve_first-resolve_expr-requires : goal.resolve_first-resolve_expr-requires
+resolve_first-resolve_expr-requires t c = (let d : 8 * (expr_nodes c.args.first.now + sum_by expr_nodes c.args.es.now) + 2 ≡ t = c.decreases in omega (arith, d), c.requires)
+
+pub resolve_first-resolve_exprs-requires : goal.resolve_first-resolve_exprs-requires
+resolve_first-resolve_exprs-requires t c = (let d : 8 * (expr_nodes c.args.first.now + sum_by expr_nodes c.args.es.now) + 2 ≡ t = c.decreases in omega (arith, d), c.requires)
+
+pub resolve_from-resolve_expr-requires : goal.resolve_from-resolve_expr-requires
+resolve_from-resolve_expr-requires t c = (let d : 8 * (expr_nodes c.args.start.now + expr_nodes c.args.end.now) + 1 ≡ t = c.decreases in omega (arith, d), c.requires)
+
+pub resolve_from-resolve_expr-requires-2 : goal.resolve_from-resolve_expr-requires-2
+resolve_from-resolve_expr-requires-2 t c = (let d : 8 * (expr_nodes c.args.start.now + expr_nodes c.args.end.now) + 1 ≡ t = c.decreases in omega (arith, d), c.requires)
+
+pub resolve_isinstance-resolve_one-requires : goal.resolve_isinstance-resolve_one-requires
+resolve_isinstance-resolve_one-requires t c = (let d : 8 * sum_by expr_nodes c.args.args.now + 2 ≡ t = c.decreases in let e = item_less expr_nodes c.args.args.now 0 c.a-item.result (omega arith) c.a-item.is in omega (arith, d, e), c.requires)
+
+pub resolve_logic-resolve_own-requires : goal.resolve_logic-resolve_own-requires
+resolve_logic-resolve_own-requires t c = (let d : 8 * (expr_nodes c.args.a.now + expr_nodes c.args.b.now) + 2 ≡ t = c.decreases in omega (arith, d), c.requires)
+
+pub resolve_logic-resolve_own-requires-2 : goal.resolve_logic-resolve_own-requires-2
+resolve_logic-resolve_own-requires-2 t c = (let d : 8 * (expr_nodes c.args.a.now + expr_nodes c.args.b.now) + 2 ≡ t = c.decreases in omega (arith, d), c.requires)
+
+pub resolve_named-resolve_all-requires : goal.resolve_named-resolve_all-requires
+resolve_named-resolve_all-requires t c = (let d : 8 * (expr_nodes c.args.callee.now + sum_by expr_nodes c.args.args.now) + 4 ≡ t = c.decreases in omega (arith, d), c.requires)
+
+pub resolve_named-resolve_all-requires-in-Class : goal.resolve_named-resolve_all-requires-in-Class
+resolve_named-resolve_all-requires-in-Class t c = (let d : 8 * (expr_nodes c.args.callee.now + sum_by expr_nodes c.args.args.now) + 4 ≡ t = c.decreases in omega (arith, d), c.requires)
+
+pub resolve_named-resolve_builtin-requires : goal.resolve_named-resolve_builtin-requires
+resolve_named-resolve_builtin-requires t c = (let d : 8 * (expr_nodes c.args.callee.now + sum_by expr_nodes c.args.args.now) + 4 ≡ t = c.decreases in omega (arith, d), c.requires)
+
+pub resolve_named-resolve_first-requires : goal.resolve_named-resolve_first-requires
+resolve_named-resolve_first-requires t c = (let d : 8 * (expr_nodes c.args.callee.now + sum_by expr_nodes c.args.args.now) + 4 ≡ t = c.decreases in omega (arith, d), c.requires)
+
+pub resolve_one-resolve_expr-requires : goal.resolve_one-resolve_expr-requires
+resolve_one-resolve_expr-requires t c = (let d : 8 * expr_nodes c.args.a.now + 1 ≡ t = c.decreases in omega (arith, d), c.requires)
+
+pub resolve_option-resolve_own-requires : goal.resolve_option-resolve_own-requires
+resolve_option-resolve_own-requires t c = (let d : 8 * option_map_or expr_nodes c.args.e.now 0 + 2 ≡ t = c.decreases in let e = ap (λ o. option_map_or expr_nodes o 0) c.in-Some.is ∙ ap expr_nodes (sym c.get.ensures) in omega (arith, d, e), c.requires)
+
+pub resolve_ovfcheck-resolve_expr-requires : goal.resolve_ovfcheck-resolve_expr-requires
+resolve_ovfcheck-resolve_expr-requires t c = (let d : 8 * sum_by expr_nodes c.args.args.now + 2 ≡ t = c.decreases in let e = item_less expr_nodes c.args.args.now 0 c.a-item.result (omega arith) c.a-item.is in omega (arith, d, e), c.requires)
+
+pub resolve_own-resolve_expr-requires : goal.resolve_own-resolve_expr-requires
+resolve_own-resolve_expr-requires t c = (let d : 8 * expr_nodes c.args.e.now + 1 ≡ t = c.decreases in omega (arith, d), c.requires)
+
+pub resolve_pair-resolve_expr-requires : goal.resolve_pair-resolve_expr-requires
+resolve_pair-resolve_expr-requires t c = (let d : 8 * (expr_nodes c.args.pair.now.0 + expr_nodes c.args.pair.now.1) + 1 ≡ t = c.decreases in omega (arith, d), c.requires)
+
+pub resolve_pair-resolve_expr-requires-2 : goal.resolve_pair-resolve_expr-requires-2
+resolve_pair-resolve_expr-requires-2 t c = (let d : 8 * (expr_nodes c.args.pair.now.0 + expr_nodes c.args.pair.now.1) + 1 ≡ t = c.decreases in omega (arith, d), c.requires)
+
+pub resolve_pairs-resolve_pair-requires : goal.resolve_pairs-resolve_pair-requires
+resolve_pairs-resolve_pair-requires t c = (let d : 8 * sum_by (λ p. expr_nodes p.0 + expr_nodes p.1) c.args.pairs.now + 2 ≡ t = c.decreases in let e = item_less (λ p. expr_nodes p.0 + expr_nodes p.1) c.args.pairs.now c.loop-pair.pair-index c.pair-item.result c.loop-pair-test.true c.pair-item.is in omega (arith, d, e), c.requires)
+
+pub resolve_part-resolve_expr-requires : goal.resolve_part-resolve_expr-requires
+resolve_part-resolve_expr-requires t c = (let d : 8 * (expr_nodes c.args.a.now + expr_nodes c.args.low.now + expr_nodes c.args.high.now) + 1 ≡ t = c.decreases in omega (arith, d), c.requires)
+
+pub resolve_part-resolve_expr-requires-2 : goal.resolve_part-resolve_expr-requires-2
+resolve_part-resolve_expr-requires-2 t c = (let d : 8 * (expr_nodes c.args.a.now + expr_nodes c.args.low.now + expr_nodes c.args.high.now) + 1 ≡ t = c.decreases in omega (arith, d), c.requires)
+
+pub resolve_part-resolve_expr-requires-3 : goal.resolve_part-resolve_expr-requires-3
+resolve_part-resolve_expr-requires-3 t c = (let d : 8 * (expr_nodes c.args.a.now + expr_nodes c.args.low.now + expr_nodes c.args.high.now) + 1 ≡ t = c.decreases in omega (arith, d), c.requires)
+
+pub resolve_range-resolve_expr-requires : goal.resolve_range-resolve_expr-requires
+resolve_range-resolve_expr-requires t c = (let d : 8 * sum_by expr_nodes c.args.args.now + 2 ≡ t = c.decreases in let e = item_less expr_nodes c.args.args.now 0 c.end-item.result (omega arith) c.end-item.is in omega (arith, d, e), c.requires)
+
+pub resolve_range-resolve_from-requires : goal.resolve_range-resolve_from-requires
+resolve_range-resolve_from-requires t c = (let d : 8 * sum_by expr_nodes c.args.args.now + 2 ≡ t = c.decreases in let e = ap (sum_by expr_nodes) (two_items c.args.args.now c.start-item.result c.end-item-then-args-lt3.result (omega arith) (omega arith) c.start-item.is c.end-item-then-args-lt3.is) in omega (arith, d, e), c.requires)
+
+pub resolve_range-resolve_from-requires-in-len3 : goal.resolve_range-resolve_from-requires-in-len3
+resolve_range-resolve_from-requires-in-len3 t c = (let d : 8 * sum_by expr_nodes c.args.args.now + 2 ≡ t = c.decreases in let e = ap (sum_by expr_nodes) (three_items c.args.args.now c.start-item-then-args-lt4.result c.end-item-then-args-lt4.result c.step-item.result (omega arith) (omega arith) c.start-item-then-args-lt4.is c.end-item-then-args-lt4.is c.step-item.is) in omega (arith, d, e), c.requires)
+
+pub resolve_slice-resolve_one-requires : goal.resolve_slice-resolve_one-requires
+resolve_slice-resolve_one-requires t c = (let d : 8 * (expr_nodes c.args.a.now + option_map_or expr_nodes c.args.low.now 0 + option_map_or expr_nodes c.args.high.now 0) + 2 ≡ t = c.decreases in omega (arith, d), c.requires)
+
+pub resolve_slice-resolve_one-requires-then-is_minus_one : goal.resolve_slice-resolve_one-requires-then-is_minus_one
+resolve_slice-resolve_one-requires-then-is_minus_one t c = (let d : 8 * (expr_nodes c.args.a.now + option_map_or expr_nodes c.args.low.now 0 + option_map_or expr_nodes c.args.high.now 0) + 2 ≡ t = c.decreases in omega (arith, d), c.requires)
+
+pub resolve_slice-resolve_two-requires : goal.resolve_slice-resolve_two-requires
+resolve_slice-resolve_two-requires t c = (let d : 8 * (expr_nodes c.args.a.now + option_map_or expr_nodes c.args.low.now 0 + option_map_or expr_nodes c.args.high.now 0) + 2 ≡ t = c.decreases in let e = ap (λ o. option_map_or expr_nodes o 0) c.in-Some-high.is ∙ ap expr_nodes (sym c.get-else-is_minus_one.ensures) in omega (arith, d, e), c.requires)
+
+pub resolve_subject-resolve_expr-requires : goal.resolve_subject-resolve_expr-requires
+resolve_subject-resolve_expr-requires t c = (let d : 8 * expr_nodes c.args.e.now + 1 ≡ t = c.decreases in omega (arith, d), c.requires)
+
+pub resolve_subject-resolve_range-requires : goal.resolve_subject-resolve_range-requires
+resolve_subject-resolve_range-requires t c = (let d : 8 * expr_nodes c.args.e.now + 1 ≡ t = c.decreases in let e : sum_by expr_nodes c.in-Some.args.now < expr_nodes c.args.e.now = c.in-Some.ensures.smaller in omega (arith, d, e), c.requires)
+
+pub resolve_target-resolve_expr-requires : goal.resolve_target-resolve_expr-requires
+resolve_target-resolve_expr-requires t c = (let d : 8 * target_size c.args.target.now ≡ t = c.decreases in let e = ap target_size c.in-Attr.is ∙ aim_attr_size c.in-Attr.n c.in-Attr.a c.in-Attr.name in omega (arith, d, e), c.requires)
+
+pub resolve_target-resolve_expr-requires-in-Item : goal.resolve_target-resolve_expr-requires-in-Item
+resolve_target-resolve_expr-requires-in-Item t c = (let d : 8 * target_size c.args.target.now ≡ t = c.decreases in let e = ap target_size c.in-Item.is ∙ aim_item_size c.in-Item.n c.in-Item.a c.in-Item.i in omega (arith, d, e), c.requires)
+
+pub resolve_target-resolve_expr-requires-in-Item-2 : goal.resolve_target-resolve_expr-requires-in-Item-2
+resolve_target-resolve_expr-requires-in-Item-2 t c = (let d : 8 * target_size c.args.target.now ≡ t = c.decreases in let e = ap target_size c.in-Item.is ∙ aim_item_size c.in-Item.n c.in-Item.a c.in-Item.i in omega (arith, d, e), c.requires)
+
+pub resolve_target-resolve_targets-requires : goal.resolve_target-resolve_targets-requires
+resolve_target-resolve_targets-requires t c = (let d : 8 * target_size c.args.target.now ≡ t = c.decreases in let e = ap target_size c.in-Tuple.is ∙ aim_tuple_size c.in-Tuple.n c.in-Tuple.items in let a = ap (sum_by target_size) c.as_slice.ensures in omega (arith, d, e, a), c.requires)
+
+pub resolve_targets-resolve_target-requires : goal.resolve_targets-resolve_target-requires
+resolve_targets-resolve_target-requires t c = (let d : 8 * sum_by target_size c.args.targets.now + 1 ≡ t = c.decreases in let e = item_less target_size c.args.targets.now c.loop-target.target-index c.target-item.result c.loop-target-test.true c.target-item.is in omega (arith, d, e), c.requires)
+
+pub resolve_two-resolve_expr-requires : goal.resolve_two-resolve_expr-requires
+resolve_two-resolve_expr-requires t c = (let d : 8 * (expr_nodes c.args.a.now + expr_nodes c.args.b.now) + 1 ≡ t = c.decreases in omega (arith, d), c.requires)
+
+pub resolve_two-resolve_expr-requires-2 : goal.resolve_two-resolve_expr-requires-2
+resolve_two-resolve_expr-requires-2 t c = (let d : 8 * (expr_nodes c.args.a.now + expr_nodes c.args.b.now) + 1 ≡ t = c.decreases in omega (arith, d), c.requires)

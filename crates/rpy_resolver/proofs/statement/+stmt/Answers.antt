@@ -1,5 +1,9 @@
 -- What each statement says: the parts that are made, and what the meaning makes of it.
-use Rattle.std.proofs.Common.{◌≡◌, ◌+◌, ◌-◌, ◌∷◌, length, map, drop, Some, refl, sym, ap, ◌∙◌, arith}
+use Rattle.std.proofs.Common.{◌≡◌, ◌+◌, ◌-◌, ◌*◌, ◌∷◌, length, map, take, drop, Some, refl, sym, ap, ◌∙◌, arith}
+use Rattle.std.proofs.lemmas.List.Sums.{sum_by-cons}
+use Rattle.std.specs.Prelude.{sum_by}
+use Rattle.std.specs.Option.{option_map_or}
+use Rattle.rpy_tree.specs.Size.{stmt_nodes as stmt_size, body_nodes, clause_nodes as clause_size}
 use Rattle.rpy_tree.specs.declared.syntax.Stmt.TheVariants as s
 use Rattle.rpy_meaning.specs.Resolved as meaning
 use Rattle.rpy_meaning.specs.Resolved.{expr_by, stmt_by, onto, joined}
@@ -14,6 +18,8 @@ use Rattle.resolver_laws.proofs.Stating.{joined_on, onto_done}
 use Rattle.rpy_resolver.proofs.Counts.{put_counted, one_more_counted, none_left}
 use Rattle.rpy_resolver.proofs.Forms.{on_map, one_more, drop_at, drop_all, first_rest}
 use Rattle.rpy_resolver.proofs.Statements.{pass_put, break_put, continue_put, put_said, if_said, try_said, finally_put, tried_put, body_put, first_put, no_arms, while_whole, for_whole, finally_whole, try_whole, arm_whole, if_whole, clause_whole}
+use Rattle.rpy_resolver.proofs.Sizes.{item_less}
+use Rattle.rpy_resolver.proofs.Bodies.{arm_size, while_size, for_size, try_size, clause_is}
 use Rattle.rpy_resolver.proofs.statement.+stmt.Goals as goal
 
 pub resolve_stmt-returns-in-Pass-clause-tree : goal.resolve_stmt-returns-in-Pass-clause-tree
@@ -236,3 +242,80 @@ resolve_arms-loop-left-preserved t c =
 
 pub resolve_block-returns-clause-nodes : goal.resolve_block-returns-clause-nodes
 resolve_block-returns-clause-nodes t c = λ k. let z = ap (block_values k) c.new-block.ensures in let g = c.in_ok-resolve_into.ensures.nodes k in omega (arith, z, g)
+
+-- ---- calls: what each is given is smaller
+
+pub resolve_stmt-resolve_while-requires : goal.resolve_stmt-resolve_while-requires
+resolve_stmt-resolve_while-requires t c = (let d : 8 * stmt_size c.args.s.now ≡ t = c.decreases in let e = ap stmt_size (c.in-While.is ∙ ap (s.While c.in-While.n c.in-While.test) (sym c.as_slice-in-While.ensures)) ∙ while_size c.in-While.n c.in-While.test c.as_slice-in-While.result.now in omega (arith, d, e), c.requires)
+
+pub resolve_stmt-resolve_for-requires : goal.resolve_stmt-resolve_for-requires
+resolve_stmt-resolve_for-requires t c = (let d : 8 * stmt_size c.args.s.now ≡ t = c.decreases in let e = ap stmt_size (c.in-For.is ∙ ap (s.For c.in-For.n c.in-For.target c.in-For.over) (sym c.as_slice-in-For.ensures)) ∙ for_size c.in-For.n c.in-For.target c.in-For.over c.as_slice-in-For.result.now in omega (arith, d, e), c.requires)
+
+pub resolve_stmt-resolve_tried-requires : goal.resolve_stmt-resolve_tried-requires
+resolve_stmt-resolve_tried-requires t c = (let d : 8 * stmt_size c.args.s.now ≡ t = c.decreases in let e = ap stmt_size (c.in-Try.is ∙ (λ i. s.Try c.in-Try.n (sym c.as_slice-in-Try.ensures i) (sym c.as_slice-clauses.ensures i) (sym c.as_slice-in-Try-2.ensures i) c.in-Try.last)) ∙ try_size c.in-Try.n c.as_slice-in-Try.result.now c.as_slice-clauses.result.now c.as_slice-in-Try-2.result.now c.in-Try.last in omega (arith, d, e), c.requires)
+
+pub resolve_branches-resolve_into-requires : goal.resolve_branches-resolve_into-requires
+resolve_branches-resolve_into-requires t c = (let d : 8 * (sum_by arm_size c.args.arms.now + body_nodes c.args.other.now) + 6 ≡ t = c.decreases in omega (arith, d), c.requires)
+
+pub resolve_branches-resolve_if-requires : goal.resolve_branches-resolve_if-requires
+resolve_branches-resolve_if-requires t c = (let d : 8 * (sum_by arm_size c.args.arms.now + body_nodes c.args.other.now) + 6 ≡ t = c.decreases in let e = ap (sum_by arm_size) (first_rest c.args.arms.now c.arm-item.result (omega arith) c.arm-item.is) ∙ sum_by-cons arm_size c.arm-item.result (take (length c.args.arms.now - 1) (drop 1 c.args.arms.now)) in omega (arith, d, e), c.requires)
+
+pub resolve_while-resolve_block-requires : goal.resolve_while-resolve_block-requires
+resolve_while-resolve_block-requires t c = (let d : 8 * body_nodes c.args.body.now + 3 ≡ t = c.decreases in omega (arith, d), c.requires)
+
+pub resolve_for-resolve_block-requires : goal.resolve_for-resolve_block-requires
+resolve_for-resolve_block-requires t c = (let d : 8 * body_nodes c.args.body.now + 3 ≡ t = c.decreases in omega (arith, d), c.requires)
+
+pub resolve_finally-resolve_block-requires : goal.resolve_finally-resolve_block-requires
+resolve_finally-resolve_block-requires t c = (let d : 8 * body_nodes c.args.last.now + 3 ≡ t = c.decreases in omega (arith, d), c.requires)
+
+pub resolve_tried-resolve_try-requires : goal.resolve_tried-resolve_try-requires
+resolve_tried-resolve_try-requires t c = (let d : 8 * (body_nodes c.args.body.now + sum_by clause_size c.args.clauses.now + body_nodes c.args.other.now + option_map_or body_nodes c.args.last.now 0) + 5 ≡ t = c.decreases in omega (arith, d), c.requires)
+
+pub resolve_tried-resolve_try-requires-in-Some : goal.resolve_tried-resolve_try-requires-in-Some
+resolve_tried-resolve_try-requires-in-Some t c = (let d : 8 * (body_nodes c.args.body.now + sum_by clause_size c.args.clauses.now + body_nodes c.args.other.now + option_map_or body_nodes c.args.last.now 0) + 5 ≡ t = c.decreases in omega (arith, d), c.requires)
+
+pub resolve_tried-resolve_finally-requires : goal.resolve_tried-resolve_finally-requires
+resolve_tried-resolve_finally-requires t c = (let d : 8 * (body_nodes c.args.body.now + sum_by clause_size c.args.clauses.now + body_nodes c.args.other.now + option_map_or body_nodes c.args.last.now 0) + 5 ≡ t = c.decreases in let e = ap (λ o. option_map_or body_nodes o 0) c.in-Some.is ∙ ap body_nodes (sym c.as_slice.ensures) in omega (arith, d, e), c.requires)
+
+pub resolve_try-resolve_into-requires : goal.resolve_try-resolve_into-requires
+resolve_try-resolve_into-requires t c = (let d : 8 * (body_nodes c.args.body.now + sum_by clause_size c.args.clauses.now + body_nodes c.args.other.now) + 4 ≡ t = c.decreases in omega (arith, d), c.requires)
+
+pub resolve_try-resolve_clauses_of-requires : goal.resolve_try-resolve_clauses_of-requires
+resolve_try-resolve_clauses_of-requires t c = (let d : 8 * (body_nodes c.args.body.now + sum_by clause_size c.args.clauses.now + body_nodes c.args.other.now) + 4 ≡ t = c.decreases in omega (arith, d), c.requires)
+
+pub resolve_clauses_of-resolve_block-requires : goal.resolve_clauses_of-resolve_block-requires
+resolve_clauses_of-resolve_block-requires t c = (let d : 8 * (body_nodes c.args.body.now + sum_by clause_size c.args.clauses.now + body_nodes c.args.other.now) + 3 ≡ t = c.decreases in omega (arith, d), c.requires)
+
+pub resolve_clauses_of-resolve_clauses-requires : goal.resolve_clauses_of-resolve_clauses-requires
+resolve_clauses_of-resolve_clauses-requires t c = (let d : 8 * (body_nodes c.args.body.now + sum_by clause_size c.args.clauses.now + body_nodes c.args.other.now) + 3 ≡ t = c.decreases in omega (arith, d), c.requires)
+
+pub resolve_clauses_of-resolve_block-requires-2 : goal.resolve_clauses_of-resolve_block-requires-2
+resolve_clauses_of-resolve_block-requires-2 t c = (let d : 8 * (body_nodes c.args.body.now + sum_by clause_size c.args.clauses.now + body_nodes c.args.other.now) + 3 ≡ t = c.decreases in omega (arith, d), c.requires)
+
+pub resolve_into-resolve_stmt-requires : goal.resolve_into-resolve_stmt-requires
+resolve_into-resolve_stmt-requires t c = (let d : 8 * body_nodes c.args.body.now + 1 ≡ t = c.decreases in let e = item_less stmt_size c.args.body.now c.loop-s.s-index c.s-item.result c.loop-s-test.true c.s-item.is in omega (arith, d, e), c.requires)
+
+pub resolve_block-resolve_into-requires : goal.resolve_block-resolve_into-requires
+resolve_block-resolve_into-requires t c = (let d : 8 * body_nodes c.args.body.now + 2 ≡ t = c.decreases in omega (arith, d), c.requires)
+
+pub resolve_arm-resolve_block-requires : goal.resolve_arm-resolve_block-requires
+resolve_arm-resolve_block-requires t c = (let d : 8 * arm_size c.args.arm.now + 3 ≡ t = c.decreases in let e = ap body_nodes c.as_slice.ensures in omega (arith, d, e), c.requires)
+
+pub resolve_arms-resolve_block-requires : goal.resolve_arms-resolve_block-requires
+resolve_arms-resolve_block-requires t c = (let d : 8 * (sum_by arm_size c.args.arms.now + body_nodes c.args.other.now) + 4 ≡ t = c.decreases in omega (arith, d), c.requires)
+
+pub resolve_arms-resolve_arm-requires : goal.resolve_arms-resolve_arm-requires
+resolve_arms-resolve_arm-requires t c = (let d : 8 * (sum_by arm_size c.args.arms.now + body_nodes c.args.other.now) + 4 ≡ t = c.decreases in let e = item_less arm_size c.args.arms.now (c.loop-left.left - 1) c.index-arms-left.result (omega (arith, c.loop-left-test.true, c.loop-left.invariant.0)) c.index-arms-left.is in omega (arith, d, e), c.requires)
+
+pub resolve_if-resolve_block-requires : goal.resolve_if-resolve_block-requires
+resolve_if-resolve_block-requires t c = (let d : 8 * (arm_size c.args.arm.now + sum_by arm_size c.args.rest.now + body_nodes c.args.other.now) + 5 ≡ t = c.decreases in let e = ap body_nodes c.as_slice.ensures in omega (arith, d, e), c.requires)
+
+pub resolve_if-resolve_arms-requires : goal.resolve_if-resolve_arms-requires
+resolve_if-resolve_arms-requires t c = (let d : 8 * (arm_size c.args.arm.now + sum_by arm_size c.args.rest.now + body_nodes c.args.other.now) + 5 ≡ t = c.decreases in omega (arith, d), c.requires)
+
+pub resolve_clause-resolve_block-requires : goal.resolve_clause-resolve_block-requires
+resolve_clause-resolve_block-requires t c = (let d : 8 * clause_size c.args.clause.now ≡ t = c.decreases in let e = clause_is c.args.clause.now in let a = ap body_nodes c.as_slice.ensures in omega (arith, d, e, a), c.requires)
+
+pub resolve_clauses-resolve_clause-requires : goal.resolve_clauses-resolve_clause-requires
+resolve_clauses-resolve_clause-requires t c = (let d : 8 * sum_by clause_size c.args.clauses.now + 1 ≡ t = c.decreases in let e = item_less clause_size c.args.clauses.now c.loop-clause.clause-index c.clause-item.result c.loop-clause-test.true c.clause-item.is in omega (arith, d, e), c.requires)
