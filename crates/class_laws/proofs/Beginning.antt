@@ -38,7 +38,7 @@ use Rattle.rtyper_layout.specs.Families.{place_from, attribute_place}
 use Rattle.rtyper_layout.specs.Types.{word, field_type, type_of}
 use Rattle.rtyper_data.specs.declared.body.Body.{Body}
 use Rattle.rtyper_data.specs.declared.found.Found.{Found}
-use Rattle.rtyper_data.specs.Constants.{constant_of}
+use Rattle.rtyper_op.specs.Constants.{constant_of}
 use Rattle.rtyper_data.specs.Converting.{default_constant}
 use Rattle.rtyper_data.specs.Seen.{Writing, writing}
 use Rattle.rtyper_class.specs.Attributes.{Standing as Stood, place_in, standing, standing_in, standing_at}

@@ -31,7 +31,7 @@ use Rattle.rtyper_layout.specs.Kinds.{kind_seen}
 use Rattle.rtyper_data.specs.declared.body.Body.{Body}
 use Rattle.rtyper_data.specs.Comparing.{null, alone, binary_in, identical, identical_by, same_pointer_of, both_null, beside_none_of, compare, opposite_if, opposite_of}
 use Rattle.rtyper_data.specs.Converting.{give_made}
-use Rattle.rtyper_data.specs.Lowering.{never_comes, of_some, of_two}
+use Rattle.rtyper_op.specs.Lowering.{never_comes, of_some, of_two}
 use Rattle.rtyper_data.specs.Seen.{Operand, Place, type_of, type_at, kind_of, Writing, writing}
 use Rattle.rtyper_list.specs.Lowering.{lowered as list_lowered, of_some as list_of_some, first_of_two, second_of_two}
 use Rattle.rtyper_class.specs.Lowering.{lowered as class_lowered, of_some as class_of_some, of_two as class_of_two, lower_class_op}

@@ -25,7 +25,7 @@ use Rattle.ll_code.specs.declared.program.LlProgram.{LlProgram}
 use Rattle.rtyper_layout.specs.declared.kind.Kind.TheVariants as kind
 use Rattle.rtyper_layout.specs.Kinds.{kind_seen}
 use Rattle.rtyper_data.specs.Converting.{give, give_to, value_as}
-use Rattle.rtyper_data.specs.Lowering.{never_comes, of_some, of_one, same}
+use Rattle.rtyper_op.specs.Lowering.{never_comes, of_some, of_one, same}
 use Rattle.rtyper_data.specs.Seen.{Operand, Place, type_of, type_at, kind_of, with_op, Writing, writing}
 use Rattle.rtyper_list.specs.Lowering.{lowered as list_lowered, of_some as list_of_some, first_of_one}
 use Rattle.rtyper_class.specs.Lowering.{lowered as class_lowered, of_some as class_of_some, of_one as class_of_one, lower_class_op}

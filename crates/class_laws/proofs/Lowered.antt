@@ -2,7 +2,7 @@
 use Rattle.std.proofs.Common.{◌≡◌, Bool, true, false, List, [], ◌∷◌, refl, ap, ◌∙◌}
 use Rattle.std.specs.Prelude.{if◌then◌else◌}
 use Rattle.rpy_meaning.specs.declared.row.RowOp.{RowOp}
-use Rattle.rtyper_data.specs.Lowering.{lower_op, is_never}
+use Rattle.rtyper_op.specs.Lowering.{lower_op, is_never}
 use Rattle.rtyper_data.specs.Seen.{Operand, Place, Writing}
 use Rattle.rtyper_list.specs.Lowering.{fails, lowered as list_lowered, lowered_unless, lower_list_op, of_one as list_of_one, of_two as list_of_two, first_of_one, first_of_two, second_of_two}
 use Rattle.rtyper_list.specs.Operands.{is_list}

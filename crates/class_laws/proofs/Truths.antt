@@ -26,10 +26,10 @@ use Rattle.ll_leads.proofs.Ways.{on, gives, turns}
 use Rattle.rtyper_layout.specs.declared.kind.Kind.TheVariants as kind
 use Rattle.rtyper_layout.specs.Kinds.{kind_seen}
 use Rattle.rtyper_data.specs.Comparing.{null, flag as flag_operand, opposite_if}
-use Rattle.rtyper_data.specs.Lowering.{of_some, of_one}
+use Rattle.rtyper_op.specs.Lowering.{of_some, of_one}
 use Rattle.rtyper_data.specs.Numbers.{give_unary}
 use Rattle.rtyper_data.specs.Seen.{Operand, Place, type_at, Writing, writing}
-use Rattle.rtyper_data.specs.Texts.{truth_of, truth_by, tested_to}
+use Rattle.rtyper_op.specs.Texts.{truth_of, truth_by, tested_to}
 use Rattle.rtyper_list.specs.Lowering.{lowered as list_lowered, of_some as list_of_some, first_of_one}
 use Rattle.rtyper_class.specs.Lowering.{lowered as class_lowered, of_some as class_of_some, of_one as class_of_one, lower_class_op}
 use Rattle.rtyper_class.specs.Seen.{World}

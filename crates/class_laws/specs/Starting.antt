@@ -12,7 +12,7 @@ use Rattle.class_desc.specs.Tables.{initial}
 use Rattle.rtyper_layout.specs.declared.classes.Laid.{Laid}
 use Rattle.rtyper_layout.specs.Types.{word, field_type, type_of}
 use Rattle.rtyper_data.specs.declared.found.Found.{Found}
-use Rattle.rtyper_data.specs.Constants.{constant_of}
+use Rattle.rtyper_op.specs.Constants.{constant_of}
 use Rattle.rtyper_class.specs.Instances.{initial_of}
 use Rattle.rtyper_class.specs.Seen.{World, laid}
 use Rattle.object_laws.specs.Ghost.{Ghost}

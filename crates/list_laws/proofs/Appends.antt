@@ -36,8 +36,8 @@ use Rattle.rtyper_data.specs.declared.small.Small.TheVariants as small
 use Rattle.rtyper_data.specs.declared.small.Listed.TheVariants as listed
 use Rattle.rtyper_data.specs.Converting.{by_small, present, given, default_operand, nothing_to}
 use Rattle.rtyper_data.specs.Finding.{small_number}
-use Rattle.rtyper_data.specs.Lowering.{lower_op}
-use Rattle.rtyper_data.specs.Placing.{says_nothing}
+use Rattle.rtyper_op.specs.Lowering.{lower_op}
+use Rattle.rtyper_op.specs.Placing.{says_nothing}
 use Rattle.rtyper_data.specs.Seen.{Around, Operand, Place, kind_of, type_of, with_op, Writing, writing}
 use Rattle.list_shape.specs.Shapes.{item_of, taking}
 use Rattle.rtyper_list.specs.Lowering.{lowered, of_some, first_of_two, method_of, method_of_two, method_of_list, lower_list_op}

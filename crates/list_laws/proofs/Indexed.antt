@@ -37,7 +37,7 @@ use Rattle.rtyper_data.specs.declared.small.Small.TheVariants as small
 use Rattle.rtyper_data.specs.declared.small.Listed.TheVariants as listed
 use Rattle.rtyper_data.specs.Converting.{by_small}
 use Rattle.rtyper_data.specs.Finding.{small_number, small_from, asked}
-use Rattle.rtyper_data.specs.Lowering.{never_comes}
+use Rattle.rtyper_op.specs.Lowering.{never_comes}
 use Rattle.rtyper_data.specs.Seen.{Around, Operand, Place, kind_of, type_of, type_at, Writing, writing}
 use Rattle.list_shape.specs.declared.shape.Shape.{Shape}
 use Rattle.list_shape.specs.Shapes.{item_of, shape_of, taking}

@@ -37,7 +37,7 @@ use Rattle.rtyper_data.specs.declared.small.Small.TheVariants as small
 use Rattle.rtyper_data.specs.declared.small.Listed.TheVariants as listed
 use Rattle.rtyper_data.specs.Converting.{by_small}
 use Rattle.rtyper_data.specs.Finding.{small_number}
-use Rattle.rtyper_data.specs.Lowering.{lower_op, is_never}
+use Rattle.rtyper_op.specs.Lowering.{lower_op, is_never}
 use Rattle.rtyper_data.specs.Numbers.{word as word_operand}
 use Rattle.rtyper_data.specs.Seen.{Around, Operand, Place, type_of, Writing, writing, push}
 use Rattle.rtyper_data.specs.Tuples.{variable_of, with_first}

@@ -4,7 +4,7 @@ use Rattle.std.specs.Prelude.{if◌then◌else◌}
 use Rattle.rpy_meaning.specs.declared.row.RowOp.{RowOp}
 use Rattle.rtyper_layout.specs.declared.kind.Kind.{Kind}
 use Rattle.rtyper_layout.specs.declared.kind.Kind.TheVariants as kind
-use Rattle.rtyper_data.specs.Lowering.{lower_op, never_comes, is_never}
+use Rattle.rtyper_op.specs.Lowering.{lower_op, never_comes, is_never}
 use Rattle.rtyper_data.specs.Seen.{Around, Operand, Place, kind_of, Writing}
 use Rattle.rtyper_list.specs.Lowering.{fails, lowered_unless, lower_list_op, of_one, of_two, first_of_one, first_of_two, second_of_two}
 use Rattle.rtyper_list.specs.Operands.{of_list}

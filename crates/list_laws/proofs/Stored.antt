@@ -41,7 +41,7 @@ use Rattle.rtyper_data.specs.declared.small.Small.TheVariants as small
 use Rattle.rtyper_data.specs.declared.small.Listed.TheVariants as listed
 use Rattle.rtyper_data.specs.Converting.{by_small, given, give}
 use Rattle.rtyper_data.specs.Finding.{small_number}
-use Rattle.rtyper_data.specs.Lowering.{lower_op, never_comes}
+use Rattle.rtyper_op.specs.Lowering.{lower_op, never_comes}
 use Rattle.rtyper_data.specs.Seen.{Around, Operand, Place, kind_of, type_of, Writing, writing}
 use Rattle.list_shape.specs.declared.shape.Shape.{Shape}
 use Rattle.list_shape.specs.Shapes.{item_of, shape_of, taking}

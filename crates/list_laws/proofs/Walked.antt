@@ -28,7 +28,7 @@ use Rattle.rtyper_layout.specs.Kinds.{kind_seen}
 use Rattle.rtyper_layout.specs.Layout.{is_list}
 use Rattle.rtyper_layout.specs.Types.{word, type_of as element_type}
 use Rattle.rtyper_data.specs.declared.body.Body.{Body}
-use Rattle.rtyper_data.specs.Lowering.{never_comes}
+use Rattle.rtyper_op.specs.Lowering.{never_comes}
 use Rattle.rtyper_data.specs.Numbers.{give_binary}
 use Rattle.rtyper_data.specs.Seen.{Around, Operand, Place, kind_of, type_of, type_at, Writing, writing}
 use Rattle.list_shape.specs.Shapes.{item_of, shape_of}

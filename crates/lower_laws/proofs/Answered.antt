@@ -28,7 +28,7 @@ use Rattle.ll_texts.specs.Stands.{Stands, flag}
 use Rattle.rtyper_layout.specs.declared.kind.Kind.TheVariants as kind
 use Rattle.rtyper_layout.specs.Kinds.{kind_seen}
 use Rattle.rtyper_data.specs.Comparing.{flag as flag_operand}
-use Rattle.rtyper_data.specs.Lowering.{lower_op}
+use Rattle.rtyper_op.specs.Lowering.{lower_op}
 use Rattle.rtyper_data.specs.Seen.{Around, Operand, Place, type_at, with_op, Writing, writing}
 use Rattle.lower_laws.specs.Done.{Came, Follows, IsDone}
 use Rattle.lower_laws.specs.Follows.{Did}

@@ -14,7 +14,7 @@ use Rattle.rpy_meaning.specs.World.{Gives}
 use Rattle.ll_code.specs.declared.program.LlType.TheVariants as type
 use Rattle.ll_code.specs.declared.program.LlOp.TheVariants as op
 use Rattle.rtyper_layout.specs.declared.kind.Kind.TheVariants as kind
-use Rattle.rtyper_data.specs.Lowering.{lowered, of_some, of_one, of_two, binary_to, if_words, conversion, conversion_by}
+use Rattle.rtyper_op.specs.Lowering.{lowered, of_some, of_one, of_two, binary_to, if_words, conversion, conversion_by}
 use Rattle.rtyper_data.specs.Numbers.{give_binary, give_unary, binary_of as lowered_binary, unary_of as lowered_unary}
 use Rattle.rtyper_data.specs.Seen.{Around, Operand, Place, type_at, kind_of, with_op, Writing, writing}
 use Rattle.lower_laws.specs.Follows.{IsWord, OnWord, OnWords}

@@ -34,7 +34,7 @@ use Rattle.rtyper_data.specs.declared.small.Small.TheVariants as small
 use Rattle.rtyper_data.specs.CheckedGraphs.{checked_with, of_sum}
 use Rattle.rtyper_data.specs.Finding.{small_number}
 use Rattle.rtyper_data.specs.Graphs.{failing}
-use Rattle.rtyper_data.specs.Lowering.{checked, checked_small, conversion, conversion_by, never_comes, of_some, of_one, of_two}
+use Rattle.rtyper_op.specs.Lowering.{checked, checked_small, conversion, conversion_by, never_comes, of_some, of_one, of_two}
 use Rattle.lower_laws.specs.Asked.{Raises, HasSmall}
 use Rattle.lower_laws.specs.Checked.{IsChecked, NegIsChecked}
 use Rattle.lower_laws.specs.Values.{Given}

@@ -4,8 +4,8 @@ use Rattle.std.specs.Prelude.{if◌then◌else◌}
 use Rattle.rpy_meaning.specs.declared.row.RowOp.{RowOp}
 use Rattle.rtyper_layout.specs.declared.kind.Kind.{Kind}
 use Rattle.rtyper_layout.specs.declared.kind.Kind.TheVariants as kind
-use Rattle.rtyper_data.specs.Lowering.{lower_op, lowered, never_comes, is_never}
-use Rattle.rtyper_data.specs.Placing.{says_nothing}
+use Rattle.rtyper_op.specs.Lowering.{lower_op, lowered, never_comes, is_never}
+use Rattle.rtyper_op.specs.Placing.{says_nothing}
 use Rattle.rtyper_data.specs.Seen.{Around, Operand, Place, kind_of, Writing}
 use Rattle.lower_laws.specs.Follows.{IsWord, IsFlag, IsByte}
 use Rattle.lower_laws.specs.Helped.{IsString, IsText}

@@ -30,9 +30,9 @@ use Rattle.csub_tree.specs.declared.tree.COperand.{COperand}
 use Rattle.rtyper_layout.specs.declared.kind.Kind.TheVariants as kind
 use Rattle.rtyper_data.specs.Comparing.{compare, equal, opposite_if, opposite_of, ordered, ordered_by, texts_less_by, within, within_by}
 use Rattle.rtyper_data.specs.Converting.{give_made, helped as asks, value_as}
-use Rattle.rtyper_data.specs.Lowering.{of_some, of_one, of_two}
+use Rattle.rtyper_op.specs.Lowering.{of_some, of_one, of_two}
 use Rattle.rtyper_data.specs.Seen.{Around, Operand, Place, type_of, kind_of, Writing}
-use Rattle.rtyper_data.specs.Texts.{truth_of, truth_by, tested_to}
+use Rattle.rtyper_op.specs.Texts.{truth_of, truth_by, tested_to}
 use Rattle.lower_laws.specs.Follows.{AllStand}
 use Rattle.lower_laws.specs.Helped.{IsString, IsText, OnOne, OnTwo}
 use Rattle.lower_laws.proofs.Coming.{one_comes, two_come, string_comes, text_comes, of_text_kind}

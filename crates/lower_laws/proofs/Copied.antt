@@ -28,9 +28,9 @@ use Rattle.ll_leads.proofs.Ways.{gives}
 use Rattle.ll_texts.specs.Stands.{Stands, word}
 use Rattle.rtyper_layout.specs.declared.kind.Kind.TheVariants as kind
 use Rattle.rtyper_layout.specs.Kinds.{kind_seen}
-use Rattle.rtyper_data.specs.Lowering.{lower_op, never_comes, of_some, of_one, of_two, same}
+use Rattle.rtyper_op.specs.Lowering.{lower_op, never_comes, of_some, of_one, of_two, same}
 use Rattle.rtyper_data.specs.Numbers.{word as word_operand, give_binary, range_advance}
-use Rattle.rtyper_data.specs.Placing.{advance, walk_item}
+use Rattle.rtyper_op.specs.Placing.{advance, walk_item}
 use Rattle.rtyper_data.specs.Seen.{Around, Operand, Place, type_of, type_at, kind_of, with_op, Writing, writing}
 use Rattle.lower_laws.specs.Copied.{IsCopied, IsReached, Before, IsNext}
 use Rattle.lower_laws.specs.Done.{Follows, IsDone}

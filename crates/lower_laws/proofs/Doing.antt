@@ -23,7 +23,7 @@ use Rattle.rpy_meaning.specs.declared.row.RowOp.{RowOp}
 use Rattle.rpy_meaning.specs.Operations.{op as meant_op}
 use Rattle.rpy_meaning.specs.Tree.{Program}
 use Rattle.ll_texts.specs.Stands.{Stands, word, flag}
-use Rattle.rtyper_data.specs.Lowering.{lower_op}
+use Rattle.rtyper_op.specs.Lowering.{lower_op}
 use Rattle.lower_laws.specs.Follows.{AllStand, Did, Follows, IsFollowed}
 
 -- the variable was set, and nothing else

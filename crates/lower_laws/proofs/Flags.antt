@@ -28,7 +28,7 @@ use Rattle.ll_strings.specs.Laws.{HasHelper}
 use Rattle.rtyper_data.specs.Comparing.{opposite_if, opposite_of}
 use Rattle.rtyper_data.specs.Converting.{helped as asks, give_made}
 use Rattle.rtyper_data.specs.Finding.{helper_number}
-use Rattle.rtyper_data.specs.Lowering.{lower_op}
+use Rattle.rtyper_op.specs.Lowering.{lower_op}
 use Rattle.rtyper_data.specs.Numbers.{give_unary}
 use Rattle.rtyper_data.specs.Seen.{Around, Operand, Place, type_at, Writing, writing}
 use Rattle.lower_laws.specs.Follows.{AllStand}

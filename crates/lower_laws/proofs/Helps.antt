@@ -30,9 +30,9 @@ use Rattle.rtyper_data.specs.declared.body.Body.{Body}
 use Rattle.rtyper_data.specs.declared.found.Found.{Found}
 use Rattle.rtyper_data.specs.Converting.{landing, landed, give, give_helped, value_as}
 use Rattle.rtyper_data.specs.Finding.{same_type, helper_number}
-use Rattle.rtyper_data.specs.Lowering.{lower_op}
+use Rattle.rtyper_op.specs.Lowering.{lower_op}
 use Rattle.rtyper_data.specs.Seen.{Around, Operand, Place, type_of, type_at, with_op, fresh, Writing, writing}
-use Rattle.rtyper_data.specs.Texts.{of_text, of_texts, of_text_and_word, text_type}
+use Rattle.rtyper_op.specs.Texts.{of_text, of_texts, of_text_and_word, text_type}
 use Rattle.lower_laws.specs.Follows.{AllStand}
 use Rattle.lower_laws.specs.Helped.{Follows, IsHelped}
 use Rattle.lower_laws.proofs.Calls.{called}

@@ -26,7 +26,7 @@ use Rattle.rtyper_layout.specs.Kinds.{kind_seen}
 use Rattle.rtyper_data.specs.declared.body.Body.{Body}
 use Rattle.rtyper_data.specs.Comparing.{alone, beside_none_of, compare, flag as flag_operand, identical, identical_by, is_null, null, opposite_if, opposite_of}
 use Rattle.rtyper_data.specs.Converting.{give_made}
-use Rattle.rtyper_data.specs.Lowering.{lower_op, never_comes, of_some, of_two}
+use Rattle.rtyper_op.specs.Lowering.{lower_op, never_comes, of_some, of_two}
 use Rattle.rtyper_data.specs.Seen.{Around, Operand, Place, type_at, kind_of, Writing, writing}
 use Rattle.lower_laws.specs.Done.{IsDone}
 use Rattle.lower_laws.specs.Identity.{BesideNone, TupleBesideNone}

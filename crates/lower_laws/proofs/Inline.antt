@@ -31,9 +31,9 @@ use Rattle.ll_texts.specs.Stands.{Stands, flag, word}
 use Rattle.rtyper_layout.specs.declared.kind.Kind.TheVariants as kind
 use Rattle.rtyper_data.specs.Comparing.{compare, equal, opposite_if, opposite_of}
 use Rattle.rtyper_data.specs.Converting.{give_made}
-use Rattle.rtyper_data.specs.Lowering.{lower_op, lowered, of_some, of_one, of_two, conversion}
+use Rattle.rtyper_op.specs.Lowering.{lower_op, lowered, of_some, of_one, of_two, conversion}
 use Rattle.rtyper_data.specs.Numbers.{give_unary, give_binary, range_has, rises, to_int, to_int_by}
-use Rattle.rtyper_data.specs.Placing.{has_item}
+use Rattle.rtyper_op.specs.Placing.{has_item}
 use Rattle.rtyper_data.specs.Seen.{Operand, Place, type_of, type_at, with_op, Writing, writing}
 use Rattle.lower_laws.specs.Follows.{AllStand, Did, Follows, OnFlag, OnWords}
 use Rattle.lower_laws.proofs.Doing.{after, did, followed, sets_place, word_is, flag_is}

@@ -44,11 +44,11 @@ use Rattle.rtyper_layout.specs.Kinds.{kind_seen}
 use Rattle.rtyper_layout.specs.Types.{type_of as element_type, field_type, shape}
 use Rattle.rtyper_data.specs.declared.body.Body.{Body}
 use Rattle.rtyper_data.specs.Converting.{converted, give as gives_place, give_to, value_as}
-use Rattle.rtyper_data.specs.Lowering.{lower_op, of_some, of_one, of_two, unpack_by, never_comes}
+use Rattle.rtyper_op.specs.Lowering.{lower_op, of_some, of_one, of_two, unpack_by, never_comes}
 use Rattle.rtyper_data.specs.Seen.{Around, Operand, Place, type_of, type_at, kind_of, with_op, with_variable, fresh, Writing, writing}
 use Rattle.rtyper_data.specs.Seen as seen
 use Rattle.rtyper_data.specs.Numbers.{word as word_operand}
-use Rattle.rtyper_data.specs.Placing.{index as data_index, index_by, len as data_len, len_by}
+use Rattle.rtyper_op.specs.Placing.{index as data_index, index_by, len as data_len, len_by}
 use Rattle.rtyper_data.specs.Tuples.{fields_of, field_type_of, field_read, item_by, item_of, length_by, length_of, place_of, variable_of}
 use Rattle.ll_build.specs.declared.needs.Numbers.{Numbers}
 use Rattle.lower_laws.specs.Asked.{HasAll}

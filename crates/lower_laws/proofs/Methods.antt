@@ -11,9 +11,9 @@ use Rattle.ll_strings.proofs.Finding.{starts_is, ends_is, find_is}
 use Rattle.ll_strings.proofs.Stripping.{strip_is}
 use Rattle.rtyper_layout.specs.Kinds.{is_text, is_text_or_none}
 use Rattle.rtyper_layout.specs.declared.kind.Kind.TheVariants as kind
-use Rattle.rtyper_data.specs.Lowering.{method_by}
+use Rattle.rtyper_op.specs.Lowering.{method_by}
 use Rattle.rtyper_data.specs.Seen.{kind_of}
-use Rattle.rtyper_data.specs.Texts.{of_byte, of_two, byte_method, byte_method_by, method_of_one, text_method_by, of_text, text_type}
+use Rattle.rtyper_op.specs.Texts.{of_byte, of_two, byte_method, byte_method_by, method_of_one, text_method_by, of_text, text_type}
 use Rattle.lower_laws.specs.Follows.{IsByte}
 use Rattle.lower_laws.specs.Helped.{IsString, IsText, OnOne, OnTwo}
 use Rattle.lower_laws.proofs.Coming.{one_comes, two_come, byte_comes, string_comes, text_comes, of_text_kind}

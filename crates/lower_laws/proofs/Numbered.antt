@@ -29,7 +29,7 @@ use Rattle.rtyper_layout.specs.Kinds.{is_text}
 use Rattle.rtyper_data.specs.declared.small.Small.TheVariants as small
 use Rattle.rtyper_data.specs.Converting.{given}
 use Rattle.rtyper_data.specs.Finding.{small_number}
-use Rattle.rtyper_data.specs.Lowering.{lower_op, of_some, of_one, conversion}
+use Rattle.rtyper_op.specs.Lowering.{lower_op, of_some, of_one, conversion}
 use Rattle.rtyper_data.specs.Numbers.{int_of_text, to_int, to_int_by}
 use Rattle.rtyper_data.specs.Seen.{Around, Operand, Place, kind_of, Writing, writing}
 use Rattle.lower_laws.specs.Asked.{Make, HasAll, HasSmall}

@@ -14,10 +14,10 @@ use Rattle.ll_strings.proofs.Decimals.{of_word_is}
 use Rattle.ll_strings.proofs.Asking.{of_bool_is}
 use Rattle.rtyper_layout.specs.declared.kind.Kind.TheVariants as kind
 use Rattle.rtyper_data.specs.Converting.{give_helped}
-use Rattle.rtyper_data.specs.Lowering.{lowered, of_some, of_one, of_two, binary_to, if_words, conversion, conversion_by, least}
+use Rattle.rtyper_op.specs.Lowering.{lowered, of_some, of_one, of_two, binary_to, if_words, conversion, conversion_by, least}
 use Rattle.rtyper_data.specs.Numbers.{binary_of as lowered_binary}
 use Rattle.rtyper_data.specs.Seen.{Around, Operand, Place, kind_of, Writing}
-use Rattle.rtyper_data.specs.Texts.{to_str, to_str_by}
+use Rattle.rtyper_op.specs.Texts.{to_str, to_str_by}
 use Rattle.lower_laws.specs.Follows.{IsWord, IsFlag}
 use Rattle.lower_laws.specs.Helped.{OnOne, OnTwo}
 use Rattle.lower_laws.proofs.Coming.{one_comes, two_come, word_comes, flag_comes}

@@ -30,7 +30,7 @@ use Rattle.ll_texts.specs.Stands.{Stands, flag}
 use Rattle.rtyper_layout.specs.declared.kind.Kind.TheVariants as kind
 use Rattle.rtyper_data.specs.Comparing.{compare, ordered, ordered_by, equal, opposite_if, opposite_of}
 use Rattle.rtyper_data.specs.Converting.{give, give_to, value_as}
-use Rattle.rtyper_data.specs.Lowering.{lower_op, lowered, of_some, of_two}
+use Rattle.rtyper_op.specs.Lowering.{lower_op, lowered, of_some, of_two}
 use Rattle.rtyper_data.specs.Seen.{Around, Operand, Place, type_of, type_at, kind_of, with_op, fresh, Writing, writing}
 use Rattle.lower_laws.specs.Follows.{AllStand, Did, Follows, IsWord, OnWords}
 use Rattle.lower_laws.proofs.Doing.{after, word_is}

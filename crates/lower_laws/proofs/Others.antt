@@ -27,11 +27,11 @@ use Rattle.ll_strings.proofs.Putting.{write_is}
 use Rattle.ll_strings.proofs.Ranges.{rising_is, falling_is}
 use Rattle.rtyper_layout.specs.Kinds.{is_text}
 use Rattle.rtyper_data.specs.Converting.{give_helped, give_nothing}
-use Rattle.rtyper_data.specs.Lowering.{of_some, of_two}
+use Rattle.rtyper_op.specs.Lowering.{of_some, of_two}
 use Rattle.rtyper_data.specs.Numbers.{word as word_operand, give_binary, range_advance, rises}
-use Rattle.rtyper_data.specs.Placing.{advance}
+use Rattle.rtyper_op.specs.Placing.{advance}
 use Rattle.rtyper_data.specs.Seen.{Around, Operand, Place, type_of, Writing, writing}
-use Rattle.rtyper_data.specs.Texts.{of_text}
+use Rattle.rtyper_op.specs.Texts.{of_text}
 use Rattle.lower_laws.specs.Follows.{AllStand, IsWord}
 use Rattle.lower_laws.specs.Helped.{IsLong, IsString, OnTwo}
 use Rattle.lower_laws.proofs.Coming.{two_come, word_comes, string_comes}

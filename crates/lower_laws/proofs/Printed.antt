@@ -34,11 +34,11 @@ use Rattle.rtyper_layout.specs.declared.kind.Kind.{Kind}
 use Rattle.rtyper_layout.specs.declared.kind.Kind.TheVariants as kind
 use Rattle.rtyper_data.specs.Converting.{default_operand, nothing_to}
 use Rattle.rtyper_data.specs.Finding.{helper_number}
-use Rattle.rtyper_data.specs.Lowering.{lower_op, never_comes, is_never}
+use Rattle.rtyper_op.specs.Lowering.{lower_op, never_comes, is_never}
 use Rattle.rtyper_data.specs.Numbers.{word as word_operand}
-use Rattle.rtyper_data.specs.Placing.{says_nothing}
+use Rattle.rtyper_op.specs.Placing.{says_nothing}
 use Rattle.rtyper_data.specs.Seen.{Around, Operand, kind_of, type_at, with_op, Writing, writing, push}
-use Rattle.rtyper_data.specs.Texts.{put, put_by, put_more, put_all, print, printed_by}
+use Rattle.rtyper_op.specs.Texts.{put, put_by, put_more, put_all, print, printed_by}
 use Rattle.lower_laws.specs.Asked.{Ask, Help, all_asked, HasAll}
 use Rattle.lower_laws.specs.Done.{Follows}
 use Rattle.lower_laws.specs.Printed.{is_shown, are_shown, printer, printers, IsPrinted}

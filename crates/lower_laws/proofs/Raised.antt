@@ -38,7 +38,7 @@ use Rattle.rtyper_layout.specs.declared.kind.Kind.TheVariants as kind
 use Rattle.rtyper_layout.specs.Kinds.{kind_seen}
 use Rattle.rtyper_data.specs.Converting.{give_helped}
 use Rattle.rtyper_data.specs.Finding.{nothing, failures_of, helper_number}
-use Rattle.rtyper_data.specs.Lowering.{lower_op, never_comes, of_some, of_two, binary_to, if_words}
+use Rattle.rtyper_op.specs.Lowering.{lower_op, never_comes, of_some, of_two, binary_to, if_words}
 use Rattle.rtyper_data.specs.Numbers.{binary_of as lowered_binary}
 use Rattle.rtyper_data.specs.Seen.{Around, Operand, Place, kind_of, with_op, Writing, writing}
 use Rattle.lower_laws.specs.Asked.{HasRaising}

@@ -32,10 +32,10 @@ use Rattle.ll_leads.proofs.Ways.{one, turns}
 use Rattle.ll_texts.specs.Stands.{Stands, word, flag}
 use Rattle.rtyper_layout.specs.declared.kind.Kind.TheVariants as kind
 use Rattle.rtyper_data.specs.Converting.{give, give_to, value_as}
-use Rattle.rtyper_data.specs.Lowering.{lowered, of_some, of_one, conversion, conversion_by}
+use Rattle.rtyper_op.specs.Lowering.{lowered, of_some, of_one, conversion, conversion_by}
 use Rattle.rtyper_data.specs.Numbers.{give_unary, unary_of as lowered_unary, to_int, to_int_by}
 use Rattle.rtyper_data.specs.Seen.{Around, Operand, Place, type_at, with_op, Writing, writing}
-use Rattle.rtyper_data.specs.Texts.{truth_of, truth_by, tested_to}
+use Rattle.rtyper_op.specs.Texts.{truth_of, truth_by, tested_to}
 use Rattle.lower_laws.specs.Follows.{AllStand, Follows, IsWord, IsFlag, OnWord, OnFlag}
 use Rattle.lower_laws.proofs.Doing.{after, did, sets_place, followed, word_is, flag_is}
 use Rattle.lower_laws.proofs.Words.{one_lowered}

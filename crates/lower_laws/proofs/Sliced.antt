@@ -25,7 +25,7 @@ use Rattle.rtyper_layout.specs.Kinds.{is_text_or_none}
 use Rattle.rtyper_data.specs.Converting.{give_helped, value_as}
 use Rattle.rtyper_data.specs.Numbers.{word}
 use Rattle.rtyper_data.specs.Seen.{Around, Operand, Place, type_of, kind_of, Writing}
-use Rattle.rtyper_data.specs.Texts.{text_type}
+use Rattle.rtyper_op.specs.Texts.{text_type}
 use Rattle.lower_laws.specs.Follows.{AllStand, IsWord}
 use Rattle.lower_laws.specs.Helped.{IsText, OnOne, OnTwo, OnThree}
 use Rattle.lower_laws.proofs.Coming.{one_comes, two_come, three_come, word_comes, text_comes, of_text_kind}

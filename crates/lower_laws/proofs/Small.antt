@@ -32,7 +32,7 @@ use Rattle.rtyper_layout.specs.Kinds.{kind_seen}
 use Rattle.rtyper_data.specs.declared.small.Small.{Small}
 use Rattle.rtyper_data.specs.Converting.{by_small, give_made}
 use Rattle.rtyper_data.specs.Finding.{small_number}
-use Rattle.rtyper_data.specs.Lowering.{lower_op}
+use Rattle.rtyper_op.specs.Lowering.{lower_op}
 use Rattle.rtyper_data.specs.Seen.{Around, Operand, Place, type_at, Writing, writing}
 use Rattle.lower_laws.specs.Asked.{Make, Raises, HasSmall}
 use Rattle.lower_laws.specs.Done.{Came, Follows, IsDone}

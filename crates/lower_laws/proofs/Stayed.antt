@@ -15,7 +15,7 @@ use Rattle.rtyper_layout.specs.declared.kind.Kind.TheVariants as kind
 use Rattle.rtyper_layout.specs.declared.layout.Layout.{Layout}
 use Rattle.rtyper_layout.specs.Kinds.{kind_seen}
 use Rattle.rtyper_layout.specs.Types.{type_seen, field_type}
-use Rattle.rtyper_data.specs.Lowering.{never_comes}
+use Rattle.rtyper_op.specs.Lowering.{never_comes}
 use Rattle.lower_laws.specs.Tuples.{Stays, Same, Wider, Whole}
 use Rattle.lower_laws.specs.Values.{is_plain, is_simple, Holds, Plain, Alone, Items, AllHold, End, Next}
 use Rattle.lower_laws.proofs.Helps.{stands_set}

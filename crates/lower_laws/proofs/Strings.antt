@@ -15,10 +15,10 @@ use Rattle.ll_strings.proofs.Repeating.{mul_is}
 use Rattle.ll_strings.proofs.Slices.{but_last_is}
 use Rattle.rtyper_layout.specs.declared.kind.Kind.TheVariants as kind
 use Rattle.rtyper_layout.specs.Kinds.{is_text_or_none}
-use Rattle.rtyper_data.specs.Lowering.{lowered, of_some, of_one, of_two, binary_to}
-use Rattle.rtyper_data.specs.Placing.{index, index_by, len, len_by, walk, walk_by, has_item, walk_item, says_nothing, sum, sum_by, product, product_by}
+use Rattle.rtyper_op.specs.Lowering.{lowered, of_some, of_one, of_two, binary_to}
+use Rattle.rtyper_op.specs.Placing.{index, index_by, len, len_by, walk, walk_by, has_item, walk_item, says_nothing, sum, sum_by, product, product_by}
 use Rattle.rtyper_data.specs.Seen.{Around, Operand, Place, kind_of, Writing}
-use Rattle.rtyper_data.specs.Texts.{of_text, of_texts, of_text_and_word, text_type}
+use Rattle.rtyper_op.specs.Texts.{of_text, of_texts, of_text_and_word, text_type}
 use Rattle.lower_laws.specs.Follows.{IsWord}
 use Rattle.lower_laws.specs.Helped.{IsText, OnOne, OnTwo}
 use Rattle.lower_laws.proofs.Coming.{one_comes, two_come, word_comes, text_comes, of_text_kind}

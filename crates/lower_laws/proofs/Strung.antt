@@ -35,11 +35,11 @@ use Rattle.rtyper_layout.specs.Kinds.{kind_seen, is_text, is_text_or_none}
 use Rattle.rtyper_data.specs.Comparing.{compare, equal, texts_equal, within, within_by, within_text, ordered, ordered_by, opposite_if, opposite_of, texts_less, texts_less_by}
 use Rattle.rtyper_data.specs.Converting.{given, value_as, give_made, helped as asks_helper}
 use Rattle.rtyper_data.specs.Finding.{helper_number}
-use Rattle.rtyper_data.specs.Lowering.{lower_op, lowered, never_comes, of_some, of_one, of_two, binary_to, method_by}
-use Rattle.rtyper_data.specs.Placing.{says_nothing, len, len_by, index, index_by, has_item, walk_item, sum, sum_by, product, product_by}
+use Rattle.rtyper_op.specs.Lowering.{lower_op, lowered, never_comes, of_some, of_one, of_two, binary_to, method_by}
+use Rattle.rtyper_op.specs.Placing.{says_nothing, len, len_by, index, index_by, has_item, walk_item, sum, sum_by, product, product_by}
 use Rattle.rtyper_data.specs.Seen.{Around, Operand, Place, type_of, kind_of, Writing, writing}
-use Rattle.rtyper_data.specs.Texts.{of_text, of_texts, of_text_and_word, text_type, byte_method, method, of_byte, text_method_by}
-use Rattle.rtyper_data.specs.Texts.{of_two as methods_of_two}
+use Rattle.rtyper_op.specs.Texts.{of_text, of_texts, of_text_and_word, text_type, byte_method, method, of_byte, text_method_by}
+use Rattle.rtyper_op.specs.Texts.{of_two as methods_of_two}
 use Rattle.lower_laws.specs.Asked.{Help}
 use Rattle.lower_laws.specs.Done.{IsDone}
 use Rattle.lower_laws.specs.Texted.{asks_of, OnText, OnTexts, OnTextAndWord, IsMethod, IsMethodOfTwo, AreTold}

@@ -37,9 +37,9 @@ use Rattle.rtyper_layout.specs.Kinds.{kind_seen, is_text_or_none}
 use Rattle.rtyper_data.specs.declared.found.Found.{Found}
 use Rattle.rtyper_data.specs.Converting.{given, value_as, give_helped, helped as asks_helper}
 use Rattle.rtyper_data.specs.Finding.{helper_number}
-use Rattle.rtyper_data.specs.Lowering.{lower_op, never_comes}
+use Rattle.rtyper_op.specs.Lowering.{lower_op, never_comes}
 use Rattle.rtyper_data.specs.Seen.{Around, Operand, Place, type_of, kind_of, with_op, Writing, writing}
-use Rattle.rtyper_data.specs.Texts.{of_text, of_texts, of_text_and_word, text_type}
+use Rattle.rtyper_op.specs.Texts.{of_text, of_texts, of_text_and_word, text_type}
 use Rattle.lower_laws.specs.Asked.{Ask, Help, all_asked, HasAll}
 use Rattle.lower_laws.specs.Done.{Follows, IsDone}
 use Rattle.lower_laws.specs.Helped.{Follows as HelpFollows}

@@ -27,10 +27,10 @@ use Rattle.ll_code.specs.declared.program.LlProgram.{LlProgram}
 use Rattle.ll_leads.proofs.Ways.{on, gives, turns}
 use Rattle.ll_texts.specs.Stands.{Stands, byte, word}
 use Rattle.rtyper_layout.specs.declared.kind.Kind.TheVariants as kind
-use Rattle.rtyper_data.specs.Lowering.{lower_op, lowered, of_some, of_one, conversion, conversion_by}
+use Rattle.rtyper_op.specs.Lowering.{lower_op, lowered, of_some, of_one, conversion, conversion_by}
 use Rattle.rtyper_data.specs.Numbers.{give_unary, word as word_operand}
 use Rattle.rtyper_data.specs.Seen.{Operand, type_at, with_op, Writing, writing}
-use Rattle.rtyper_data.specs.Texts.{truth_of, truth_by, tested_to}
+use Rattle.rtyper_op.specs.Texts.{truth_of, truth_by, tested_to}
 use Rattle.lower_laws.specs.Follows.{AllStand, Did, Follows, OnByte, OnWord}
 use Rattle.lower_laws.proofs.Doing.{did, followed, sets_place, word_is}
 use Rattle.lower_laws.proofs.Ordered.{did_both, two_more}

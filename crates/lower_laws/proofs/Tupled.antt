@@ -36,9 +36,9 @@ use Rattle.rtyper_layout.specs.declared.layout.Layout.{Layout}
 use Rattle.rtyper_layout.specs.Types.{type_of as element_type, field_type, shape}
 use Rattle.rtyper_data.specs.declared.body.Body.{Body}
 use Rattle.rtyper_data.specs.Converting.{converted, given, value_as}
-use Rattle.rtyper_data.specs.Lowering.{lower_op, lowered, is_never}
+use Rattle.rtyper_op.specs.Lowering.{lower_op, lowered, is_never}
 use Rattle.rtyper_data.specs.Numbers.{word as word_operand}
-use Rattle.rtyper_data.specs.Placing.{says_nothing}
+use Rattle.rtyper_op.specs.Placing.{says_nothing}
 use Rattle.rtyper_data.specs.Seen.{Around, Operand, Place, type_of, with_op, Writing, writing, push}
 use Rattle.rtyper_data.specs.Tuples.{fields_of, field_type_of, with_first, parts_from, set_fields, tuple_with, tuple_made, put_tuple, tuple_to}
 use Rattle.lower_laws.specs.Done.{Follows, HasTuples, IsDone}

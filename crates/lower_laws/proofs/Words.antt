@@ -27,9 +27,9 @@ use Rattle.ll_leads.proofs.Ways.{gives}
 use Rattle.ll_texts.specs.Stands.{Stands, word}
 use Rattle.rtyper_layout.specs.declared.kind.Kind.{Kind}
 use Rattle.rtyper_layout.specs.declared.kind.Kind.TheVariants as kind
-use Rattle.rtyper_data.specs.Lowering.{lower_op, lowered, never_comes, is_never, of_some, of_two, binary_to, if_words}
+use Rattle.rtyper_op.specs.Lowering.{lower_op, lowered, never_comes, is_never, of_some, of_two, binary_to, if_words}
 use Rattle.rtyper_data.specs.Numbers.{give_binary, binary_of as lowered_binary}
-use Rattle.rtyper_data.specs.Placing.{says_nothing, sum, sum_by, product, product_by}
+use Rattle.rtyper_op.specs.Placing.{says_nothing, sum, sum_by, product, product_by}
 use Rattle.rtyper_data.specs.Seen.{Around, Operand, Place, type_at, kind_of, with_op, Writing, writing}
 use Rattle.lower_laws.specs.Follows.{AllStand, Follows, IsWord, OnWords}
 use Rattle.lower_laws.proofs.Doing.{did, sets_place, followed, word_is}

@@ -5,7 +5,7 @@ use Rattle.rpy_meaning.specs.declared.row.RowOp.TheVariants as row
 use Rattle.rtyper_layout.specs.declared.kind.Kind.TheVariants as kind
 use Rattle.rtyper_layout.specs.Kinds.{kind_seen}
 use Rattle.rtyper_data.specs.declared.small.Small.TheVariants as small
-use Rattle.rtyper_data.specs.Lowering.{checked_small}
+use Rattle.rtyper_op.specs.Lowering.{checked_small}
 use Rattle.rtyper_data.specs.Seen.{Around, Operand, Place, kind_of, Writing}
 use Rattle.lower_laws.specs.Asked.{Make}
 use Rattle.lower_laws.specs.Done.{IsDone}

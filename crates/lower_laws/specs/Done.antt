@@ -22,7 +22,7 @@ use Rattle.ll_texts.specs.Follows.{FailedAs}
 use Rattle.ll_texts.specs.Texts.{HasText}
 use Rattle.rtyper_layout.specs.declared.layout.Layout.{Layout}
 use Rattle.rtyper_layout.specs.Layout.{is_tuple, fields_in}
-use Rattle.rtyper_data.specs.Lowering.{lower_op}
+use Rattle.rtyper_op.specs.Lowering.{lower_op}
 use Rattle.rtyper_data.specs.Seen.{Around, Operand, Place, Writing}
 use Rattle.lower_laws.specs.Asked.{Ask, all_asked, HasAll}
 use Rattle.lower_laws.specs.Helped.{Lacked}

@@ -18,7 +18,7 @@ use Rattle.ll_leads.specs.Memory.{forgotten}
 use Rattle.ll_leads.specs.Path.{Leads}
 use Rattle.ll_texts.specs.Stands.{Stands}
 use Rattle.rtyper_layout.specs.declared.kind.Kind.TheVariants as kind
-use Rattle.rtyper_data.specs.Lowering.{lower_op}
+use Rattle.rtyper_op.specs.Lowering.{lower_op}
 use Rattle.rtyper_data.specs.Seen.{Around, Operand, Place, type_of, type_at, kind_of, Writing}
 
 -- the operands stand for these values, one for each

@@ -29,7 +29,7 @@ use Rattle.ll_texts.specs.Follows.{FailedAs, text_blocks}
 use Rattle.ll_strings.specs.Laws.{HasHelper}
 use Rattle.rtyper_layout.specs.declared.kind.Kind.TheVariants as kind
 use Rattle.rtyper_data.specs.Finding.{helper_number}
-use Rattle.rtyper_data.specs.Lowering.{lower_op}
+use Rattle.rtyper_op.specs.Lowering.{lower_op}
 use Rattle.rtyper_data.specs.Seen.{Around, Operand, Place, type_of, type_at, kind_of, Writing}
 use Rattle.lower_laws.specs.Follows.{AllStand}
 

@@ -17,7 +17,7 @@ use Rattle.rtyper_layout.specs.declared.layout.Layout.{Layout}
 use Rattle.rtyper_layout.specs.Kinds.{kind_seen}
 use Rattle.rtyper_layout.specs.Layout.{is_list}
 use Rattle.rtyper_layout.specs.Types.{type_of, type_seen, type_step, root_of, laid_in}
-use Rattle.rtyper_data.specs.Lowering.{never_comes}
+use Rattle.rtyper_op.specs.Lowering.{never_comes}
 use Rattle.rtyper_list.specs.Operands.{of_list}
 use Rattle.lower_laws.specs.Tuples.{Same, Wider, Whole}
 use Rattle.lower_laws.specs.Values.{is_plain, is_simple}

@@ -6,7 +6,7 @@ use Rattle.rpy_meaning.specs.declared.row.RowOp.{RowOp}
 use Rattle.rpy_meaning.specs.Operations.{op}
 use Rattle.rpy_meaning.specs.World.{World, Gives}
 use Rattle.rtyper_layout.specs.Kinds.{kind_seen}
-use Rattle.rtyper_data.specs.Lowering.{lower_op}
+use Rattle.rtyper_op.specs.Lowering.{lower_op}
 use Rattle.rtyper_data.specs.Seen.{Around, Operand, Place, Writing}
 use Rattle.lower_laws.specs.Asked.{Ask, Has}
 use Rattle.lower_laws.specs.Done.{IsDoneWhere as IsPlainlyDone}

@@ -14,7 +14,7 @@ use Rattle.rtyper_data.specs.declared.found.Found.{Found}
 use Rattle.rtyper_data.specs.declared.small.Small.TheVariants as small
 use Rattle.rtyper_data.specs.Comparing.{flag}
 use Rattle.rtyper_data.specs.Converting.{by_small, give, give_made, given, present}
-use Rattle.rtyper_data.specs.Lowering.{failure}
+use Rattle.rtyper_op.specs.Lowering.{failure}
 use Rattle.rtyper_data.specs.Seen.{Operand, Place, type_of, Writing, writing, push}
 use Rattle.rtyper_data.specs.Tuples.{variable_of}
 use Rattle.rtyper_class.specs.declared.attribute.Standing.{Standing as Parts}

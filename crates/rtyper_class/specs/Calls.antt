@@ -15,7 +15,7 @@ use Rattle.rtyper_layout.specs.Types.{word, type_of as type_of_element, type_see
 use Rattle.rtyper_data.specs.declared.body.Body.{Body}
 use Rattle.rtyper_data.specs.declared.found.Found.{Found}
 use Rattle.rtyper_data.specs.declared.small.Small.TheVariants as small
-use Rattle.rtyper_data.specs.Calls.{arguments, call, number_of}
+use Rattle.rtyper_op.specs.Calls.{arguments, call, number_of}
 use Rattle.rtyper_data.specs.Converting.{give, give_nothing, landing, landed, present}
 use Rattle.rtyper_data.specs.Finding.{same_type, small_number}
 use Rattle.rtyper_data.specs.Seen.{Around, Operand, Place, type_of, with_op, fresh, Writing, writing}

@@ -26,7 +26,7 @@ use Rattle.rtyper_data.specs.declared.body.Body.{Body}
 use Rattle.rtyper_data.specs.declared.found.Found.{Found}
 use Rattle.rtyper_data.specs.Building.{block_with, fork, gives, graph_with}
 use Rattle.rtyper_data.specs.Comparing.{flag}
-use Rattle.rtyper_data.specs.Constants.{constant_of}
+use Rattle.rtyper_op.specs.Constants.{constant_of}
 use Rattle.rtyper_data.specs.Converting.{default_operand}
 use Rattle.rtyper_data.specs.Graphs.{asks_null, failing, fields_at, of_block}
 use Rattle.rtyper_data.specs.Numbers.{word as word_operand}

@@ -8,9 +8,9 @@ use Rattle.rpy_meaning.specs.declared.row.RowOp.{RowOp}
 use Rattle.rpy_meaning.specs.declared.row.RowOp.TheVariants as row
 use Rattle.rtyper_layout.specs.declared.classes.Laid.{Laid}
 use Rattle.rtyper_data.specs.declared.small.Small.TheVariants as small
-use Rattle.rtyper_data.specs.Calls.{call}
+use Rattle.rtyper_op.specs.Calls.{call}
 use Rattle.rtyper_data.specs.Converting.{by_small, give_made}
-use Rattle.rtyper_data.specs.Lowering.{failure, is_never}
+use Rattle.rtyper_op.specs.Lowering.{failure, is_never}
 use Rattle.rtyper_data.specs.Seen.{Operand, Place, Writing}
 use Rattle.rtyper_list.specs.Lowering.{lower_list_op}
 use Rattle.rtyper_class.specs.Attributes.{read, store}

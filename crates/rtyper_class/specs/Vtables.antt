@@ -13,7 +13,7 @@ use Rattle.class_desc.specs.Range.{range}
 use Rattle.rtyper_layout.specs.declared.classes.Laid.{Laid}
 use Rattle.rtyper_layout.specs.Families.{vtable_of}
 use Rattle.rtyper_layout.specs.Types.{word}
-use Rattle.rtyper_data.specs.Constants.{char_cell}
+use Rattle.rtyper_op.specs.Constants.{char_cell}
 use Rattle.rtyper_class.specs.Seen.{World, laid}
 
 abbrev pub no_function : CCell

@@ -12,10 +12,10 @@ use ll_code::{LlOp, LlType};
 use rpy_base::{NoMem, Text};
 use rpy_tree::ClassId;
 use rtyper_data::{
-    Around, Body, Found, Operand, Place, Small, by_small, flag, give, given, present, push_failure,
-    variable_of,
+    Around, Body, Found, Operand, Place, Small, by_small, flag, give, given, present, variable_of,
 };
 use rtyper_layout::{attribute_place, repr};
+use rtyper_op::push_failure;
 use std::alloc::Global;
 
 // Where an attribute stands: the struct that declares it, its place there, and its element.

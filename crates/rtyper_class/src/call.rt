@@ -11,10 +11,11 @@ use ll_code::{LlOp, LlType, VarId};
 use rpy_base::{NoMem, Seq, Text};
 use rpy_tree::{ClassId, FunId};
 use rtyper_data::{
-    Around, Body, Found, Operand, Place, Small, arguments, give, give_nothing, land, landing,
-    operands, present, push_call, small_number, variable_of,
+    Around, Body, Found, Operand, Place, Small, give, give_nothing, land, landing, operands,
+    present, small_number, variable_of,
 };
 use rtyper_layout::{class_at, repr, repr_seen};
+use rtyper_op::{arguments, push_call};
 use std::alloc::Global;
 
 /// The builtin exception classes come first.

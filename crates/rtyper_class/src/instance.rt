@@ -16,10 +16,11 @@ use ll_code::{LlExit, LlGraph, LlOp, LlType, VarId};
 use rpy_base::{NoMem, Seq, Text};
 use rpy_tree::ClassId;
 use rtyper_data::{
-    ATTRIBUTE, ATTRIBUTE_ERROR, Around, Body, Found, Small, asks_null, block, constant_of,
-    default_operand, failing, flag, link, small_graph, variables, word,
+    ATTRIBUTE, ATTRIBUTE_ERROR, Around, Body, Found, Small, asks_null, block, default_operand,
+    failing, flag, link, small_graph, variables, word,
 };
 use rtyper_layout::{Laid, attribute_place, field_type, repr};
+use rtyper_op::constant_of;
 use std::alloc::Global;
 
 // ---- new instances

@@ -1,6 +1,6 @@
 // The lowering of operations on instances and function values.
 ghost use Rattle.std.specs.Prelude.{◌≡◌, option_map, OnOk};
-ghost use Rattle.rtyper_data.specs.Lowering as plain;
+ghost use Rattle.rtyper_op.specs.Lowering as plain;
 ghost use Rattle.rtyper_data.specs.Seen.{the_operand, the_operands, the_place, writing, Leaves};
 ghost use Rattle.rtyper_class.specs.Lowering as spec;
 ghost use Rattle.rtyper_class.specs.Seen.{the_world};
@@ -12,11 +12,10 @@ use ll_code::LlType;
 use rpy_base::{NoMem, Text};
 use rpy_meaning::RowOp;
 use rpy_tree::{ClassId, FunId};
-use rtyper_data::{
-    Around, Body, Found, Operand, Place, Small, by_small, give, push_call, push_failure,
-};
+use rtyper_data::{Around, Body, Found, Operand, Place, Small, by_small, give};
 use rtyper_layout::{Kind, kind_seen};
 use rtyper_list::lower_list_op;
+use rtyper_op::{push_call, push_failure};
 use std::alloc::Global;
 
 // The class of an instance, and whether it may be `None`.

@@ -1,44 +1,34 @@
-//! The lowering of operations on words, truth values, strings and tuples. Each is one or a few low-level
-//! operations, or one call of a helper.
+//! What graphs and operations are lowered with: operands and places, bodies that grow, conversions,
+//! comparisons, numbers and tuples, what was found to be needed, and the small graphs.
 #![tactic(auto)]
 
 mod body;
-mod call;
 mod checked;
-mod compare;
-mod constant;
+pub mod compare;
 mod convert;
 mod found;
-mod mapped;
 mod number;
-mod operation;
 mod parse;
-mod places;
-mod prebuilt;
 mod small;
-mod text;
 mod tuple;
 mod write;
 
 pub use body::{Around, Body, Operand, Place, operand_at};
-pub use call::{arguments, push_call};
-pub use compare::{equal, flag, opposite_if};
-pub use constant::constant_of;
+pub use compare::{equal, flag, is_no_function, is_null, opposite_if};
 pub use convert::{
-    by_small, default_operand, give, give_nothing, given, land, landing, operands, present,
-    value_as,
+    by_small, default_operand, give, give_helped, give_nothing, given, helped, land, landing,
+    operands, present, value_as,
 };
-pub use found::{Found, NOTHING, helper_number, small_number, static_of};
-pub use mapped::{HASH_FACTOR, MIX_FACTOR};
-pub use number::{give_binary, word};
-pub use operation::{lower_op, push_failure};
-pub use prebuilt::push_prebuilt;
+pub use found::{Found, NOTHING, helper_number, small_number, static_of, static_of_site};
+pub use number::{
+    give_binary, give_unary, push_binary, push_range_advance, push_range_has, push_to_int,
+    push_unary, word,
+};
 pub use small::{
     ATTRIBUTE, ATTRIBUTE_ERROR, Keyed, Listed, Small, asks_null, block, failing, link, small_graph,
     small_raises, variables,
 };
-pub use text::{Test, truth_of};
-pub use tuple::variable_of;
+pub use tuple::{length_of, place_of, push_item, push_tuple, variable_of};
 pub use write::{
     and, ends, fork, gives, goto, graph_of, graph_written, kinds, op, op_made, ops, passes, var,
     written,

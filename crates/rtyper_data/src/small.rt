@@ -25,7 +25,7 @@ pub const ATTRIBUTE: u32 = 4;
 
 /// A graph of lists. A number is that of the struct of a list, whose array follows it, but for those of
 /// arrays as `Copy` and `MoveUp` have them.
-#[derive(Clone, Copy, Debug, PartialEq, Eq)]
+#[derive(Clone, Copy, PartialEq, Eq)]
 pub enum Listed {
     /// The place that an index names; outside it fails, or raises.
     Place(u64, bool),
@@ -62,7 +62,7 @@ pub enum Listed {
 
 /// A graph of dicts. The first number is that of the struct of a dict, those of whose arrays follow it; keys and
 /// values are as they stand there.
-#[derive(Clone, Copy, Debug, PartialEq, Eq)]
+#[derive(Clone, Copy, PartialEq, Eq)]
 pub enum Keyed {
     /// The hash of a value of this type.
     Hash(LlType),
@@ -99,7 +99,7 @@ pub enum Keyed {
 }
 
 /// A graph that a program asks for by its structs.
-#[derive(Clone, Copy, Debug, PartialEq, Eq)]
+#[derive(Clone, Copy, PartialEq, Eq)]
 pub enum Small {
     /// A tuple of one shape as one of another, where the same value may stand as both.
     Cast(u64, u64),

@@ -4,10 +4,11 @@ use csub_tree::{CBinary, COperand, CUnary};
 use ll_code::{LlBlock, LlGraph, LlOp, LlType, VarId};
 use rpy_base::{NoMem, Seq};
 use rtyper_data::{
-    Body, Found, HASH_FACTOR, Keyed, MIX_FACTOR, and, fork, gives, goto, graph_written, kinds,
-    op_made, ops, var, word, written,
+    Body, Found, Keyed, and, fork, gives, goto, graph_written, kinds, op_made, ops, var, word,
+    written,
 };
 use rtyper_layout::Layout;
+use rtyper_op::{HASH_FACTOR, MIX_FACTOR};
 use std::alloc::Global;
 
 const TEXT: LlType = LlType::Ptr(0);

@@ -7,10 +7,10 @@ use rpy_meaning::RowOp;
 use rpy_tree::CmpOp;
 use rtyper_data::{
     Around, Body, Found, Keyed, Operand, Place, Small, by_small, default_operand, give,
-    give_nothing, given, operands, opposite_if, present, push_failure, small_number, var,
-    variable_of, word,
+    give_nothing, given, operands, opposite_if, present, small_number, var, variable_of, word,
 };
 use rtyper_layout::{Kind, Mapping, kind_seen};
+use rtyper_op::push_failure;
 use std::alloc::Global;
 
 // ---- which operations

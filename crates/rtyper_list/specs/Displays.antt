@@ -10,9 +10,9 @@ use Rattle.rtyper_data.specs.declared.found.Found.{Found}
 use Rattle.rtyper_data.specs.declared.small.Listed.TheVariants as listed
 use Rattle.rtyper_data.specs.declared.small.Small.TheVariants.{Listed}
 use Rattle.rtyper_data.specs.Converting.{by_small, given}
-use Rattle.rtyper_data.specs.Lowering.{failure}
+use Rattle.rtyper_op.specs.Lowering.{failure}
 use Rattle.rtyper_data.specs.Numbers.{word}
-use Rattle.rtyper_data.specs.Placing.{says_nothing}
+use Rattle.rtyper_op.specs.Placing.{says_nothing}
 use Rattle.rtyper_data.specs.Seen.{Around, Operand, Place, with_op, Writing, writing, push, set}
 use Rattle.rtyper_data.specs.Tuples.{with_first}
 use Rattle.list_shape.specs.declared.shape.Shape.{Shape}

@@ -12,7 +12,7 @@ use Rattle.rtyper_data.specs.declared.small.Small.TheVariants.{Listed}
 use Rattle.rtyper_data.specs.Comparing.{opposite_of}
 use Rattle.rtyper_data.specs.Converting.{by_small, given, give, give_made}
 use Rattle.rtyper_data.specs.Numbers.{give_binary}
-use Rattle.rtyper_data.specs.Placing.{says_nothing}
+use Rattle.rtyper_op.specs.Placing.{says_nothing}
 use Rattle.rtyper_data.specs.Seen.{Around, Operand, Place, type_of, with_op, Writing, writing}
 use Rattle.rtyper_data.specs.Tuples.{variable_of}
 use Rattle.list_shape.specs.declared.shape.Shape.{Shape}

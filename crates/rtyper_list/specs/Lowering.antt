@@ -9,7 +9,7 @@ use Rattle.rpy_tree.specs.declared.syntax.CmpOp.TheVariants as compared
 use Rattle.rtyper_layout.specs.declared.kind.Kind.{Kind}
 use Rattle.rtyper_layout.specs.declared.kind.Kind.TheVariants as kind
 use Rattle.rtyper_layout.specs.Kinds.{is_text_or_none}
-use Rattle.rtyper_data.specs.Lowering.{failure, is_never, lower_op}
+use Rattle.rtyper_op.specs.Lowering.{failure, is_never, lower_op}
 use Rattle.rtyper_data.specs.Seen.{Around, Operand, Place, kind_of, Writing}
 use Rattle.rtyper_list.specs.Operands.{is_list, is_none}
 use Rattle.rtyper_list.specs.Displays.{display, comprehension, concat, repeat, slice, but_last}

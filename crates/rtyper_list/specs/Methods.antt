@@ -7,9 +7,9 @@ use Rattle.rtyper_layout.specs.declared.kind.Kind.{Kind}
 use Rattle.rtyper_layout.specs.declared.kind.Kind.TheVariants as kind
 use Rattle.rtyper_data.specs.declared.small.Listed.TheVariants as listed
 use Rattle.rtyper_data.specs.Converting.{given, give, present}
-use Rattle.rtyper_data.specs.Lowering.{failure}
+use Rattle.rtyper_op.specs.Lowering.{failure}
 use Rattle.rtyper_data.specs.Numbers.{word}
-use Rattle.rtyper_data.specs.Placing.{says_nothing}
+use Rattle.rtyper_op.specs.Placing.{says_nothing}
 use Rattle.rtyper_data.specs.Seen.{Around, Operand, Place, type_of, kind_of, Writing}
 use Rattle.std.specs.Prelude.{Option, Some, None}
 use Rattle.list_shape.specs.Shapes.{taking}

@@ -9,9 +9,10 @@ use list_shape::{Shape, shape_of};
 use ll_code::{LlOp, LlType, VarId};
 use rpy_base::{NoMem, Seq};
 use rtyper_data::{
-    Around, Body, Found, Listed, Operand, Place, Small, by_small, give_nothing, given,
-    push_failure, variable_of, word,
+    Around, Body, Found, Listed, Operand, Place, Small, by_small, give_nothing, given, variable_of,
+    word,
 };
+use rtyper_op::push_failure;
 use std::alloc::Global;
 
 // ---- displays

@@ -9,10 +9,10 @@ use csub_tree::COperand;
 use ll_code::LlType;
 use rpy_base::NoMem;
 use rtyper_data::{
-    Around, Body, Found, Listed, Operand, Place, give, give_nothing, given, present, push_failure,
-    word,
+    Around, Body, Found, Listed, Operand, Place, give, give_nothing, given, present, word,
 };
 use rtyper_layout::{Kind, kind_seen};
+use rtyper_op::push_failure;
 use std::alloc::Global;
 
 const TEXT: LlType = LlType::Ptr(0);

@@ -1,6 +1,6 @@
 // The lowering of operations on lists. Where no operand is a list, an operation is lowered as others are.
 ghost use Rattle.std.specs.Prelude.{◌≡◌, ◌∷◌, [], IfOk, OnOk};
-ghost use Rattle.rtyper_data.specs.Lowering as plain;
+ghost use Rattle.rtyper_op.specs.Lowering as plain;
 ghost use Rattle.rtyper_data.specs.Seen.{the_around, the_operand, the_operands, the_place, writing, Leaves};
 ghost use Rattle.rtyper_list.specs.Lowering as spec;
 
@@ -16,8 +16,9 @@ use crate::operand::{is_list, is_none};
 use rpy_base::NoMem;
 use rpy_meaning::RowOp;
 use rpy_tree::{BinOp, CmpOp};
-use rtyper_data::{Around, Body, Found, Operand, Place, lower_op, push_failure};
+use rtyper_data::{Around, Body, Found, Operand, Place};
 use rtyper_layout::{Kind, is_text_or_none, kind_seen};
+use rtyper_op::{lower_op, push_failure};
 use std::alloc::Global;
 
 fn is_never(args: &[Operand<'_>]) -> bool

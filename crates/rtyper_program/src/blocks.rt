@@ -7,10 +7,9 @@ use flow_graph::{Block, Exit, Graph, Link, Op, VarId};
 use ll_code::{LlBlock, LlExit, LlLink, LlOp, LlType};
 use rpy_base::{NoMem, Seq};
 use rtyper_class::lower_class_op;
-use rtyper_data::{
-    Around, Body, Found, NOTHING, Operand, Place, Test, default_operand, given, truth_of, value_as,
-};
+use rtyper_data::{Around, Body, Found, NOTHING, Operand, Place, default_operand, given, value_as};
 use rtyper_dict::{is_dict_op, lower_dict_op};
+use rtyper_op::{Test, truth_of};
 use std::alloc::Global;
 use std::mem;
 

@@ -12,9 +12,10 @@ use rpy_base::{NoMem, Seq};
 use rpy_meaning::Covers;
 use rpy_resolved::Resolved;
 use rtyper_class::{class_graph, push_exceptions, push_vtables};
-use rtyper_data::{Around, Found, Listed, Small, push_prebuilt, small_number};
+use rtyper_data::{Around, Found, Listed, Small, small_number};
 use rtyper_dict::dict_graph;
 use rtyper_layout::{Layout, repr_seen};
+use rtyper_op::push_prebuilt;
 use rtyper_raising::raising_graphs;
 use std::alloc::Global;
 

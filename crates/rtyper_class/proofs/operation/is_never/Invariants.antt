@@ -1,5 +1,5 @@
 use Rattle.std.proofs.Common.{◌≡◌, drop}
-use Rattle.rtyper_data.specs.Lowering.{is_never}
+use Rattle.rtyper_op.specs.Lowering.{is_never}
 use Rattle.rtyper_data.specs.Seen.{the_operands}
 use Rattle.rtyper_class.proofs.operation.is_never.Given as goal
 

@@ -1,5 +1,5 @@
 use Rattle.std.proofs.Common.{◌≡◌, ◌++◌, drop, map}
-use Rattle.rtyper_data.specs.Constants.{char_cell}
+use Rattle.rtyper_op.specs.Constants.{char_cell}
 use Rattle.rtyper_class.specs.Vtables.{name_cells}
 use Rattle.rtyper_class.proofs.vtable.name_cells.Given as goal
 

@@ -1,6 +1,0 @@
-use Rattle.std.proofs.Common.{◌≡◌, ◌++◌, drop, map}
-use Rattle.rtyper_data.specs.Constants.{char_cell}
-use Rattle.rtyper_data.proofs.constant.text_cells.Given as goal
-
-abbrev pub invariant-loop-byte : goal.invariant-loop-byte
-invariant-loop-byte l = l.items ++ map char_cell (drop l.byte-index l.bytes) ≡ map char_cell l.bytes

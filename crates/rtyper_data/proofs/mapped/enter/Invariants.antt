@@ -1,9 +1,0 @@
-use Rattle.std.proofs.Common.{◌≡◌, ◌-◌, length}
-use Rattle.rtyper_data.specs.Mapped.{enter_from}
-use Rattle.rtyper_data.proofs.mapped.enter.Given as goal
-
-abbrev pub invariant-loop-turn : goal.invariant-loop-turn
-invariant-loop-turn l = record {
-  same : l.words ≡ l.initial.words;
-  rest : enter_from (l.size - l.turn) l.at l.word l.words ≡ enter_from l.size l.initial.at l.word l.initial.words;
-}

@@ -1,6 +1,0 @@
-use Rattle.std.proofs.Common.{◌≡◌, ◌++◌, drop}
-use Rattle.rtyper_data.specs.Mapped.{key_cells}
-use Rattle.rtyper_data.proofs.mapped.push_keys.Given as goal
-
-abbrev pub invariant-loop-entry : goal.invariant-loop-entry
-invariant-loop-entry l = l.cells ++ key_cells (drop l.entry-index l.entries) ≡ l.initial.cells ++ key_cells l.entries

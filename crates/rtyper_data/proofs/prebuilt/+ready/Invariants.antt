@@ -1,6 +1,0 @@
-use Rattle.std.proofs.Common.{◌≡◌, drop, map}
-use Rattle.rtyper_data.specs.Prebuilt.{are_true, is_ready}
-use Rattle.rtyper_data.proofs.prebuilt.+ready.Given as goal
-
-abbrev pub invariant-are_ready-loop-part : goal.invariant-are_ready-loop-part
-invariant-are_ready-loop-part l = are_true (map (is_ready l.found) (drop l.part-index l.parts)) ≡ are_true (map (is_ready l.found) l.parts)
