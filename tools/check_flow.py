@@ -114,6 +114,9 @@ def done(programs, work):
 
 
 def main():
+    if not os.path.exists(PROGRAM):
+        print('flow: left out, its program stands outside the gate (tools/outside.sh)')
+        return 0
     stopped = unready('flow', PROGRAM, 'oracle', 'fuzz')
     if stopped is not None:
         return stopped
