@@ -8,6 +8,7 @@ begun. One small program more is run with every bound. What a run holds is compu
 missing the check is skipped. The last line is 'N passed, M failed'."""
 import functools
 import gc
+import os
 import re
 import resource
 import subprocess
