@@ -16,8 +16,8 @@ use Rattle.ann_tree.specs.Annotation.{Annotation}
 use Rattle.ann_read.specs.Reading.{reading}
 use Rattle.ann_least.specs.Least.{IsAnnotation, IsLeast}
 
--- The classes are a tree of at most 2^32, there is a site, no number is the node of two functions, and cells and marks are fewer than the number of what
--- does not exist.
+-- The classes are a tree of at most 2^32, there is a site, no number is the node of two functions, and no cell and no mark has the number of what does not
+-- exist.
 pub record HasTrees (p : Program) (gs : Graphs) : Type 0 where
   pub classes : HasClasses (tables p)
   pub sites : 0 < length p.sites
