@@ -31,7 +31,11 @@ use Rattle.ann_layout.specs.Layout.{numbers, rows, block_count, plan, planned}
 use Rattle.ann_places.specs.Placed.{count_of}
 use Rattle.ann_places.specs.Spots.{part_cells, graph_cells, spot_cells, row_cells, all_named_cells, among, spots, start}
 use Rattle.ann_tree.specs.Annotation.{Annotation}
-use Rattle.ann_read.specs.Reading.{In, ops_of, gives, first_giving, element_of, element_in, reading, HasGraphs, HasOps}
+use Rattle.ann_planned.proofs.Planning.{premises}
+use Rattle.ann_read.specs.Reading.{In, ops_of, AreApart, gives, first_giving, element_of, element_in, reading, HasGraphs, HasOps}
+use Rattle.ann_read.proofs.Whole.{Premises}
+use Rattle.ann_read.proofs.Readings.{is_reading, are_apart}
+use Rattle.ann_read.proofs.Flaws.{flaws_up}
 use Rattle.ann_lift.specs.Lift.{IsLift}
 use Rattle.ann_lift.specs.Spots.{Spots}
 use Rattle.ann_lifted.specs.Lifted.{ReadOwn, HasNoOthers, IsLifted}
@@ -213,7 +217,14 @@ module _ (p : Program) (gs : Graphs) (r : Resolved) (nodes : NodesAt r gs) (coun
 
     -- ---- what is below it is below the annotation
 
-    module _ (w : Assignment) (less : Less k w raised) where
+    -- the flaws of an annotation that is read from it
+    apart : AreApart W
+    apart = are_apart W (functions_of r) has_ops sound.own
+
+    known : Premises (program_of r) gs W (functions_of r) (spots (plan p gs t)) begin (reading W raised)
+    known = premises p gs t (program_of r) (functions_of r) (reading W raised) has_graphs fits classes closed free (is_reading W raised apart)
+
+    module _ (w : Assignment) (table : IsTable (length begin.same) w.same) (less : Less k w raised) where
       under : (c : ℕ) → at raised c ≡ at b.parts c → Below k b.parts.same (at w c) (at b.parts c)
       under c e = subst (λ u. Below k u (at w c) (at b.parts c)) lift.alike.same (subst (λ x. Below k raised.same (at w c) x) e (less.cells c))
 
@@ -278,6 +289,7 @@ module _ (p : Program) (gs : Graphs) (r : Resolved) (nodes : NodesAt r gs) (coun
         made = λ c. marked (W.places.made c) (lift.alike.made c);
         loaded = λ s. marked (W.places.loaded s) (lift.loaded s);
         unbound = λ node. marked (W.places.unbound node) (lift.unbound node);
+        faulty = λ flaw node shown. up.flaws flaw node (flaws_up (program_of r) gs W (functions_of r) (spots (plan p gs t)) begin (reading W raised) known w table less flaw node shown);
         elements = λ node. of_node node 0 gs.graphs (λ i graph e. subst (λ j. slice_get gs.graphs j ≡ Some graph) (number i) e);
       }
         where
@@ -289,7 +301,7 @@ module _ (p : Program) (gs : Graphs) (r : Resolved) (nodes : NodesAt r gs) (coun
   pub least_of_trees : (w : Assignment) → Fits k begin w → Closed k (rules W) w → Free (spots (plan p gs t)) w → IsLeastIn k (rules W) (spots (plan p gs t)) begin w → IsLeast W (program_of r).sites (functions_of r) begin (reading W w)
   least_of_trees w fits_w closed_w free_w least_w = record {
     is = record { fits = fits_w; closed = closed_flow p gs t r nodes count sound classes w fits_w closed_w free_w };
-    least = λ b is. lower b is w (least_w (raised b is) (fits b is) (closed b is) (free b is));
+    least = λ b is. lower b is w fits_w.table (least_w (raised b is) (fits b is) (closed b is) (free b is));
   }
 
   pub none_of_trees : ((w : Assignment) → Fits k begin w → Closed k (rules W) w → Free (spots (plan p gs t)) w → ⊥) → (b : Annotation) → Is b → ⊥

@@ -1,9 +1,10 @@
 -- Blocks that are reached, and what stands there.
 use Rattle.std.proofs.Common.{◌≡◌, ℕ, ◌+◌, ◌<◌, ◌≤◌, Bool, true, false, List, [], ◌∷◌, ◌++◌, length, map, Option, refl, sym, ap, ◌∙◌, subst, arith, append-nil}
-use Rattle.std.specs.Prelude.{◌&&◌, if◌then◌else◌}
+use Rattle.std.specs.Prelude.{◌&&◌, not, if◌then◌else◌}
 use Rattle.std.proofs.lemmas.Bool.{false≢true}
 use Rattle.rpy_tree.specs.Value.{Object}
 use Rattle.rpy_meaning.specs.declared.row.RowOp.{RowOp}
+use Rattle.rpy_meaning.specs.declared.row.RowOp.TheVariants as row
 use Rattle.rpy_meaning.specs.Tree as tree
 use Rattle.flow_graph.specs.declared.graph.Graphs.{Graphs}
 use Rattle.flow_stands.specs.Places.{Scope, Jump, first_and, hand_jumps, Shape as Form, Go, Fork, Does, Plain, GiveBack, GiveUp}
@@ -17,6 +18,7 @@ use Rattle.ann_rules.specs.Program.{Whole}
 use Rattle.ann_rules.specs.Asks.{asks}
 use Rattle.ann_rules.specs.Rules.{asked, is_copy, is_narrowing, goes}
 use Rattle.ann_rules.specs.Hold.{AllHold}
+use Rattle.ann_tree.specs.Faults.{OfConstant, OfFamily, fit, some_first, modifies, may_be_constant, called, given}
 use Rattle.ann_tree.specs.Annotation.{Annotation, Environment, Point, Never, With, Handler, Seen, At}
 use Rattle.ann_tree.specs.Gives as part
 use Rattle.ann_tree.specs.Gives.{AreFormed}
@@ -95,16 +97,29 @@ module _ (p : Whole) (sites : List (Option Object)) (a : Annotation) (f n : ℕ)
   value_is true node z free is = is ∙ sym (calm_is (a.element node) (ap is_clash (sym is) ∙ free))
   value_is false node z free is = tt
 
-  -- with an operation: what its operands are, and what it gives
+  -- what modifies nothing and calls nothing shows no flaw
+  pub unmarked : (node : ℕ) (value : Bool) (o : RowOp) (xs : List Shape) → modifies value o xs ≡ false → called p a.parts o xs ≡ [] → part.MarksFaults p sites a n node value o xs
+  unmarked node value o xs still none OfConstant some shown = absurd (false≢true (sym (ap (λ b. b && some_first (may_be_constant p a.parts) xs) still) ∙ shown))
+  unmarked node value o xs still none OfFamily some shown = absurd (false≢true (sym (ap (λ fs. not (fit p.callees fs (given o xs))) none) ∙ shown))
+
+  pub unmarked_telling : (node : ℕ) (o : RowOp) (xs : List Shape) → is_narrowing o ≡ true → part.MarksFaults p sites a n node false o xs
+  unmarked_telling node row.DropNone xs h = unmarked node false row.DropNone xs refl refl
+  unmarked_telling node row.OnlyNone xs h = unmarked node false row.OnlyNone xs refl refl
+  unmarked_telling node row.FalseNone xs h = unmarked node false row.FalseNone xs refl refl
+  unmarked_telling node (row.Lower c) xs h = unmarked node false (row.Lower c) xs refl refl
+  unmarked_telling node row.NonNegative xs h = unmarked node false row.NonNegative xs refl refl
+  unmarked_telling node _ xs h = absurd (false≢true h)
+
+  -- with an operation: what its operands are, what it gives, and the flaws that it shows
   pub act_with : {lo hi : ℕ} {C : Spots → Type 0} (sc : Scope) (b node : ℕ) (value : Bool) (o : RowOp) (args : List ℕ) (m : ℕ) (norm : Jump) → marks.Acts meant gs f n sc b node value o args m norm lo hi
       → (e : Environment) (held : List Shape) (u : ℕ → Bool) (hs : List Handler) (xs : List Shape) (z : Shape) → m ≡ n + length held → ((j : ℕ) → j < m → n ≤ j → u j ≡ false)
-      → Seen p.tables.classes a.parts.same n hs e → map (held_at n e (held ++ z ∷ [])) args ≡ xs → part.Operates p sites a n o node xs z → part.IsOf p sites a n value node z
+      → Seen p.tables.classes a.parts.same n hs e → map (held_at n e (held ++ z ∷ [])) args ≡ xs → part.Operates p sites a n o node xs z → part.IsOf p sites a n value node z → part.MarksFaults p sites a n node value o xs
       → ((is_copy o && first_unbound (spot n e (held ++ z ∷ []) u) args) ≡ true → Holds p.tables.classes a.parts (Set (p.places.unbound node)))
       → ((is_narrowing o && first_unbound (spot n e (held ++ z ∷ []) u) args) ≡ true → u m ≡ true)
       → ((at : Spots) → C at → Watched p a f n classes at held hs sc.hands sc.default)
       → (goes_on o z ≡ true → (at : Spots) → C at → Goes p a f at (spot n e (held ++ z ∷ []) u) norm)
       → Lift lo hi C (λ at. Enters p a f n classes at b e held)
-  act_with {lo} {hi} {C} sc b node value o args m norm h e held u hs xs z count quiet seen operands does is_of reads keeps watched goes_to =
+  act_with {lo} {hi} {C} sc b node value o args m norm h e held u hs xs z count quiet seen operands does is_of marked reads keeps watched goes_to =
       let s = spot n e (held ++ z ∷ []) u in
       let result : s.element m ≡ z = at_in n e held z [] (held ++ z ∷ []) m refl count in
       let is_value = value_is value node z does.0 is_of in
@@ -123,6 +138,7 @@ module _ (p : Whole) (sites : List (Option Object)) (a : Annotation) (f n : ℕ)
               subst (λ ys. Under p.tables.classes a.parts.same (asked p a.parts f o ys node) (s.element m) × AllHold p.tables.classes a.parts (asks p a.parts o ys)) (sym operands)
               (subst (λ x. Under p.tables.classes a.parts.same (asked p a.parts f o xs node) x) (sym result) d.0, d.1);
           formed = λ formed. subst (λ x. IsFormed x) (sym result) (does.2 (subst (λ ys. AreFormed ys) operands formed));
+          marked = subst (λ ys. part.MarksFaults p sites a n node value o ys) (sym operands) marked;
         },
         λ g. goes_to (ap (λ x. goes_on o x) (sym result) ∙ g) at c,
       )))
@@ -130,12 +146,12 @@ module _ (p : Whole) (sites : List (Option Object)) (a : Annotation) (f n : ℕ)
   -- its operands are held
   pub act : {lo hi : ℕ} {C : Spots → Type 0} (sc : Scope) (b node : ℕ) (value : Bool) (o : RowOp) (args : List ℕ) (m : ℕ) (norm : Jump) → marks.Acts meant gs f n sc b node value o args m norm lo hi
       → (e : Environment) (held : List Shape) (hs : List Handler) (xs : List Shape) (z : Shape) → m ≡ n + length held
-      → Seen p.tables.classes a.parts.same n hs e → map (held_at n e (held ++ z ∷ [])) args ≡ xs → first_unbound (spot n e (held ++ z ∷ []) bound) args ≡ false → part.Operates p sites a n o node xs z → part.IsOf p sites a n value node z
+      → Seen p.tables.classes a.parts.same n hs e → map (held_at n e (held ++ z ∷ [])) args ≡ xs → first_unbound (spot n e (held ++ z ∷ []) bound) args ≡ false → part.Operates p sites a n o node xs z → part.IsOf p sites a n value node z → part.MarksFaults p sites a n node value o xs
       → ((at : Spots) → C at → Watched p a f n classes at held hs sc.hands sc.default)
       → (goes_on o z ≡ true → (at : Spots) → C at → Goes p a f at (spot n e (held ++ z ∷ []) bound) norm)
       → Lift lo hi C (λ at. Enters p a f n classes at b e held)
-  act sc b node value o args m norm h e held hs xs z count seen operands clear does is_of watched goes_to =
-      act_with sc b node value o args m norm h e held bound hs xs z count (λ j l r. refl) seen operands does is_of
+  act sc b node value o args m norm h e held hs xs z count seen operands clear does is_of marked watched goes_to =
+      act_with sc b node value o args m norm h e held bound hs xs z count (λ j l r. refl) seen operands does is_of marked
       (λ k. nothing_from (is_copy o) (ap (λ t. is_copy o && t) (sym clear) ∙ k)) (λ k. nothing_from (is_narrowing o) (ap (λ t. is_narrowing o && t) (sym clear) ∙ k)) watched goes_to
 
   -- a block without an operation, which goes on at once

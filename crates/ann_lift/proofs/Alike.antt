@@ -1,7 +1,8 @@
 -- What operations ask, they ask by the parts of the program alone.
 use Rattle.std.proofs.Common.{◌≡◌, ℕ, zero, suc, Bool, true, false, List, [], ◌∷◌, ◌++◌, length, map, Option, Some, None, refl, ap, ◌∙◌}
-use Rattle.std.specs.Prelude.{◌&&◌, ◌||◌, not, if◌then◌else◌}
+use Rattle.std.specs.Prelude.{◌==◌, ◌&&◌, ◌||◌, not, if◌then◌else◌, is_some}
 use Rattle.rpy_tree.specs.declared.program.Const.{Const}
+use Rattle.rpy_tree.specs.declared.program.Site.{Site}
 use Rattle.rpy_tree.specs.declared.syntax.BinOp.{BinOp}
 use Rattle.rpy_tree.specs.declared.syntax.BinOp.TheVariants as bin
 use Rattle.rpy_tree.specs.declared.syntax.CmpOp.{CmpOp}
@@ -23,6 +24,8 @@ use Rattle.ann_rules.specs.Program.{Whole}
 use Rattle.ann_rules.specs.Asks as asking
 use Rattle.ann_rules.specs.Asks.{when, from_each, with_first, with_two, with_three, rest, paired, reach, defaults, asks, parts}
 use Rattle.ann_rules.specs.Rules.{is_unfit, pieces_for, asked}
+use Rattle.ann_tree.specs.Faults as fault
+use Rattle.ann_tree.specs.Faults.{Flaw, OfConstant, OfFamily, fit, some_first, modifies, of_first, prebuilt_from, may_be_constant, methods_in, called, shows}
 use Rattle.ann_lift.specs.Alike.{AreAlike}
 
 module _ (p : Whole) (a b : Assignment) (alike : AreAlike p a b) where
@@ -229,3 +232,34 @@ module _ (p : Whole) (a b : Assignment) (alike : AreAlike p a b) where
 
   pub asked_is : (f : ℕ) (o : RowOp) (xs : List Shape) (node : ℕ) → asked p a f o xs node ≡ asked p b f o xs node
   asked_is f o xs node = ap (λ qs. if is_unfit p a f o xs node then misfit ∷ [] else pieces_for p a f o xs (Nothing ∷ qs)) (parts_are o xs)
+
+  -- ---- the flaws that operations show
+
+  prebuilt_is : (s n : ℕ) (sites : List Site) → prebuilt_from p a s n sites ≡ prebuilt_from p b s n sites
+  prebuilt_is s n [] = refl
+  prebuilt_is s n (site ∷ sites) = λ j. (is_some site.prebuilt && (leader (alike.same j) n == leader (alike.same j) s)) || prebuilt_is s (suc n) sites j
+
+  constant_is : (x : Shape) → may_be_constant p a x ≡ may_be_constant p b x
+  constant_is (Lst s n) = prebuilt_is s 0 p.sites
+  constant_is (Dct s n) = prebuilt_is s 0 p.sites
+  constant_is _ = refl
+
+  first_constant_is : (xs : List Shape) → some_first (may_be_constant p a) xs ≡ some_first (may_be_constant p b) xs
+  first_constant_is [] = refl
+  first_constant_is (x ∷ xs) = constant_is x
+
+  methods_in_is : (name : List ℕ) (x : Shape) → methods_in p a name x ≡ methods_in p b name x
+  methods_in_is name (Inst c n) = ap (λ found. map (λ f. f.1) found) (methods_is c name)
+  methods_in_is name _ = refl
+
+  first_methods_are : (name : List ℕ) (xs : List Shape) → of_first (methods_in p a name) xs ≡ of_first (methods_in p b name) xs
+  first_methods_are name [] = refl
+  first_methods_are name (x ∷ xs) = methods_in_is name x
+
+  called_is : (o : RowOp) (xs : List Shape) → called p a o xs ≡ called p b o xs
+  called_is (op.Method name site) xs = first_methods_are name xs
+  called_is _ xs = refl
+
+  pub shows_is : (flaw : Flaw) (value : Bool) (o : RowOp) (xs : List Shape) → shows p a flaw value o xs ≡ shows p b flaw value o xs
+  shows_is OfConstant value o xs = ap (λ c. modifies value o xs && c) (first_constant_is xs)
+  shows_is OfFamily value o xs = ap (λ fs. not (fit p.callees fs (fault.given o xs))) (called_is o xs)

@@ -27,7 +27,7 @@ use Rattle.ann_lift.proofs.Lifted.{under, so, seq, straight}
 use Rattle.ann_lift.proofs.States.{held_at, bound, spot, at_local, at_in, loose_local, loose_held, Enters, Leads}
 use Rattle.ann_lift.proofs.Ways.{led, led_and, goes_keeping, goes_keeping_and, goes_narrowing}
 use Rattle.ann_lift.proofs.Watched.{Watched, watched_more}
-use Rattle.ann_lift.proofs.Acting.{Lift, act, act_with, fork}
+use Rattle.ann_lift.proofs.Acting.{Lift, unmarked, unmarked_telling, act, act_with, fork}
 use Rattle.ann_lift.proofs.Telling.{Good, beside_is}
 use Rattle.ann_lift.proofs.Idle as idle
 
@@ -115,7 +115,7 @@ module _ (p : Whole) (sites : List (Option Object)) (a : Annotation) (f n : ℕ)
         let loose : first_unbound (spot n g all u) (operands tell m) ≡ g.unbound tell.local = loose_local n g u tell.local h.1 in
         let there : held_at n g all w ≡ j.0 = at_in n g tested j.0 [] all w refl (omega (arith, value_is, long)) in
         so p a f gs (λ at c e. subst (λ k. On at g (told_of t) k) (sym h.4) (goes_keeping p a f n classes at h.0 w g tested (t ∷ []) (told_of t) refl (omega (arith, value_is, long)) e))
-        (act_with p sites a f n gs classes meant sc h.0 node false tell.op (operands tell m) w (stored to m tell.local w) h.3 g tested u hs (g.element tell.local ∷ part.beside tell.beside xs) j.0 (omega (arith, value_is, long)) quiet seen places j.1 tt
+        (act_with p sites a f n gs classes meant sc h.0 node false tell.op (operands tell m) w (stored to m tell.local w) h.3 g tested u hs (g.element tell.local ∷ part.beside tell.beside xs) j.0 (omega (arith, value_is, long)) quiet seen places j.1 tt (unmarked_telling p sites a f n gs classes meant node tell.op (g.element tell.local ∷ part.beside tell.beside xs) good.1)
         (λ k. absurd (false≢true (sym (ap (λ b. b && first_unbound (spot n g all u) (operands tell m)) good.0) ∙ k)))
         (λ k. u_there ∙ (sym loose ∙ (sym (ap (λ b. b && first_unbound (spot n g all u) (operands tell m)) good.1) ∙ k)))
         (λ at c. subst (λ l. Watched p a f n classes at l hs sc.hands sc.default) (sym (append_assoc held xs (x ∷ []))) (watches sc hs held (xs ++ x ∷ []) at (around at c)))
@@ -132,7 +132,7 @@ module _ (p : Whole) (sites : List (Option Object)) (a : Annotation) (f n : ℕ)
         (seq p a f gs (one_way t node (tells l true) to1 v1 h.1 lo h.3 h.6 r1 good1 true j.3 ways1)
         (seq p a f gs (under p a f gs (λ at c. c.0) (one_way t node (tells l false) to2 v2 h.2 h.3 h.4 h.7 r2 good2 false j.4 ways2))
         (seq p a f gs (fork p sites a f n gs classes meant h.0 (w + 1) w h.1 h.2 h.8 g (told_of t) t there (λ at c. c.0.1) (λ at c. c.1))
-        (act p sites a f n gs classes meant sc b node false row.Truth (value ∷ []) w (first_and h.0 w w) h.9 g tested hs (x ∷ []) t (omega (arith, value_is, long)) seen (ap (λ y. y ∷ []) (value_there t)) (loose_held n g bound value (omega (arith, value_is))) j.2 tt
+        (act p sites a f n gs classes meant sc b node false row.Truth (value ∷ []) w (first_and h.0 w w) h.9 g tested hs (x ∷ []) t (omega (arith, value_is, long)) seen (ap (λ y. y ∷ []) (value_there t)) (loose_held n g bound value (omega (arith, value_is))) j.2 tt (unmarked p sites a f n gs classes meant node false row.Truth (x ∷ []) refl refl)
         (λ at c. subst (λ k. Watched p a f n classes at k hs sc.hands sc.default) (sym (append_assoc held xs (x ∷ []))) (watches sc hs held (xs ++ x ∷ []) at (around at c.0.0.0)))
         (λ k at c. goes_keeping_and p a f n classes at h.0 w w g tested (t ∷ []) (told_of t) t refl (omega (arith, value_is, long)) there (omega (arith, value_is)) c.1)))))
       where

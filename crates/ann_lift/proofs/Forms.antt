@@ -86,7 +86,7 @@ module _ (p : Whole) (sites : List (Option Object)) (a : Annotation) (f n : ℕ)
       → part.Acts p sites a n hs node value o ys g x r → ((at : Spots) → C at → A sc hs held at) → ((at : Spots) → C at → T at q r (held ++ x ∷ [])) → Lf lo hi C (λ at. I at b g (held ++ xs))
   put sc hs b node value o args m w q h held xs count wide ys g x r raises operands clear j around to =
       let z = j.1.0 in
-      act p sites a f n gs classes meant sc b node value o args w (first_and q m w) h g (held ++ xs) hs ys z wide j.0 (operands z) (clear z) j.1.1 j.1.2
+      act p sites a f n gs classes meant sc b node value o args w (first_and q m w) h g (held ++ xs) hs ys z wide j.0 (operands z) (clear z) j.1.1 j.1.2 j.1.4
       (λ at c. watches p sites a f n gs classes meant sc hs held xs at (around at c))
       (λ k at c.
       let on = j.1.3 (goes_no_stop o z raises k) in
@@ -99,7 +99,7 @@ module _ (p : Whole) (sites : List (Option Object)) (a : Annotation) (f n : ℕ)
       → part.Acts p sites a n hs node value o ys g x r → ((at : Spots) → C at → A sc hs held at) → ((at : Spots) → C at → T at q r held) → Lf lo hi C (λ at. I at b g (held ++ xs))
   put_dropped sc hs b node value o args m w q h held xs count wide ys g x r raises operands clear j around to =
       let z = j.1.0 in
-      act p sites a f n gs classes meant sc b node value o args w (first q m) h g (held ++ xs) hs ys z wide j.0 (operands z) (clear z) j.1.1 j.1.2
+      act p sites a f n gs classes meant sc b node value o args w (first q m) h g (held ++ xs) hs ys z wide j.0 (operands z) (clear z) j.1.1 j.1.2 j.1.4
       (λ at c. watches p sites a f n gs classes meant sc hs held xs at (around at c))
       (λ k at c.
       let on = j.1.3 (goes_no_stop o z raises k) in
@@ -130,7 +130,7 @@ module _ (p : Whole) (sites : List (Option Object)) (a : Annotation) (f n : ℕ)
       let z = j.1.1.0 in
       let all = held ++ z ∷ [] in
       let loose : first_unbound (spot n e all bound) (i ∷ []) ≡ e.unbound i = loose_local n e bound i h.0 in
-      act_with p sites a f n gs classes meant sc b node true row.Copy (i ∷ []) m (first_and q m m) h.1 e held bound hs (e.element i ∷ []) z count (λ k l g. refl) j.1.0 (ap (λ y. y ∷ []) (at_local n e all i h.0)) j.1.1.1 j.1.1.2
+      act_with p sites a f n gs classes meant sc b node true row.Copy (i ∷ []) m (first_and q m m) h.1 e held bound hs (e.element i ∷ []) z count (λ k l g. refl) j.1.0 (ap (λ y. y ∷ []) (at_local n e all i h.0)) j.1.1.1 j.1.1.2 j.1.1.4
       (λ k. j.0 (sym loose ∙ k)) (λ k. absurd (false≢true k))
       (λ at c. c.0.0)
       (λ k at c.
@@ -153,7 +153,7 @@ module _ (p : Whole) (sites : List (Option Object)) (a : Annotation) (f n : ℕ)
       (λ g i.
       act p sites a f n gs classes meant sc h.0 node value o (range m c) (m + c) (onward o q m (m + c)) h.2 g (held ++ xs) hs xs i.1.0 wide i.0
       (subst (λ k. map (held_at n g ((held ++ xs) ++ i.1.0 ∷ [])) (range m k) ≡ xs) long (map_range n g held xs (i.1.0 ∷ []) ((held ++ xs) ++ i.1.0 ∷ []) m (append_assoc held xs (i.1.0 ∷ [])) count))
-      (clear_range n g ((held ++ xs) ++ i.1.0 ∷ []) m c (omega (arith, count))) i.1.1 i.1.2
+      (clear_range n g ((held ++ xs) ++ i.1.0 ∷ []) m c (omega (arith, count))) i.1.1 i.1.2 i.1.4
       (λ at k. watches p sites a f n gs classes meant sc hs held xs at k.0)
       (λ go at k. on_to (is_raise o) refl i.1.0 go at k g i.1.3 wide long)))
       (under p a f gs (λ at k. (k.0.0, k.1)) (all b m h.0 h.1 hi h.3 held count e xs j.0 j.1)))
@@ -207,7 +207,7 @@ module _ (p : Whole) (sites : List (Option Object)) (a : Annotation) (f n : ℕ)
           let z = u.1.0 in
           act p sites a f n gs classes meant sc k.0 node value o (range m d) (m + d) (first_and q (m + d) (m + d)) k.3 g (held ++ xs) hs xs z wide u.0
           (subst (λ c. map (held_at n g ((held ++ xs) ++ z ∷ [])) (range m c) ≡ xs) long (map_range n g held xs (z ∷ []) ((held ++ xs) ++ z ∷ []) m (append_assoc held xs (z ∷ [])) count))
-          (clear_range n g ((held ++ xs) ++ z ∷ []) m d (omega (arith, count))) u.1.1 u.1.2
+          (clear_range n g ((held ++ xs) ++ z ∷ []) m d (omega (arith, count))) u.1.1 u.1.2 u.1.4
           (λ at c. watches p sites a f n gs classes meant sc hs held xs at c.0)
           (λ go at c.
           let on = u.1.3 (goes_no_stop o z (not_raise o k.2) go) in

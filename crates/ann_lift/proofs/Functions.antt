@@ -24,7 +24,7 @@ use Rattle.ann_lift.specs.Spots.{Spot, Spots, Starts, Shown}
 use Rattle.ann_lift.proofs.Lifted.{under, so, seq, straight, one, head}
 use Rattle.ann_lift.proofs.States.{held_at, bound, spot, at_in, at_local, loose_local, loose_held, Lower, self, stands}
 use Rattle.ann_lift.proofs.Ways.{goes_keeping}
-use Rattle.ann_lift.proofs.Acting.{idle_marked}
+use Rattle.ann_lift.proofs.Acting.{idle_marked, unmarked}
 use Rattle.ann_lift.proofs.Forms.{Lf, T}
 use Rattle.ann_lift.proofs.Leaving.{result}
 use Rattle.ann_lift.proofs.Stmts.{lines}
@@ -82,6 +82,7 @@ module _ (p : Whole) (sites : List (Option Object)) (a : Annotation) (f : ℕ) (
           record {
             reads = λ i. absurd (false≢true i);
             keeps = λ i. absurd (false≢true i);
+            marked = unmarked p sites a f n gs classes meant function.node false row.None [] refl refl;
             gives = λ some. (((subst (λ x. Lower p a f n classes NoneOnly x) (sym there) (self p a f n classes NoneOnly)).0, tt), tt);
             formed = λ h. subst (λ x. IsFormed x) (sym there) (record { sound = refl; shallow = omega arith });
           },

@@ -1,5 +1,5 @@
 -- Where statements go on to.
-use Rattle.std.proofs.Common.{◌≡◌, ℕ, ◌+◌, inl, inr, true, false, List, [], ◌∷◌, ◌++◌, length, Option, refl, sym, ap, ◌∙◌, subst, arith, append_assoc, append-nil}
+use Rattle.std.proofs.Common.{◌≡◌, ℕ, ◌+◌, inl, inr, true, false, List, [], ◌∷◌, ◌++◌, map, length, Option, refl, sym, ap, ◌∙◌, subst, arith, append_assoc, append-nil}
 use Rattle.std.specs.Prelude.{if◌then◌else◌}
 use Rattle.std.proofs.lemmas.Bool.{ne_eqb, false≢true}
 use Rattle.rpy_tree.specs.Value.{Object}
@@ -24,7 +24,7 @@ use Rattle.ann_lift.proofs.Lists.{one_more, push}
 use Rattle.ann_lift.proofs.Lifted.{under, so, one}
 use Rattle.ann_lift.proofs.States.{held_at, bound, spot, at_in, loose_held, Lower, self, stands}
 use Rattle.ann_lift.proofs.Ways.{led, led_and, goes_keeping, goes_keeping_and}
-use Rattle.ann_lift.proofs.Acting.{go}
+use Rattle.ann_lift.proofs.Acting.{unmarked, go}
 use Rattle.ann_lift.proofs.Exprs.{On}
 use Rattle.ann_lift.proofs.Forms.{Lf, I, T, A}
 use Rattle.ann_lift.proofs.Idle as idle
@@ -174,6 +174,7 @@ module _ (p : Whole) (sites : List (Option Object)) (a : Annotation) (f n : ℕ)
           reads = λ i. absurd (false≢true (sym loose ∙ i));
           keeps = λ i. absurd (false≢true i);
           formed = λ formed. subst (λ y. IsFormed y) (there ∙ sym last) formed.0;
+          marked = unmarked p sites a f n gs classes meant node false row.Copy (map s.element (m ∷ [])) refl refl;
           gives = λ some. subst (λ y. BelowAll p.tables.classes a.parts.same (asked p a.parts f row.Copy (y ∷ []) node) (held_at n e all (m + 1)) × Unit {0}) (sym there) (subst (λ y. BelowAll p.tables.classes a.parts.same (asked p a.parts f row.Copy (x ∷ []) node) y) (sym last) (does.1 (ap (λ y. some_nothing (y ∷ [])) (sym there) ∙ some)).0, tt);
         },
         λ i. returns_on k e held (x ∷ []) x m t exits.returned count fits leaves o.returned o.reached o.gives,

@@ -69,14 +69,14 @@ module _ (p : Whole) (a : Annotation) (f : ℕ) (gs : Graphs) where
 
   -- one block, with what stands there
   one_good : (lo hi b base m node : ℕ) (value : Bool) (form : Form) → Alone b lo hi → block_in (slice_get gs.graphs f) b ≡ Some (numbered base m node value form)
-      → (s : Spot) → Results p a f s m node value form → (at : Spots) → at b ≡ s → (s.reached ≡ true → Fits p a f at s m node form) → AllGood at lo hi
+      → (s : Spot) → Results p a f s m node value form → (at : Spots) → at b ≡ s → (s.reached ≡ true → Fits p a f at s m node value form) → AllGood at lo hi
   one_good lo hi b base m node value form alone is s results at e fits i l r =
       let here : i ≡ b = omega (arith, alone.0, alone.1, l, r) in
       subst (λ j. Good p a f gs at j) (sym here)
-      (base, m, node, value, form, is, subst (λ (u : Spot). Results p a f u m node value form) (sym e) results, λ reached. subst (λ (u : Spot). Fits p a f at u m node form) (sym e) (fits (ap (λ (u : Spot). u.reached) (sym e) ∙ reached)))
+      (base, m, node, value, form, is, subst (λ (u : Spot). Results p a f u m node value form) (sym e) results, λ reached. subst (λ (u : Spot). Fits p a f at u m node value form) (sym e) (fits (ap (λ (u : Spot). u.reached) (sym e) ∙ reached)))
 
   pub one : {lo hi : ℕ} {C : Spots → Type 0} (b base m node : ℕ) (value : Bool) (form : Form) → Alone b lo hi → block_in (slice_get gs.graphs f) b ≡ Some (numbered base m node value form)
-      → (s : Spot) → Results p a f s m node value form → ((at : Spots) → C at → s.reached ≡ true → Fits p a f at s m node form) → Lifted lo hi C (λ at. at b ≡ s)
+      → (s : Spot) → Results p a f s m node value form → ((at : Spots) → C at → s.reached ≡ true → Fits p a f at s m node value form) → Lifted lo hi C (λ at. at b ≡ s)
   one {lo} {hi} {C} b base m node value form alone is s results fits = record {
     rise = omega (arith, alone.0, alone.1);
     found = λ i. s;
@@ -86,7 +86,7 @@ module _ (p : Whole) (a : Annotation) (f : ℕ) (gs : Graphs) where
 
   -- the head of a loop, which goes on to what is put behind it
   pub head : {lo mid hi : ℕ} {C F : Spots → Type 0} (b base m node : ℕ) (value : Bool) (form : Form) → Alone b lo mid → block_in (slice_get gs.graphs f) b ≡ Some (numbered base m node value form)
-      → (s : Spot) → Results p a f s m node value form → Lifted mid hi (λ at. C at × (at b ≡ s)) F → ((at : Spots) → C at → F at → s.reached ≡ true → Fits p a f at s m node form) → Lifted lo hi C (λ at. (at b ≡ s) × F at)
+      → (s : Spot) → Results p a f s m node value form → Lifted mid hi (λ at. C at × (at b ≡ s)) F → ((at : Spots) → C at → F at → s.reached ≡ true → Fits p a f at s m node value form) → Lifted lo hi C (λ at. (at b ≡ s) × F at)
   head {lo} {mid} {hi} {C} {F} b base m node value form alone is s results y fits =
       let rise : lo ≤ mid = omega (arith, alone.0, alone.1) in
       let before : (at : Spots) → Matches at lo hi (split mid (λ i. s) y.found) → at b ≡ s = λ at match. low_part at (λ i. s) y.found lo mid hi y.rise match b (omega (arith, alone.0)) (omega (arith, alone.0, alone.1)) in

@@ -31,7 +31,7 @@ use Rattle.ann_lift.proofs.Lifted.{under, so, seq, straight, head}
 use Rattle.ann_lift.proofs.States.{bound, spot, at_in, at_local, loose_local, loose_held, Lower, self}
 use Rattle.ann_lift.proofs.Ways.{LeadsTo, led, led_and, goes_keeping, goes_keeping_and, goes_binding}
 use Rattle.ann_lift.proofs.Watched.{Watched}
-use Rattle.ann_lift.proofs.Acting.{act, act_with, go, from_point}
+use Rattle.ann_lift.proofs.Acting.{unmarked, act, act_with, go, from_point}
 use Rattle.ann_lift.proofs.Exprs.{goes_no_stop, On, Sees, watches}
 use Rattle.ann_lift.proofs.Forms.{Lf, I, T, A, put}
 use Rattle.ann_lift.proofs.Walks.{two_at, three_at, as_list, more_around, advance_at, step_of as turn_of, bound_at, turn_at}
@@ -67,15 +67,15 @@ module _ (p : Whole) (sites : List (Option Object)) (a : Annotation) (f n : ℕ)
   -- ---- between statements
 
   -- an operation that gives `None`, and is dropped
-  still : {lo hi : ℕ} {C : Spots → Type 0} (sc : Scope) (hs : List Handler) (b node m q : ℕ) (o : RowOp) → marks.Acts meant gs f n sc b node false o [] m (first q m) lo hi → part.Operates p sites a n o node [] NoneOnly → (held : List Shape) → m ≡ n + length held → (e : Environment) → See hs e
+  still : {lo hi : ℕ} {C : Spots → Type 0} (sc : Scope) (hs : List Handler) (b node m q : ℕ) (o : RowOp) → marks.Acts meant gs f n sc b node false o [] m (first q m) lo hi → part.Operates p sites a n o node [] NoneOnly → part.MarksFaults p sites a n node false o [] → (held : List Shape) → m ≡ n + length held → (e : Environment) → See hs e
       → ((k : Spots) → C k → R sc hs held k) → ((k : Spots) → C k → E k q e held) → S lo hi C (λ k. E k b e held)
-  still sc hs b node m q o h does held count e seen around to =
-      act p sites a f n gs classes meant sc b node false o [] m (first q m) h e held hs [] NoneOnly count seen refl refl does tt (λ k c. (around k c).0)
+  still sc hs b node m q o h does marked held count e seen around to =
+      act p sites a f n gs classes meant sc b node false o [] m (first q m) h e held hs [] NoneOnly count seen refl refl does tt marked (λ k c. (around k c).0)
       (λ go k c. goes_keeping p a f n classes k q m e held (NoneOnly ∷ []) (held ++ NoneOnly ∷ []) refl count (to k c))
 
   mark_at : {lo hi : ℕ} {C : Spots → Type 0} (sc : Scope) (hs : List Handler) (tried : Bool) (node b m q : ℕ) → marks.MarkIf meant gs f n tried sc node b m q lo hi → (held : List Shape) → m ≡ n + length held → (e : Environment) → See hs e
       → ((k : Spots) → C k → R sc hs held k) → ((k : Spots) → C k → E k q e held) → S lo hi C (λ k. E k b e held)
-  mark_at sc hs true node b m q h held count e seen around to = still sc hs b node m q row.None h (refl, (λ k. ((none, tt), tt)), λ f. record { sound = refl; shallow = omega arith }) held count e seen around to
+  mark_at sc hs true node b m q h held count e seen around to = still sc hs b node m q row.None h (refl, (λ k. ((none, tt), tt)), λ f. record { sound = refl; shallow = omega arith }) (unmarked p sites a f n gs classes meant node false row.None [] refl refl) held count e seen around to
   mark_at sc hs false node b m q h held count e seen around to = straight p a f gs h.1 (λ k c. subst (λ i. E k i e held) (sym h.0) (to k c))
 
   mark_behind : {lo hi : ℕ} {C : Spots → Type 0} (sc : Scope) (hs : List Handler) (tried : Bool) (node b m q : ℕ) → marks.MarkIf meant gs f n tried sc node b m q lo hi → (held : List Shape) → m ≡ n + length held → (J : Environment → Type 0) (r : Point) → At r (λ g. See hs g × J g)
@@ -135,7 +135,7 @@ module _ (p : Whole) (sites : List (Option Object)) (a : Annotation) (f n : ℕ)
       made : (u : Shape) → part.Operates p sites a n o node (x ∷ y ∷ []) u → (goes_on o u ≡ true → (k : Spots) → C k → On p sites a f n gs classes meant k g ((held ++ x ∷ y ∷ []) ++ u ∷ []) (first_and q m (m + 2))) → S lo hi C (λ k. E k b g (held ++ x ∷ y ∷ []))
       made u does on =
           act p sites a f n gs classes meant sc b node false o (m ∷ (m + 1) ∷ []) (m + 2) (first_and q m (m + 2)) h g (held ++ x ∷ y ∷ []) hs (x ∷ y ∷ []) u wide j.0
-          (two_at n g held x y (u ∷ []) ((held ++ x ∷ y ∷ []) ++ u ∷ []) m (m + 1) (append_assoc held (x ∷ y ∷ []) (u ∷ [])) count refl) (loose_held n g bound m (omega (arith, count))) does tt
+          (two_at n g held x y (u ∷ []) ((held ++ x ∷ y ∷ []) ++ u ∷ []) m (m + 1) (append_assoc held (x ∷ y ∷ []) (u ∷ [])) count refl) (loose_held n g bound m (omega (arith, count))) does tt j.1.4
           (λ k c. watches p sites a f n gs classes meant sc hs held (x ∷ y ∷ []) k (around k c)) on
 
       by_raise : (raises : Bool) → is_raise o ≡ raises → S lo hi C (λ k. E k b g (held ++ x ∷ y ∷ []))
@@ -157,7 +157,7 @@ module _ (p : Whole) (sites : List (Option Object)) (a : Annotation) (f n : ℕ)
       (λ g u.
       let all = (held ++ new ∷ []) ++ value ∷ [] in
       let wide : m + 1 ≡ n + length (held ++ new ∷ []) = omega (arith, count, one_more held new) in
-      act p sites a f n gs classes meant sc h.2 at true row.Copy (m ∷ []) (m + 1) (stored q m i (m + 1)) h.7 g (held ++ new ∷ []) hs (new ∷ []) value wide u.0 (ap (λ s. s ∷ []) (at_in n g held new (value ∷ []) all m (push held new (value ∷ [])) count)) (loose_held n g bound m (omega (arith, count))) u.1 refl
+      act p sites a f n gs classes meant sc h.2 at true row.Copy (m ∷ []) (m + 1) (stored q m i (m + 1)) h.7 g (held ++ new ∷ []) hs (new ∷ []) value wide u.0 (ap (λ s. s ∷ []) (at_in n g held new (value ∷ []) all m (push held new (value ∷ [])) count)) (loose_held n g bound m (omega (arith, count))) u.1 refl u.3
       (λ k c. watches p sites a f n gs classes meant sc hs held (new ∷ []) k c.0)
       (λ go k c. goes_binding p a f n classes k q m i (m + 1) g held (new ∷ value ∷ []) all value (push held new (value ∷ [])) count (at_in n g (held ++ new ∷ []) value [] all (m + 1) refl wide) (omega (arith, count)) h.6 (led p a f n classes k q r (bind g i value) held (u.2 (goes_no_stop row.Copy value refl go)) c.1))))
       (seq p a f gs (from_point p sites a f n gs classes meant h.1 ((held ++ old ∷ []) ++ j.1 ∷ []) (λ g. part.Acts p sites a n hs node false o (old ∷ j.1 ∷ []) g new j.5) j.4 j.9 (idle.op p sites a f n gs classes meant sc h.1 node false o (m ∷ (m + 1) ∷ []) (m + 2) (first_and h.2 m (m + 2)) h.8)
@@ -172,7 +172,7 @@ module _ (p : Whole) (sites : List (Option Object)) (a : Annotation) (f n : ℕ)
           let z = i7.1.0 in
           let all = held ++ z ∷ [] in
           let loose : first_unbound (spot n e all bound) (i ∷ []) ≡ e.unbound i = loose_local n e bound i h.6 in
-          act_with p sites a f n gs classes meant sc b at false row.Copy (i ∷ []) m (first_and right m m) u e held bound hs (e.element i ∷ []) z count (λ k l g. refl) i7.0 (ap (λ y. y ∷ []) (at_local n e all i h.6)) i7.1.1 tt
+          act_with p sites a f n gs classes meant sc b at false row.Copy (i ∷ []) m (first_and right m m) u e held bound hs (e.element i ∷ []) z count (λ k l g. refl) i7.0 (ap (λ y. y ∷ []) (at_local n e all i h.6)) i7.1.1 tt i7.1.4
           (λ k. j.6 (sym loose ∙ k)) (λ k. absurd (false≢true k)) (λ k c. c.0.0.0.0.0)
           (λ go k c.
           let on = i7.1.3 (goes_no_stop row.Copy z refl go) in
@@ -191,7 +191,7 @@ module _ (p : Whole) (sites : List (Option Object)) (a : Annotation) (f n : ℕ)
       let all = (D ++ new ∷ []) ++ value ∷ [] in
       let wide : m + 2 ≡ n + length (D ++ new ∷ []) = omega (arith, next, one_more D new) in
       let flat : all ≡ held ++ x ∷ new ∷ value ∷ [] = push D new (value ∷ []) ∙ push held x (new ∷ value ∷ []) in
-      act p sites a f n gs classes meant sc h.3 at true (row.StoreAttr name) (m ∷ (m + 1) ∷ []) (m + 2) (first q m) h.8 g (D ++ new ∷ []) hs (x ∷ new ∷ []) value wide u.0 (two_at n g held x new (value ∷ []) all m (m + 1) flat count refl) (loose_held n g bound m (omega (arith, count))) u.1 refl
+      act p sites a f n gs classes meant sc h.3 at true (row.StoreAttr name) (m ∷ (m + 1) ∷ []) (m + 2) (first q m) h.8 g (D ++ new ∷ []) hs (x ∷ new ∷ []) value wide u.0 (two_at n g held x new (value ∷ []) all m (m + 1) flat count refl) (loose_held n g bound m (omega (arith, count))) u.1 refl u.3
       (λ k c. subst (λ s. Watched p a f n classes k s hs sc.hands sc.default) (sym (push held x (new ∷ []))) (watches p sites a f n gs classes meant sc hs held (x ∷ new ∷ []) k c.0))
       (λ go k c. goes_keeping p a f n classes k q m g held (x ∷ new ∷ value ∷ []) all flat count (led p a f n classes k q r g held (u.2 (goes_no_stop (row.StoreAttr name) value refl go)) c.1))))
       (seq p a f gs (from_point p sites a f n gs classes meant h.2 ((D ++ old ∷ []) ++ y ∷ []) (λ g. part.Acts p sites a n hs node false o (old ∷ y ∷ []) g new j.7) j.6 j.11 (idle.op p sites a f n gs classes meant sc h.2 node false o ((m + 1) ∷ (m + 1 + 1) ∷ []) (m + 1 + 2) (first_and h.3 (m + 1) (m + 1 + 2)) h.9)
@@ -222,7 +222,7 @@ module _ (p : Whole) (sites : List (Option Object)) (a : Annotation) (f n : ℕ)
       let all = (F ++ new ∷ []) ++ value ∷ [] in
       let wide : m + 3 ≡ n + length (F ++ new ∷ []) = omega (arith, third, one_more F new) in
       let flat : all ≡ held ++ x ∷ z ∷ new ∷ value ∷ [] = push F new (value ∷ []) ∙ (push D z (new ∷ value ∷ []) ∙ push held x (z ∷ new ∷ value ∷ [])) in
-      act p sites a f n gs classes meant sc h.4 at true row.StoreIndex (m ∷ (m + 1) ∷ (m + 2) ∷ []) (m + 3) (first q m) h.10 g (F ++ new ∷ []) hs (x ∷ z ∷ new ∷ []) value wide u.0 (three_at n g held x z new (value ∷ []) all m (m + 1) (m + 2) flat count refl refl) (loose_held n g bound m (omega (arith, count))) u.1 refl
+      act p sites a f n gs classes meant sc h.4 at true row.StoreIndex (m ∷ (m + 1) ∷ (m + 2) ∷ []) (m + 3) (first q m) h.10 g (F ++ new ∷ []) hs (x ∷ z ∷ new ∷ []) value wide u.0 (three_at n g held x z new (value ∷ []) all m (m + 1) (m + 2) flat count refl refl) (loose_held n g bound m (omega (arith, count))) u.1 refl u.3
       (λ k c. subst (λ s. Watched p a f n classes k s hs sc.hands sc.default) (sym (push D z (new ∷ []) ∙ push held x (z ∷ new ∷ []))) (watches p sites a f n gs classes meant sc hs held (x ∷ z ∷ new ∷ []) k c.0))
       (λ go k c. goes_keeping p a f n classes k q m g held (x ∷ z ∷ new ∷ value ∷ []) all flat count (led p a f n classes k q r g held (u.2 (goes_no_stop row.StoreIndex value refl go)) c.1))))
       (seq p a f gs (from_point p sites a f n gs classes meant h.3 ((F ++ old ∷ []) ++ y ∷ []) (λ g. part.Acts p sites a n hs node false o (old ∷ y ∷ []) g new j.9) j.8 j.14 (idle.op p sites a f n gs classes meant sc h.3 node false o ((m + 2) ∷ (m + 2 + 1) ∷ []) (m + 2 + 2) (first_and h.4 (m + 2) (m + 2 + 2)) h.11)
@@ -243,7 +243,7 @@ module _ (p : Whole) (sites : List (Option Object)) (a : Annotation) (f n : ℕ)
       deep k c = more_around p sites a f n gs classes meant sc hs (held ++ j.0 ∷ []) (j.1 ∷ []) k (more_around p sites a f n gs classes meant sc hs held (j.0 ∷ []) k c)
   augment sc hs node (Parts at parts) o l b m q lo hi h held count e r j =
       let value = a.element at in
-      act p sites a f n gs classes meant sc b at true row.Copy [] m (first q m) h e held hs [] value count j.0 refl refl j.1 refl (λ k c. c.0.0)
+      act p sites a f n gs classes meant sc b at true row.Copy [] m (first q m) h e held hs [] value count j.0 refl refl j.1 refl j.3 (λ k c. c.0.0)
       (λ go k c. goes_keeping p a f n classes k q m e held (value ∷ []) (held ++ value ∷ []) refl count (led p a f n classes k q r e held (j.2 (goes_no_stop row.Copy value refl go)) c.1))
 
   -- ---- exceptions
@@ -263,7 +263,7 @@ module _ (p : Whole) (sites : List (Option Object)) (a : Annotation) (f n : ℕ)
       (λ g seen.
       act p sites a f n gs classes meant sc b node false row.Raise (m ∷ []) (m + 1) (first never_block 0) h g (held ++ Inst 0 false ∷ []) hs (Inst 0 false ∷ []) NoneOnly (omega (arith, count, one_more held (Inst 0 false))) seen
       (ap (λ s. s ∷ []) (at_in n g held (Inst 0 false) (NoneOnly ∷ []) ((held ++ Inst 0 false ∷ []) ++ NoneOnly ∷ []) m (push held (Inst 0 false) (NoneOnly ∷ [])) count)) (loose_held n g bound m (omega (arith, count)))
-      (refl, (λ some. (((subst (λ t. Lower p a f n classes (given t NoneOnly) NoneOnly) (sym (sub_self p.tables.classes classes 0)) (self p a f n classes NoneOnly)).0, tt), tt)), λ f. record { sound = refl; shallow = omega arith }) tt
+      (refl, (λ some. (((subst (λ t. Lower p a f n classes (given t NoneOnly) NoneOnly) (sym (sub_self p.tables.classes classes 0)) (self p a f n classes NoneOnly)).0, tt), tt)), λ f. record { sound = refl; shallow = omega arith }) tt (unmarked p sites a f n gs classes meant node false row.Raise (Inst 0 false ∷ []) refl refl)
       (λ k c. watches p sites a f n gs classes meant sc hs held (Inst 0 false ∷ []) k (around k c)) (λ go k c. ((around k c).1, tt)))
 
   -- the element of the result is free, and it has its place
@@ -404,7 +404,7 @@ module _ (p : Whole) (sites : List (Option Object)) (a : Annotation) (f n : ℕ)
         where
           turn_in : (r : Point) → At r (λ g. See hs g × leave.LeavesAll p sites a f n hs body g (within x (With v) x.next)) → S h.4 h.5 (λ k. ((R sc hs held k × O k t x held) × (k b ≡ spot n v held bound)) × Q k h.2 r held) (λ k. Q k h.1 r held)
           turn_in Never u = so p a f gs (λ k c i. tt) (under p a f gs (λ k c. tt) (idle.op p sites a f n gs classes meant sc h.1 node false row.Turn [] m (first h.2 m) h.8))
-          turn_in (With g) u = still sc hs h.1 node m h.2 row.Turn h.8 (refl, (λ k. ((none, tt), tt)), λ f. record { sound = refl; shallow = omega arith }) held count g u.0 (λ k c. c.0.0.0) (λ k c. c.1)
+          turn_in (With g) u = still sc hs h.1 node m h.2 row.Turn h.8 (refl, (λ k. ((none, tt), tt)), λ f. record { sound = refl; shallow = omega arith }) (unmarked p sites a f n gs classes meant node false row.Turn [] refl refl) held count g u.0 (λ k c. c.0.0.0) (λ k c. c.1)
       stmt sc hs (For node target over body) b m t lo hi h held count e x j =
           so p a f gs (λ k c u. u.1)
           (seq p a f gs (for_turns sc hs node target over body (lines sc hs body) m t h.0 h.1 h.2 h.3 h.4 lo h.5 h.6 h.7 h.8 h.9 h.10 h.11 h.12 h.13 h.14 held count x j.0 j.1 j.3 j.4 j.7 j.2 j.6.0 j.6.1)

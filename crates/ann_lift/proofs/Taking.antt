@@ -18,7 +18,7 @@ use Rattle.ann_lift.proofs.Lists.{one_more, push}
 use Rattle.ann_lift.proofs.Lifted.{so, seq, straight}
 use Rattle.ann_lift.proofs.States.{held_at, bound, at_in, loose_held}
 use Rattle.ann_lift.proofs.Ways.{goes_keeping, goes_keeping_and}
-use Rattle.ann_lift.proofs.Acting.{act}
+use Rattle.ann_lift.proofs.Acting.{unmarked, act}
 use Rattle.ann_lift.proofs.Exprs.{goes_no_stop, On, Sees, watches}
 use Rattle.ann_lift.proofs.Forms.{Lf, I, A}
 
@@ -50,14 +50,14 @@ module _ (p : Whole) (sites : List (Option Object)) (a : Annotation) (f n : ℕ)
     unpacks seen last (part_of ∷ []) at w b lo hi h extra wide inside x y there along on =
         let i = first_item part_of [] x y along in
         let has = subst (λ (v : Shape). part.Operates p sites a n (row.Unpack part_of.count part_of.place) part_of.node (x ∷ []) v) (end_is i.0 y i.2) i.1 in
-        act p sites a f n gs classes meant sc b part_of.node false (row.Unpack part_of.count part_of.place) (at ∷ []) w (last w) h e (base ++ extra) hs (x ∷ []) y wide seen (ap (λ s. s ∷ []) (there y)) (loose_held n e bound at inside) has tt
+        act p sites a f n gs classes meant sc b part_of.node false (row.Unpack part_of.count part_of.place) (at ∷ []) w (last w) h e (base ++ extra) hs (x ∷ []) y wide seen (ap (λ s. s ∷ []) (there y)) (loose_held n e bound at inside) has tt (unmarked p sites a f n gs classes meant part_of.node false (row.Unpack part_of.count part_of.place) (x ∷ []) refl refl)
         (λ k c. watches p sites a f n gs classes meant sc hs base extra k (around k c)) (λ go k c. on w extra wide (goes_no_stop (row.Unpack 0 0) y refl go) k c)
     unpacks seen last (part_of ∷ next ∷ path) at w b lo hi h extra wide inside x y there along on =
         let i = first_item part_of (next ∷ path) x y along in
         let v = i.0 in
         so p a f gs (λ k c i. i.1)
         (seq p a f gs (unpacks seen last (next ∷ path) m (m + 1) h.0 lo h.1 h.2 (v ∷ []) (omega (arith, count, one_more base v)) (omega (arith, count)) v y (λ z. at_in n e base v (z ∷ []) ((base ++ v ∷ []) ++ z ∷ []) m (push base v (z ∷ [])) count) i.2 on)
-        (act p sites a f n gs classes meant sc b part_of.node false (row.Unpack part_of.count part_of.place) (at ∷ []) w (first_and h.0 m w) h.3 e (base ++ extra) hs (x ∷ []) v wide seen (ap (λ s. s ∷ []) (there v)) (loose_held n e bound at inside) i.1 tt
+        (act p sites a f n gs classes meant sc b part_of.node false (row.Unpack part_of.count part_of.place) (at ∷ []) w (first_and h.0 m w) h.3 e (base ++ extra) hs (x ∷ []) v wide seen (ap (λ s. s ∷ []) (there v)) (loose_held n e bound at inside) i.1 tt (unmarked p sites a f n gs classes meant part_of.node false (row.Unpack part_of.count part_of.place) (x ∷ []) refl refl)
         (λ k c. watches p sites a f n gs classes meant sc hs base extra k (around k c.0))
         (λ go k c. goes_keeping_and p a f n classes k h.0 m w e base (extra ++ v ∷ []) ((base ++ extra) ++ v ∷ []) v (append_assoc base extra (v ∷ [])) count (at_in n e (base ++ extra) v [] ((base ++ extra) ++ v ∷ []) w refl wide) (omega (arith, wide)) c.1)))
 

@@ -81,7 +81,7 @@ module _ (p : Whole) (sites : List (Option Object)) (a : Annotation) (f n : ℕ)
       (from_point p sites a f n gs classes meant h.0 item (λ g. part.Binds p sites a n hs (Name node i) g y r) taken j (idle.op p sites a f n gs classes meant sc h.0 node true row.Copy (h.1 ∷ []) h.2 (stored q keep i h.2) h.5)
       (λ g u.
       let there = item_there p sites a f n gs classes meant sc hs e C base m count (λ k c. c.0) at before behind x has placed path b h.0 h.1 h.2 h.3 hi h.6 y along g (z ∷ []) in
-      act p sites a f n gs classes meant sc h.0 node true row.Copy (h.1 ∷ []) h.2 (stored q keep i h.2) h.5 g item hs (y ∷ []) z wide u.0 (ap (λ s. s ∷ []) there.0) (loose_held n g bound h.1 there.1) u.1 refl
+      act p sites a f n gs classes meant sc h.0 node true row.Copy (h.1 ∷ []) h.2 (stored q keep i h.2) h.5 g item hs (y ∷ []) z wide u.0 (ap (λ s. s ∷ []) there.0) (loose_held n g bound h.1 there.1) u.1 refl u.3
       (λ k c. subst (λ l. Watched p a f n classes k l hs sc.hands sc.default) (sym item_is) (watches p sites a f n gs classes meant sc hs base extra k c.0))
       (λ go k c.
       goes_binding p a f n classes k q keep i h.2 g kept (dropped ++ (extra ++ z ∷ [])) (item ++ z ∷ []) z from_kept kept_is (at_in n g item z [] (item ++ z ∷ []) h.2 refl wide) (omega (arith, wide)) h.4 (led p a f n classes k q r (bind g i z) kept (u.2 (goes_no_stop row.Copy z refl go)) c.1))))
@@ -110,7 +110,7 @@ module _ (p : Whole) (sites : List (Option Object)) (a : Annotation) (f n : ℕ)
       ap (λ l. l ++ z ∷ []) item_is ∙ append_assoc all extra (z ∷ []) ∙ append_assoc base operands (extra ++ z ∷ []) ∙ ap (λ l. l ++ (operands ++ (extra ++ z ∷ []))) is ∙ append_assoc kept dropped (operands ++ (extra ++ z ∷ [])) in
       so p a f gs (λ c d e. e.1)
       (seq p a f gs
-      (act p sites a f n gs classes meant sc r node true o args w (first q keep) h g item hs (operands ++ y ∷ []) z wider j.0 (args_are g item z there.0 (extra, item_is)) (clear (spot n g (item ++ z ∷ []) bound) (loose_held n g bound v there.1) (λ j le. loose_held n g bound j le)) j.1 refl
+      (act p sites a f n gs classes meant sc r node true o args w (first q keep) h g item hs (operands ++ y ∷ []) z wider j.0 (args_are g item z there.0 (extra, item_is)) (clear (spot n g (item ++ z ∷ []) bound) (loose_held n g bound v there.1) (λ j le. loose_held n g bound j le)) j.1 refl j.3
       (λ c d. subst (λ l. Watched p a f n classes c l hs sc.hands sc.default) (sym (item_is ∙ append_assoc base operands extra)) (watches p sites a f n gs classes meant sc hs base (operands ++ extra) c d.0))
       (λ go c d. goes_keeping p a f n classes c q keep g kept (dropped ++ (operands ++ (extra ++ z ∷ []))) (item ++ z ∷ []) from_kept kept_is (led p a f n classes c q end g kept (j.2 (raises z go)) d.1)))
       (taken_at p sites a f n gs classes meant sc hs g (λ c. C c × E c r g item) all i wide (λ c d. around c d.0) at before (behind ++ operands) x has_all placed path (inr j.0) k r v w mid hi u y along (λ c d ok. d.1)))
@@ -206,7 +206,7 @@ module _ (p : Whole) (sites : List (Option Object)) (a : Annotation) (f n : ℕ)
           (seq p a f gs
           (from_point p sites a f n gs classes meant h.1 base (λ v. part.BindsItems p sites a n hs node ts (part.count ts) 0 v y r) j.1 j.3 (idle.items p sites a f n gs classes meant sc node ts (target_count (plain_targets ts)) 0 path at h.1 m h.2 h.5 h.6 h.9)
           (λ v u. under p a f gs (λ k c. (c.0.0, c.1)) (items (part.count ts) 0 path at h.1 m h.2 h.5 h.6 h.9 base before behind count x y has placed along v r u)))
-          (act p sites a f n gs classes meant sc h.0 node true row.Copy (h.3 ∷ []) h.4 (first h.1 m) h.10 g item hs (y ∷ []) z wide j.2.0 (ap (λ s. s ∷ []) there.0) (loose_held n g bound h.3 there.1) j.2.1.1 j.2.1.2
+          (act p sites a f n gs classes meant sc h.0 node true row.Copy (h.3 ∷ []) h.4 (first h.1 m) h.10 g item hs (y ∷ []) z wide j.2.0 (ap (λ s. s ∷ []) there.0) (loose_held n g bound h.3 there.1) j.2.1.1 j.2.1.2 j.2.1.4
           (λ k c. subst (λ l. Watched p a f n classes k l hs sc.hands sc.default) (sym item_is) (watches p sites a f n gs classes meant sc hs base extra k c.0.0.0))
           (λ go k c.
           let on = j.2.1.3 (goes_no_stop row.Copy z refl go) in

@@ -22,7 +22,7 @@ use Rattle.ann_lift.proofs.Lists.{one_more, push}
 use Rattle.ann_lift.proofs.Lifted.{under, so, seq, head}
 use Rattle.ann_lift.proofs.States.{held_at, bound, at_in, loose_held}
 use Rattle.ann_lift.proofs.Ways.{led_and, goes_keeping, goes_keeping_and}
-use Rattle.ann_lift.proofs.Acting.{act, fork, from_point}
+use Rattle.ann_lift.proofs.Acting.{unmarked, act, fork, from_point}
 use Rattle.ann_lift.proofs.Exprs.{goes_no_stop, On, Sees, watches}
 use Rattle.ann_lift.proofs.Forms.{Lf, Idle, I, T, A, OfOne, OfTest, OfAsk, put, put_dropped, leaf, meet}
 use Rattle.ann_lift.proofs.Idle as idle
@@ -164,7 +164,7 @@ module _ (p : Whole) (sites : List (Option Object)) (a : Annotation) (f n : ℕ)
 
         ask : {D : Spots → Type 0} {l r : ℕ} → marks.Acts meant gs f n sc b node false (row.HasItem step) (m ∷ (m + 1) ∷ []) (m + 2) (first_and u.0 (m + 2) (m + 2)) l r → ((at : Spots) → D at → C at) → ((at : Spots) → D at → E at u.0 h (walked held over place ++ t ∷ [])) → S l r D (λ at. E at b h (walked held over place))
         ask k from forked =
-            act p sites a f n gs classes meant sc b node false (row.HasItem step) (m ∷ (m + 1) ∷ []) (m + 2) (first_and u.0 (m + 2) (m + 2)) k h (walked held over place) hs (over ∷ place ∷ []) t wide seen (operands_are t) (loose_held n h bound m (omega (arith, count))) has tt
+            act p sites a f n gs classes meant sc b node false (row.HasItem step) (m ∷ (m + 1) ∷ []) (m + 2) (first_and u.0 (m + 2) (m + 2)) k h (walked held over place) hs (over ∷ place ∷ []) t wide seen (operands_are t) (loose_held n h bound m (omega (arith, count))) has tt (unmarked p sites a f n gs classes meant node false (row.HasItem step) (over ∷ place ∷ []) refl refl)
             (λ at c. watches p sites a f n gs classes meant sc hs held (over ∷ place ∷ []) at (around at (from at c)))
             (λ go at c. goes_keeping_and p a f n classes at u.0 (m + 2) (m + 2) h (walked held over place) (t ∷ []) (walked held over place ++ t ∷ []) t refl wide (there t) (omega (arith, count)) (forked at c))
 
@@ -179,13 +179,13 @@ module _ (p : Whole) (sites : List (Option Object)) (a : Annotation) (f n : ℕ)
             let z = i.2.1.0 in
             so p a f gs (λ at c e. e.1.1.1)
             (seq p a f gs
-            (act p sites a f n gs classes meant sc u.2 node false (row.Item step) (m ∷ (m + 1) ∷ []) (m + 2) (first_and turn (m + 2) (m + 2)) u.6 h (walked held over place) hs (over ∷ place ∷ []) z wide i.2.0 (operands_are z) (loose_held n h bound m (omega (arith, count))) i.2.1.1 tt
+            (act p sites a f n gs classes meant sc u.2 node false (row.Item step) (m ∷ (m + 1) ∷ []) (m + 2) (first_and turn (m + 2) (m + 2)) u.6 h (walked held over place) hs (over ∷ place ∷ []) z wide i.2.0 (operands_are z) (loose_held n h bound m (omega (arith, count))) i.2.1.1 tt i.2.1.4
             (λ at c. watches p sites a f n gs classes meant sc hs held (over ∷ place ∷ []) at (around at c))
             (λ go at c.
             let on = i.2.1.3 (goes_no_stop (row.Item step) z refl go) in
             goes_keeping_and p a f n classes at turn (m + 2) (m + 2) h (walked held over place) (z ∷ []) (walked held over place ++ z ∷ []) z refl wide (there z) (omega (arith, count)) (led_and p a f n classes at turn i.1 h (walked held over place) z i.0 on.0 on.1 (by at c))))
             (seq p a f gs
-            (act p sites a f n gs classes meant sc u.1 node false row.Turn [] (m + 2) (first u.2 (m + 2)) u.7 h (walked held over place) hs [] NoneOnly wide seen refl refl (refl, (λ k. ((none, tt), tt)), λ f. record { sound = refl; shallow = omega arith }) tt
+            (act p sites a f n gs classes meant sc u.1 node false row.Turn [] (m + 2) (first u.2 (m + 2)) u.7 h (walked held over place) hs [] NoneOnly wide seen refl refl (refl, (λ k. ((none, tt), tt)), λ f. record { sound = refl; shallow = omega arith }) tt (unmarked p sites a f n gs classes meant node false row.Turn [] refl refl)
             (λ at c. watches p sites a f n gs classes meant sc hs held (over ∷ place ∷ []) at (around at c.0))
             (λ go at c. goes_keeping p a f n classes at u.2 (m + 2) h (walked held over place) (NoneOnly ∷ []) (walked held over place ++ NoneOnly ∷ []) refl wide c.1))
             (seq p a f gs (fork p sites a f n gs classes meant u.0 (m + 2 + 1) (m + 2) (first u.1 (m + 2)) after u.8 h (walked held over place ++ t ∷ []) t (there t)

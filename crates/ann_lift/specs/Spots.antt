@@ -16,6 +16,7 @@ use Rattle.ann_rules.specs.Rules.{asked, goes, is_copy, is_narrowing}
 use Rattle.ann_rules.specs.Hold.{AllHold}
 use Rattle.flow_trees.specs.Tree.{Function}
 use Rattle.flow_trees.specs.Marks.{blocks_of}
+use Rattle.ann_tree.specs.Faults.{Flaw, shows}
 use Rattle.ann_tree.specs.Annotation.{Annotation, Environment, Passes}
 use Rattle.ann_tree.specs.Gives.{AreFormed}
 use Rattle.ann_tree.specs.Closed.{before}
@@ -63,23 +64,24 @@ module _ (p : Whole) (a : Annotation) (f : ℕ) where
   Catches at s m [] = Unit {0}
   Catches at s m (hand ∷ hands) = Goes at (as_class s m hand.0) hand.1 × Catches at s m hands
 
-  -- what an operation asks of its operands, its result and the parts of the program
-  pub record Operates (s : Spot) (m node : ℕ) (o : RowOp) (args : List ℕ) : Type 0 where
+  -- what an operation asks of its operands, its result, the parts of the program and the marks of its node
+  pub record Operates (s : Spot) (m node : ℕ) (value : Bool) (o : RowOp) (args : List ℕ) : Type 0 where
     pub reads : (is_copy o && first_unbound s args) ≡ true → Holds p.tables.classes a.parts (Set (p.places.unbound node))
     pub keeps : (is_narrowing o && first_unbound s args) ≡ true → s.unbound m ≡ true
     pub gives : some_nothing (map s.element args) ≡ false
         → Under p.tables.classes a.parts.same (asked p a.parts f o (map s.element args) node) (s.element m) × AllHold p.tables.classes a.parts (asks p a.parts o (map s.element args))
     pub formed : AreFormed (map s.element args) → IsFormed (s.element m)
+    pub marked : (flaw : Flaw) → some_nothing (map s.element args) ≡ false → shows p a.parts flaw value o (map s.element args) ≡ true → a.faulty flaw node ≡ true
 
   -- what a reached block with m inputs asks
-  abbrev pub Fits : Spots → Spot → ℕ → ℕ → Form → Type 0
-  Fits at s m node (Go jump) = Goes at s jump
-  Fits at s m node (Fork test so other_way) = (goes true (s.element test) ≡ true → Goes at s so) × (goes false (s.element test) ≡ true → Goes at s other_way)
-  Fits at s m node (Does o args covers hands default norm) =
-      Catches at s m hands × Goes at (as_class s m 0) default × Operates s m node o args × (goes_on o (s.element m) ≡ true → Goes at s norm)
-  Fits at s m node (Plain o jump) = Operates s m node o [] × (goes_on o (s.element m) ≡ true → Goes at s jump)
-  Fits at s m node GiveBack = Holds p.tables.classes a.parts (Up (p.places.result f) (s.element 0 ∷ []))
-  Fits at s m node GiveUp = Unit {0}
+  abbrev pub Fits : Spots → Spot → ℕ → ℕ → Bool → Form → Type 0
+  Fits at s m node value (Go jump) = Goes at s jump
+  Fits at s m node value (Fork test so other_way) = (goes true (s.element test) ≡ true → Goes at s so) × (goes false (s.element test) ≡ true → Goes at s other_way)
+  Fits at s m node value (Does o args covers hands default norm) =
+      Catches at s m hands × Goes at (as_class s m 0) default × Operates s m node value o args × (goes_on o (s.element m) ≡ true → Goes at s norm)
+  Fits at s m node value (Plain o jump) = Operates s m node value o [] × (goes_on o (s.element m) ≡ true → Goes at s jump)
+  Fits at s m node value GiveBack = Holds p.tables.classes a.parts (Up (p.places.result f) (s.element 0 ∷ []))
+  Fits at s m node value GiveUp = Unit {0}
 
   -- the result is in no conflict; what gives the value of its node has the node's element
   abbrev pub IsValue : Bool → ℕ → Shape → Type 0
@@ -97,7 +99,7 @@ module _ (p : Whole) (a : Annotation) (f : ℕ) where
       (base m node : ℕ) × (value : Bool) × (form : Form)
       × (block_in (slice_get gs.graphs f) b ≡ Some (numbered base m node value form))
       × Results (at b) m node value form
-      × ((at b).reached ≡ true → Fits at (at b) m node form)
+      × ((at b).reached ≡ true → Fits at (at b) m node value form)
 
   -- the block is reached with this environment of so many locals
   abbrev pub Starts : Spot → ℕ → Environment → Type 0

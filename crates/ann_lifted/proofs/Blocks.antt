@@ -24,12 +24,19 @@ use Rattle.ann_rules.specs.Rules as rule
 use Rattle.ann_rules.specs.Rules.{asked, goes, is_copy, is_narrowing}
 use Rattle.ann_rules.specs.Hold.{AllHold}
 use Rattle.ann_rules.proofs.Facts.{hold_append}
+use Rattle.ann_laws.proofs.Pairs.{and_left, and_right}
+use Rattle.ann_tree.specs.Faults.{Flaw, shows}
 use Rattle.ann_tree.specs.Annotation.{Annotation, Passes}
+use Rattle.ann_read.specs.Reading.{op_shows, ops_show}
 use Rattle.ann_lift.specs.Lift.{has_result}
 use Rattle.ann_lift.specs.Spots.{Spot, Spots, as_class, first_unbound, goes_on, Pass, Carries, Goes, Catches, Operates, Fits, Good}
-use Rattle.ann_lift.proofs.Alike.{asked_is, asks_is}
+use Rattle.ann_lift.proofs.Alike.{asked_is, asks_is, shows_is}
 use Rattle.ann_lifted.proofs.Tidy.{tidy, by_form, tidied, tidy_is, tidy_passes, tidy_below, inst_formed, all_formed, same_operands}
 use Rattle.ann_lifted.proofs.Speaking.{HasParts, all_hold_too, asks_speak}
+
+not_true : (b : Bool) → not b ≡ true → b ≡ false
+not_true true h = absurd (false≢true h)
+not_true false h = refl
 
 -- ---- the variables of a block
 
@@ -223,7 +230,7 @@ module _ (p : Whole) (a : Annotation) (gs : Graphs) (w : Assignment) (stand : Sp
       first_is [] own = refl
       first_is (i ∷ args) own = (here i own.0).1
 
-      module _ (o : RowOp) (args : List ℕ) (covers : Covers) (some : has_result form ≡ true) (own : AreOf vars (shift base args)) (does : Operates p a f s m node o args) where
+      module _ (o : RowOp) (args : List ℕ) (covers : Covers) (some : has_result form ≡ true) (own : AreOf vars (shift base args)) (does : Operates p a f s m node value o args) where
         abbrev operation : Op
         operation = act base m node value o args covers
 
@@ -270,6 +277,17 @@ module _ (p : Whole) (a : Annotation) (gs : Graphs) (w : Assignment) (stand : Sp
             by true e = tt
             by false e = reached_hold e
 
+        op_marked : (flaw : Flaw) (there_at : ℕ) → op_shows p w flaw there_at f operation ≡ true → a.faulty flaw there_at ≡ true
+        op_marked flaw there_at h =
+            let reads = map val (shift base args) in
+            let rest = and_right (node == there_at) (not (some_nothing reads) && shows p w flaw value o reads) h in
+            let here_is : node ≡ there_at = eqb-true node there_at (and_left (node == there_at) (not (some_nothing reads) && shows p w flaw value o reads) h) in
+            let some_are : some_nothing (map (tidied s).element args) ≡ false = ap some_nothing (sym (operands_are args own)) ∙ not_true (some_nothing reads) (and_left (not (some_nothing reads)) (shows p w flaw value o reads) rest) in
+            let same : map (tidied s).element args ≡ xs = same_operands s args (all_formed s args some_are) in
+            let shown : shows p a.parts flaw value o xs ≡ true =
+            sym (shows_is p w a.parts facts.has.alike flaw value o xs) ∙ ap (λ ys. shows p w flaw value o ys) (sym (operands_are args own ∙ same)) ∙ and_right (not (some_nothing reads)) (shows p w flaw value o reads) rest in
+            subst (λ i. a.faulty flaw i ≡ true) here_is (does.marked flaw (ap some_nothing (sym same) ∙ some_are) shown)
+
         onward : rule.goes_on p w f operation ≡ true → goes_on o (s.element m) ≡ true
         onward t = more (is_narrowing o) (subst (λ x. (is_narrowing o || not (is_nothing x)) ≡ true) result_is.0 t)
           where
@@ -295,7 +313,7 @@ module _ (p : Whole) (a : Annotation) (gs : Graphs) (w : Assignment) (stand : Sp
           by true e = linked s None base jump (plain_sources jump.places owns) (goes_to (went (ap (goes way) (sym (here test i).0) ∙ e)))
           by false e = tt
 
-    fits_hold : (b base m node : ℕ) (value : Bool) (form : Form) → Is b base m node value form → ReadsOwn (numbered base m node value form) → Fits p a f stand (stand b) m node form → All (rule.block_needs p w f graph (numbered base m node value form))
+    fits_hold : (b base m node : ℕ) (value : Bool) (form : Form) → Is b base m node value form → ReadsOwn (numbered base m node value form) → Fits p a f stand (stand b) m node value form → All (rule.block_needs p w f graph (numbered base m node value form))
     fits_hold b base m node value (Go jump) is own fits = linked (stand b) None base jump (plain_sources b base m node value (Go jump) is jump.places own.1) fits
     fits_hold b base m node value (Fork test so_way other_way) is own fits =
         hold_append k w (when (goes true (val (base + test))) (rule.link_needs p w f graph None (link base so_way))) (when (goes false (val (base + test))) (rule.link_needs p w f graph None (link base other_way)))
@@ -330,6 +348,35 @@ module _ (p : Whole) (a : Annotation) (gs : Graphs) (w : Assignment) (stand : Sp
               tt,
             ))
     fits_hold b base m node value GiveUp is own fits = tt
+
+    -- ---- the flaws that it shows
+
+    only : (b c : Bool) → (b || (c && false)) ≡ true → b ≡ true
+    only true c h = refl
+    only false true h = absurd (false≢true h)
+    only false false h = absurd (false≢true h)
+
+    fits_marked : (b base m node : ℕ) (value : Bool) (form : Form) → Is b base m node value form → ReadsOwn (numbered base m node value form) → Fits p a f stand (stand b) m node value form
+        → (flaw : Flaw) (there_at : ℕ) → ops_show p w flaw there_at f (numbered base m node value form).ops ≡ true → a.faulty flaw there_at ≡ true
+    fits_marked b base m node value (Go jump) is own fits flaw there_at h = absurd (false≢true h)
+    fits_marked b base m node value (Fork test so_way other_way) is own fits flaw there_at h = absurd (false≢true h)
+    fits_marked b base m node value (Does o args covers hands default norm) is own fits flaw there_at h =
+        let operation : Op = act base m node value o args covers in
+        op_marked b base m node value (Does o args covers hands default norm) is o args covers refl own.0.0 fits.2 flaw there_at (only (op_shows p w flaw there_at f operation) (rule.goes_on p w f operation) h)
+    fits_marked b base m node value (Plain o jump) is own fits flaw there_at h =
+        let operation : Op = act base m node value o [] no_covers in
+        op_marked b base m node value (Plain o jump) is o [] no_covers refl own.0.0 fits.0 flaw there_at (only (op_shows p w flaw there_at f operation) (rule.goes_on p w f operation) h)
+    fits_marked b base m node value GiveBack is own fits flaw there_at h = absurd (false≢true h)
+    fits_marked b base m node value GiveUp is own fits flaw there_at h = absurd (false≢true h)
+
+    pub block_marked : (b : ℕ) (code : Block) → slice_get graph.blocks b ≡ Some code → mark w (p.places.block f b) ≡ true → (flaw : Flaw) (there_at : ℕ) → ops_show p w flaw there_at f code.ops ≡ true → a.faulty flaw there_at ≡ true
+    block_marked b code is reached flaw there_at h =
+        let lt = there graph.blocks b code is in
+        let good = facts.good b lt in
+        let form_is : Some code ≡ Some (numbered good.0 good.1 good.2 good.3 good.4) = sym is ∙ (subst (λ (g : Option Graph). block_in g b ≡ Some (numbered good.0 good.1 good.2 good.3 good.4)) facts.found good.5) in
+        let same : code ≡ numbered good.0 good.1 good.2 good.3 good.4 = cc in
+        fits_marked b good.0 good.1 good.2 good.3 good.4 (is ∙ form_is) (subst (λ (c : Block). ReadsOwn c) same (facts.reads b code is)) (good.7 (sym (facts.blocks b lt) ∙ reached)) flaw there_at
+        (subst (λ (c : Block). ops_show p w flaw there_at f c.ops ≡ true) same h)
 
     pub block_holds : (b : ℕ) (code : Block) → slice_get graph.blocks b ≡ Some code → mark w (p.places.block f b) ≡ true → All (rule.block_needs p w f graph code)
     block_holds b code is reached =

@@ -1,6 +1,6 @@
 -- All that the graphs of a program ask holds where an annotation is lifted to them.
 use Rattle.std.proofs.Common.{◌≡◌, ◌+◌, ◌<◌, ◌≤◌, ℕ, zero, suc, Bool, true, false, List, [], ◌∷◌, ◌++◌, inl, inr, length, get_or, Option, Some, None, refl, sym, ap, ◌∙◌, arith, subst}
-use Rattle.std.specs.Prelude.{◌&&◌, ◌==◌, nat_lt, nat_le, if◌then◌else◌, slice_get}
+use Rattle.std.specs.Prelude.{◌&&◌, ◌||◌, ◌==◌, nat_lt, nat_le, if◌then◌else◌, slice_get}
 use Rattle.std.specs.List.{flat_map}
 use Rattle.std.proofs.lemmas.Bool.{eqb-true, false≢true}
 use Rattle.rpy_tree.specs.Value.{Object}
@@ -27,16 +27,18 @@ use Rattle.ann_rules.specs.Asks.{when, from_each, tie}
 use Rattle.ann_rules.specs.Rules as rule
 use Rattle.ann_rules.specs.Hold.{AllHold}
 use Rattle.ann_rules.proofs.Facts.{hold_append}
+use Rattle.ann_laws.proofs.Pairs.{and_left, and_right}
+use Rattle.ann_tree.specs.Faults.{Flaw}
 use Rattle.ann_tree.specs.Annotation.{Annotation, Environment}
 use Rattle.ann_tree.specs.Closed.{bound, before, IsClosed}
-use Rattle.ann_read.specs.Reading.{In, ops_of, HasGraphs, HasOps}
+use Rattle.ann_read.specs.Reading.{In, ops_of, ops_show, blocks_show, graphs_show, HasGraphs, HasOps}
 use Rattle.ann_lift.specs.Lift.{IsLift}
 use Rattle.ann_lift.specs.Spots.{Spot, Spots, calm, IsValue, Results, Good, Starts, Shown}
 use Rattle.ann_lift.proofs.Functions.{shown_in}
 use Rattle.ann_lifted.specs.Lifted.{ReadOwn, HasNoOthers, IsLifted}
 use Rattle.ann_lifted.proofs.Tidy.{tidy, tidied, tidy_formed, tidy_is, tidy_free, tidy_below}
 use Rattle.ann_lifted.proofs.Speaking.{HasParts, all_hold_too, entry_speak, sites_speak, entry_same, sites_same}
-use Rattle.ann_lifted.proofs.Blocks.{Facts, block_holds}
+use Rattle.ann_lifted.proofs.Blocks.{Facts, block_holds, block_marked}
 
 calm_below : (k : List ClassInfo) → IsTree k → (t : List ℕ) (x : Shape) → Below k t (calm x) x
 calm_below k tree t Nothing = below_self k tree t Nothing
@@ -235,6 +237,35 @@ module _ (p : Whole) (sites : List (Option Object)) (a : Annotation) (gs : Graph
           by true e = h zero code refl (subst (λ j. mark w (p.places.block f j) ≡ true) (sym (zero_is n)) e)
           by false e = tt
 
+      -- ---- the flaws that it shows
+
+      blocks_marked : (flaw : Flaw) (node n : ℕ) (bs : List Block) → ((i : ℕ) (code : Block) → slice_get bs i ≡ Some code → mark w (p.places.block f (n + i)) ≡ true → ops_show p w flaw node f code.ops ≡ true → a.faulty flaw node ≡ true)
+          → blocks_show p w flaw node f n bs ≡ true → a.faulty flaw node ≡ true
+      blocks_marked flaw node n [] one h = absurd (false≢true h)
+      blocks_marked flaw node n (code ∷ bs) one h =
+          by (mark w (p.places.block f n) && ops_show p w flaw node f code.ops) refl h
+          (blocks_marked flaw node (suc n) bs (λ i x e reached. one (suc i) x e (subst (λ j. mark w (p.places.block f j) ≡ true) (sym (suc_is n i)) reached)))
+        where
+          zero_is : (n : ℕ) → n + 0 ≡ n
+          zero_is n = omega arith
+
+          suc_is : (n i : ℕ) → n + suc i ≡ suc n + i
+          suc_is n i = omega arith
+
+          by : (c : Bool) → (mark w (p.places.block f n) && ops_show p w flaw node f code.ops) ≡ c → (c || blocks_show p w flaw node f (suc n) bs) ≡ true
+              → (blocks_show p w flaw node f (suc n) bs ≡ true → a.faulty flaw node ≡ true) → a.faulty flaw node ≡ true
+          by true e i rest =
+              one zero code refl (subst (λ j. mark w (p.places.block f j) ≡ true) (sym (zero_is n)) (and_left (mark w (p.places.block f n)) (ops_show p w flaw node f code.ops) e))
+              (and_right (mark w (p.places.block f n)) (ops_show p w flaw node f code.ops) e)
+          by false e i rest = rest i
+
+      graph_marked : (flaw : Flaw) (node : ℕ) → blocks_show p w flaw node f 0 graph.blocks ≡ true → a.faulty flaw node ≡ true
+      graph_marked flaw node h =
+          blocks_marked flaw node 0 graph.blocks (λ i code e reached. block_marked p a gs w (raw f) f graph facts i code e (subst (λ j. mark w (p.places.block f j) ≡ true) (zero_add i) reached) flaw node) h
+        where
+          zero_add : (i : ℕ) → zero + i ≡ i
+          zero_add i = omega arith
+
       tied : (o q : Op) → In (ops_of graph) o → In (ops_of graph) q → All (rule.tie_with p w f graph o q)
       tied o q i j = by (o.value && (q.value && (q.node == o.node))) refl
         where
@@ -348,6 +379,30 @@ module _ (p : Whole) (sites : List (Option Object)) (a : Annotation) (gs : Graph
         zero_add : (i : ℕ) → i ≡ zero + i
         zero_add i = omega arith
 
+    graphs_marked : (flaw : Flaw) (node n : ℕ) (graphs : List Graph) → ((f : ℕ) (graph : Graph) → slice_get graphs f ≡ Some graph → blocks_show p w flaw node (n + f) 0 graph.blocks ≡ true → a.faulty flaw node ≡ true)
+        → graphs_show p w flaw node n graphs ≡ true → a.faulty flaw node ≡ true
+    graphs_marked flaw node n [] one h = absurd (false≢true h)
+    graphs_marked flaw node n (graph ∷ graphs) one h =
+        by (blocks_show p w flaw node n 0 graph.blocks) refl h
+        (graphs_marked flaw node (suc n) graphs (λ f x e shown. one (suc f) x e (subst (λ i. blocks_show p w flaw node i 0 x.blocks ≡ true) (sym (suc_is n f)) shown)))
+      where
+        zero_is : (n : ℕ) → n + 0 ≡ n
+        zero_is n = omega arith
+
+        suc_is : (n i : ℕ) → n + suc i ≡ suc n + i
+        suc_is n i = omega arith
+
+        by : (c : Bool) → blocks_show p w flaw node n 0 graph.blocks ≡ c → (c || graphs_show p w flaw node (suc n) graphs) ≡ true → (graphs_show p w flaw node (suc n) graphs ≡ true → a.faulty flaw node ≡ true) → a.faulty flaw node ≡ true
+        by true e i rest = one zero graph refl (subst (λ i. blocks_show p w flaw node i 0 graph.blocks ≡ true) (sym (zero_is n)) e)
+        by false e i rest = rest i
+
+    all_marked : (flaw : Flaw) (node : ℕ) → graphs_show p w flaw node 0 p.graphs ≡ true → a.faulty flaw node ≡ true
+    all_marked flaw node h =
+        graphs_marked flaw node 0 p.graphs (λ f graph is shown. let g = function_of f graph is in graph_marked f graph is g.0 g.1 flaw node (subst (λ i. blocks_show p w flaw node i 0 graph.blocks ≡ true) (zero_add f) shown)) h
+      where
+        zero_add : (i : ℕ) → zero + i ≡ i
+        zero_add i = omega arith
+
     pub is_lifted : IsLifted p a w
     is_lifted = record {
       closed = each_need k w (rule.needs p w) needs_hold;
@@ -355,4 +410,5 @@ module _ (p : Whole) (sites : List (Option Object)) (a : Annotation) (gs : Graph
       values = λ f graph o is i value.
           let g = function_of f graph is in
           subst (λ x. Below k w.same x (a.element o.node)) (sym ((op_result f graph is g.0 g.1 o i).value value)) (tidy_below k w.same (calm (a.element o.node)) (a.element o.node) (calm_below k classes w.same (a.element o.node)));
+      flaws = all_marked;
     }

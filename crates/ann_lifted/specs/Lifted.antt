@@ -10,8 +10,9 @@ use Rattle.ann_lattice.specs.Join.{is_clash}
 use Rattle.ann_lattice.specs.Assign.{Assignment, at, Closed}
 use Rattle.ann_rules.specs.Program.{Whole}
 use Rattle.ann_rules.specs.Rules.{rules}
+use Rattle.ann_tree.specs.Faults.{Flaw}
 use Rattle.ann_tree.specs.Annotation.{Annotation}
-use Rattle.ann_read.specs.Reading.{In, ops_of}
+use Rattle.ann_read.specs.Reading.{In, ops_of, graphs_show}
 
 -- the blocks of a program's graphs read their own variables alone
 abbrev pub ReadOwn : Whole → Type 0
@@ -22,8 +23,9 @@ abbrev pub HasNoOthers : Whole → Assignment → Type 0
 HasNoOthers p w = (f b : ℕ) → block_in (slice_get p.graphs f) b ≡ None → length w.marks ≤ p.places.block f b
 
 -- The assignment is closed under all that the graphs ask; the result of an operation is in no conflict, and below the element of the node where it
--- gives the node's value.
+-- gives the node's value; and a flaw that a graph shows is marked at its node.
 pub record IsLifted (p : Whole) (a : Annotation) (w : Assignment) : Type 0 where
   pub closed : Closed p.tables.classes (rules p) w
   pub free : (f : ℕ) (graph : Graph) (o : Op) → slice_get p.graphs f ≡ Some graph → In (ops_of graph) o → is_clash (at w (p.places.variable f o.result)) ≡ false
   pub values : (f : ℕ) (graph : Graph) (o : Op) → slice_get p.graphs f ≡ Some graph → In (ops_of graph) o → o.value ≡ true → Below p.tables.classes w.same (at w (p.places.variable f o.result)) (a.element o.node)
+  pub flaws : (flaw : Flaw) (node : ℕ) → graphs_show p w flaw node 0 p.graphs ≡ true → a.faulty flaw node ≡ true

@@ -28,7 +28,7 @@ use Rattle.ann_places.proofs.Spotting.{among_left, among_right, is_placed}
 use Rattle.ann_tree.specs.Annotation.{Annotation}
 use Rattle.ann_tree.specs.Closed.{HasPlaces, IsPlacedIn, IsClosed}
 use Rattle.ann_read.specs.Reading.{In, IsReading, HasGraphs, HasCells, HasSpots}
-use Rattle.ann_read.proofs.Whole.{closed_trees}
+use Rattle.ann_read.proofs.Whole.{Premises, closed_trees}
 
 -- ---- lists
 
@@ -241,17 +241,19 @@ module _ (p : Program) (gs : Graphs) (t : Tables) where
         by_function f None e = tt
         by_function f (Some function) e = of_function f function e
 
+    pub premises : HasClasses t → Closed t.classes (rules (whole (plan p gs t))) a.parts → Free (spots (plan p gs t)) a.parts → IsReading (whole (plan p gs t)) a
+        → Premises program gs (whole (plan p gs t)) functions (spots (plan p gs t)) (start (planned p gs t)) a
+    premises classes closed free reading = record {
+      graphs = graphs;
+      classes = classes;
+      placed = is_placed p gs t;
+      fits = fits;
+      cells = has_cells a.parts all_cells all_marks;
+      spotted = has_spots;
+      closed = closed;
+      free = free;
+      reading = reading;
+    }
+
     pub closed_plan : HasClasses t → Closed t.classes (rules (whole (plan p gs t))) a.parts → Free (spots (plan p gs t)) a.parts → IsReading (whole (plan p gs t)) a → IsClosed (whole (plan p gs t)) program.sites a functions
-    closed_plan classes closed free reading =
-        closed_trees program gs (whole (plan p gs t)) functions (spots (plan p gs t)) (start (planned p gs t)) a
-        (record {
-          graphs = graphs;
-          classes = classes;
-          placed = is_placed p gs t;
-          fits = fits;
-          cells = has_cells a.parts all_cells all_marks;
-          spotted = has_spots;
-          closed = closed;
-          free = free;
-          reading = reading;
-        }) has_places
+    closed_plan classes closed free reading = closed_trees program gs (whole (plan p gs t)) functions (spots (plan p gs t)) (start (planned p gs t)) a (premises classes closed free reading) has_places

@@ -22,10 +22,11 @@ use Rattle.ann_rules.specs.Rules as rule
 use Rattle.ann_rules.specs.Hold.{AllHold}
 use Rattle.ann_rules.proofs.Facts.{hold_left, hold_right}
 use Rattle.ann_rules.proofs.Flows.{asked_down, asks_too}
+use Rattle.ann_tree.proofs.Faulty.{shows_asked}
 use Rattle.ann_tree.specs.Annotation.{Annotation, Environment, Point, Handler, elements_with, caught, with_class, Seen}
 use Rattle.ann_tree.specs.Gives as part
 use Rattle.ann_tree.specs.Gives.{is_raise}
-use Rattle.ann_read.proofs.Links.{Known, IsKept, IsAlike, k, u, Fits, Onward, passes_on, on, self, formed_var, var, loose, Enters, Inside, inside, Linked, stands, needs_of, go_first, go_and, throw_first, throw_and, throw_stored}
+use Rattle.ann_read.proofs.Links.{Known, IsKept, IsShown, IsAlike, k, u, Fits, Onward, passes_on, on, self, formed_var, var, loose, Enters, Inside, inside, Linked, stands, needs_of, go_first, go_and, throw_first, throw_and, throw_stored}
 use Rattle.ann_read.proofs.Points.{Agree, agree_with, agree_on, enters_less, LeadsTo, Towards, Onto}
 
 pub no : false ≡ true → ⊥
@@ -37,7 +38,7 @@ not_false false e = sym e
 
 module _ (c : Known) where
   abbrev pub annotation : Annotation
-  annotation = record { parts = c.w; element = c.element }
+  annotation = record { parts = c.w; element = c.element; faulty = c.faulty }
 
   -- ---- where exceptions go
 
@@ -82,6 +83,7 @@ module _ (c : Known) where
     pub op : AllHold (k c) c.w (rule.op_needs c.p c.w c.f (act base m node value o args sc.covers))
     pub onward : rule.goes_on c.p c.w c.f (act base m node value o args sc.covers) ≡ true → Linked c None base norm
     pub kept : IsKept c.p c.w c.element c.f (act base m node value o args sc.covers)
+    pub shown : IsShown c.p c.w c.faulty c.f (act base m node value o args sc.covers)
 
   pub acted : (sc : Scope) (b node : ℕ) (value : Bool) (o : RowOp) (args : List ℕ) (m : ℕ) (norm : Jump) (lo hi : ℕ) (e : Environment) (h : ℕ → Element)
       → (has : marks.Acts c.program c.graphs c.f c.n sc b node value o args m norm lo hi) → c.n ≤ m → Enters c b m e h → Acted sc has.0.0 m node value o args norm e h
@@ -105,6 +107,7 @@ module _ (c : Known) where
         op = hold_left (k c) c.w op_needs (when goes norm_needs) does;
         onward = λ t. subst (λ b. AllHold (k c) c.w (when b norm_needs)) t (hold_right (k c) c.w op_needs (when goes norm_needs) does);
         kept = c.kept b (numbered base m node value shape) operation [] is refl;
+        shown = c.shown b (numbered base m node value shape) operation [] is refl (enters.reached (c.placed_blocks b (numbered base m node value shape) is));
       }
 
   -- operands, each below the variable at its place
@@ -163,6 +166,12 @@ module _ (c : Known) where
 
     pub operates : (xs : List Element) (z : Element) → Given base args xs → is_clash z ≡ false → IsFormed z → Fits c result z → part.Operates c.p c.program.sites annotation c.n o node xs z
     operates xs z g free formed above = (free, (λ is. (under_on (rule.asked c.p c.w 0 o xs node) result z above (asked_of xs g is), asks_of xs g is)), λ f. formed)
+
+    -- a flaw that it shows for smaller operands it shows for its own
+    pub marked : (xs : List Element) → Given base args xs → part.MarksFaults c.p c.program.sites annotation c.n node value o xs
+    marked xs g flaw is shown =
+        does.shown flaw (reached_too xs g is)
+        (shows_asked c.p c.w c.w c.facts c.f flaw value o xs given node result (operands_of base args xs g) does.kept.free is ((reached_part (reached_too xs g is)).0 does.kept.cell) shown)
 
     -- ---- what it leads to
 
@@ -232,9 +241,10 @@ module _ (c : Known) where
             ch.z,
             operates sc base m node value o args norm e h does xs ch.z given_by ch.free ch.formed ch.above,
             ch.is,
-            λ t.
-                let parts = or_parts (is_raise o) (not (rule.is_narrowing o) && is_nothing ch.z) t in
-                lead ch.z parts.0 ch.below (unstopped ch.z ch.below (and_cases (not (rule.is_narrowing o)) (is_nothing ch.z) parts.1)),
+            (λ t.
+            let parts = or_parts (is_raise o) (not (rule.is_narrowing o) && is_nothing ch.z) t in
+            lead ch.z parts.0 ch.below (unstopped ch.z ch.below (and_cases (not (rule.is_narrowing o)) (is_nothing ch.z) parts.1))),
+            marked sc base m node value o args norm e h does xs given_by,
           ),
         )
 
@@ -264,7 +274,8 @@ module _ (c : Known) where
         let alike = does.kept.node is in (
           seen_by,
           operates sc base m node value o args norm e h does xs (c.element node) given_by alike.free alike.formed alike.back,
-          λ t. lead alike.there (live sc base m node value o args norm e h does (c.element node) t alike.there),
+          (λ t. lead alike.there (live sc base m node value o args norm e h does (c.element node) t alike.there)),
+          subst (λ b. part.MarksFaults c.p c.program.sites annotation c.n node b o xs) is (marked sc base m node value o args norm e h does xs given_by),
         )
 
   -- ---- locals that may be unbound

@@ -18,4 +18,5 @@ pub mod Loops
 pub mod Finals
 pub mod Functions
 pub mod Whole
+pub mod Flaws
 pub mod Readings

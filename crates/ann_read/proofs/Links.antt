@@ -1,5 +1,5 @@
 -- What a reached block of a graph passes on, in an assignment in which all that its graph asks holds.
-use Rattle.std.proofs.Common.{◌≡◌, ◌+◌, ◌<◌, ◌≤◌, ℕ, zero, suc, Bool, true, false, List, [], ◌∷◌, ◌++◌, length, get_or, Option, Some, None, refl, sym, ap, ◌∙◌, arith, subst}
+use Rattle.std.proofs.Common.{◌≡◌, ◌+◌, ◌<◌, ◌≤◌, ℕ, zero, suc, Bool, true, false, List, [], ◌∷◌, ◌++◌, length, map, get_or, Option, Some, None, refl, sym, ap, ◌∙◌, arith, subst}
 use Rattle.std.specs.Prelude.{◌==◌, ◌&&◌, not, if◌then◌else◌, slice_get, slice_set}
 use Rattle.std.proofs.lemmas.Bool.{eqb-true, eqb-false, eq-eqb, ne_eqb}
 use Rattle.rpy_tree.specs.declared.program.ClassInfo.{ClassInfo}
@@ -13,6 +13,7 @@ use Rattle.flow_stands.specs.Places.{range, shift, Jump, first, first_and, store
 use Rattle.ann_lattice.specs.Shape.{Shape as Element, Inst}
 use Rattle.ann_lattice.specs.Order.{Below}
 use Rattle.ann_lattice.specs.Join.{is_clash}
+use Rattle.ann_lattice.specs.Kind.{some_nothing}
 use Rattle.ann_lattice.specs.Laws.{IsFormed}
 use Rattle.ann_lattice.specs.Assign.{Assignment, at, mark, Set}
 use Rattle.ann_lattice.proofs.Ordered.{below_self, below_on}
@@ -21,6 +22,7 @@ use Rattle.ann_rules.specs.Asks.{when}
 use Rattle.ann_rules.specs.Rules as rule
 use Rattle.ann_rules.specs.Hold.{AllHold}
 use Rattle.ann_rules.proofs.Facts.{Facts, hold_left, hold_right}
+use Rattle.ann_tree.specs.Faults.{Flaw, shows}
 use Rattle.ann_tree.specs.Annotation.{Environment, Passes, elements_with, bind, narrow}
 use Rattle.ann_read.proofs.Places.{range_length, shift_length, shift_at, first_at, and_at, and_last, and_length, set_length, set_here, set_there, with_cases}
 
@@ -38,7 +40,12 @@ pub record IsKept (p : Whole) (w : Assignment) (element : ℕ → Element) (f : 
   pub free : is_clash (at w (p.places.variable f o.result)) ≡ false
   pub node : o.value ≡ true → IsAlike p w (element o.node) (at w (p.places.variable f o.result))
 
--- A program with its graphs, an assignment, an element for each node, and a function with n locals: all that its graph asks holds, and what it
+-- the node is marked where the operation shows a flaw
+abbrev pub IsShown : Whole → Assignment → (Flaw → ℕ → Bool) → ℕ → Op → Type 0
+IsShown p w faulty f o =
+    (flaw : Flaw) → some_nothing (map (rule.value p w f) o.args) ≡ false → shows p w flaw o.value o.op (map (rule.value p w f) o.args) ≡ true → faulty flaw o.node ≡ true
+
+-- A program with its graphs, an assignment, an element and marks of flaws for each node, and a function with n locals: all that its graph asks holds, and what it
 -- speaks of has its place.
 pub record Known : Type 0 where
   pub program : tree.Program
@@ -46,6 +53,7 @@ pub record Known : Type 0 where
   pub p : Whole
   pub w : Assignment
   pub element : ℕ → Element
+  pub faulty : Flaw → ℕ → Bool
   pub f : ℕ
   pub n : ℕ
   pub graph : Graph
@@ -57,6 +65,7 @@ pub record Known : Type 0 where
   pub placed_inputs : (b j : ℕ) → j < length (rule.inputs_of (slice_get graph.blocks b))
       → (p.places.variable f (get_or (rule.inputs_of (slice_get graph.blocks b)) j 0) < length w.cells) × (p.places.loose f (get_or (rule.inputs_of (slice_get graph.blocks b)) j 0) < length w.marks)
   pub kept : (b : ℕ) (code : Block) (o : Op) (os : List Op) → slice_get graph.blocks b ≡ Some code → code.ops ≡ o ∷ os → IsKept p w element f o
+  pub shown : (b : ℕ) (code : Block) (o : Op) (os : List Op) → slice_get graph.blocks b ≡ Some code → code.ops ≡ o ∷ os → mark w (p.places.block f b) ≡ true → IsShown p w faulty f o
 
 module _ (c : Known) where
   abbrev pub k : List ClassInfo

@@ -32,13 +32,14 @@ module _ (c : Known) (hs : List Handler) where
   stopped false z x plain t fits none = sym t ∙ nothing_down (k c) (u c) z x fits none
 
   acts_stop : (node : ℕ) (value : Bool) (o : RowOp) (xs : List Element) (e : Environment) (x : Element) (q : Point) → is_narrowing o ≡ false → is_nothing x ≡ true → InTree node value o xs e x q → InTree node value o xs e x Never
-  acts_stop node value o xs e x q plain none (seen, (z, does, is, on)) = (
+  acts_stop node value o xs e x q plain none (seen, (z, does, is, on, marked)) = (
     seen,
     (
       z,
       does,
       is,
-      λ t. let parts = or_parts (is_raise o) (not (is_narrowing o) && is_nothing z) t in contrary (stopped (is_narrowing o) z x plain parts.1 (on t).0.0 none),
+      (λ t. let parts = or_parts (is_raise o) (not (is_narrowing o) && is_nothing z) t in contrary (stopped (is_narrowing o) z x plain parts.1 (on t).0.0 none)),
+      marked,
     ),
   )
 

@@ -93,6 +93,7 @@ is_reading p w apart = record {
       (reads p w o.node zero p.graphs f graph o is inside g
       (λ j other q there inside2 g2.
       apart j f other graph q o there is inside2 inside (and_left q.value (q.node == o.node) g2) value (eqb-true q.node o.node (and_right q.value (q.node == o.node) g2))));
+  of_flaws = λ flaw node shown. shown;
 }
 
 -- ---- nodes of two functions

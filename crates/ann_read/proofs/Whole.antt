@@ -1,6 +1,6 @@
 -- A closed assignment of the graphs, free of conflict, gives a closed annotation of the trees, free of conflict.
-use Rattle.std.proofs.Common.{◌≡◌, ◌+◌, ◌<◌, ℕ, zero, suc, Bool, true, false, List, [], ◌∷◌, ◌++◌, ◌⊎◌, inl, inr, length, get_or, Option, Some, None, refl, sym, ap, ◌∙◌, arith, subst}
-use Rattle.std.specs.Prelude.{slice_get, ◌==◌, ◌&&◌, if◌then◌else◌}
+use Rattle.std.proofs.Common.{◌≡◌, ◌+◌, ◌<◌, ℕ, zero, suc, Bool, true, false, List, [], ◌∷◌, ◌++◌, ◌⊎◌, inl, inr, length, map, get_or, Option, Some, None, refl, sym, ap, ◌∙◌, arith, subst}
+use Rattle.std.specs.Prelude.{slice_get, ◌==◌, ◌&&◌, not, if◌then◌else◌}
 use Rattle.std.specs.List.{flat_map}
 use Rattle.std.proofs.lemmas.Bool.{eq-eqb}
 use Rattle.rpy_tree.specs.declared.program.ClassInfo.{ClassInfo}
@@ -19,30 +19,32 @@ use Rattle.flow_trees.specs.Marks as marks
 use Rattle.ann_element.specs.Sites.{leader}
 use Rattle.ann_lattice.specs.Order.{Below}
 use Rattle.ann_lattice.specs.Join.{is_clash}
+use Rattle.ann_lattice.specs.Kind.{some_nothing}
 use Rattle.ann_lattice.specs.Laws.{IsFormed}
 use Rattle.ann_lattice.specs.Assign.{Assignment, at, mark, Need, Set, Holds, Closed, Free, Fits}
 use Rattle.ann_lattice.proofs.Ordered.{below_self}
 use Rattle.ann_laws.specs.Rows.{HasClasses}
-use Rattle.ann_laws.proofs.Pairs.{both}
+use Rattle.ann_laws.proofs.Pairs.{both, or_first, or_second}
 use Rattle.ann_rules.specs.Program.{Whole}
 use Rattle.ann_rules.specs.Asks.{when, from_each, tie}
 use Rattle.ann_rules.specs.Rules as rule
 use Rattle.ann_rules.specs.Hold.{AllHold, OpSpots, BlockSpots, GraphSpots, IsPlaced}
 use Rattle.ann_rules.proofs.Facts.{Facts, Level, hold_left, hold_right}
+use Rattle.ann_tree.specs.Faults.{Flaw, shows}
 use Rattle.ann_tree.specs.Annotation.{Annotation}
 use Rattle.ann_tree.specs.Closed.{bound, IsClosedIn, IfFunction, HasPlaces, IsClosed}
-use Rattle.ann_read.specs.Reading.{In, ops_of, IsReading, HasGraphs, HasCells, HasSpots}
-use Rattle.ann_read.proofs.Links.{Known, IsKept, IsAlike}
+use Rattle.ann_read.specs.Reading.{In, ops_of, op_shows, ops_show, blocks_show, graphs_show, IsReading, HasGraphs, HasCells, HasSpots}
+use Rattle.ann_read.proofs.Links.{Known, IsKept, IsShown, IsAlike}
 use Rattle.ann_read.proofs.Functions.{Started, body_closed}
 
 -- ---- lists of operations
 
-in_left : (os qs : List Op) (o : Op) → In os o → In (os ++ qs) o
+pub in_left : (os qs : List Op) (o : Op) → In os o → In (os ++ qs) o
 in_left [] qs o h = absurd h
 in_left (x ∷ os) qs o (inl e) = inl e
 in_left (x ∷ os) qs o (inr h) = inr (in_left os qs o h)
 
-in_right : (os qs : List Op) (o : Op) → In qs o → In (os ++ qs) o
+pub in_right : (os qs : List Op) (o : Op) → In qs o → In (os ++ qs) o
 in_right [] qs o h = h
 in_right (x ∷ os) qs o h = inr (in_right os qs o h)
 
@@ -123,6 +125,34 @@ module _ (p : Whole) (spots : ℕ → Bool) (n : ℕ) where
       let same : suc m + i ≡ m + suc i = omega arith in
       subst (λ l. BlockSpots p spots n l graph.blocks) same (graph_spots (suc m) gs i graph h.1 is)
 
+-- ---- flaws
+
+module _ (p : Whole) (w : Assignment) (flaw : Flaw) (node : ℕ) where
+  block_shows : (f n b : ℕ) (bs : List Block) (code : Block) → slice_get bs b ≡ Some code → mark w (p.places.block f (n + b)) ≡ true → ops_show p w flaw node f code.ops ≡ true
+      → blocks_show p w flaw node f n bs ≡ true
+  block_shows f n b [] code is set h = cc
+  block_shows f n zero (x ∷ bs) code is set h =
+      let same : x ≡ code = cc in
+      let z : n + zero ≡ n = omega arith in
+      or_first (mark w (p.places.block f n) && ops_show p w flaw node f x.ops) (blocks_show p w flaw node f (suc n) bs)
+      (both (mark w (p.places.block f n)) (ops_show p w flaw node f x.ops) (subst (λ i. mark w (p.places.block f i) ≡ true) z set) (subst (λ (y : Block). ops_show p w flaw node f y.ops ≡ true) (sym same) h))
+  block_shows f n (suc b) (x ∷ bs) code is set h =
+      let z : n + suc b ≡ suc n + b = omega arith in
+      or_second (mark w (p.places.block f n) && ops_show p w flaw node f x.ops) (blocks_show p w flaw node f (suc n) bs)
+      (block_shows f (suc n) b bs code is (subst (λ i. mark w (p.places.block f i) ≡ true) z set) h)
+
+  graph_shows : (n f : ℕ) (gs : List Graph) (graph : Graph) → slice_get gs f ≡ Some graph → blocks_show p w flaw node (n + f) 0 graph.blocks ≡ true → graphs_show p w flaw node n gs ≡ true
+  graph_shows n f [] graph is h = cc
+  graph_shows n zero (x ∷ gs) graph is h =
+      let same : x ≡ graph = cc in
+      let z : n + zero ≡ n = omega arith in
+      or_first (blocks_show p w flaw node n 0 x.blocks) (graphs_show p w flaw node (suc n) gs)
+      (subst (λ i. blocks_show p w flaw node i 0 x.blocks ≡ true) z (subst (λ (y : Graph). blocks_show p w flaw node (n + zero) 0 y.blocks ≡ true) (sym same) h))
+  graph_shows n (suc f) (x ∷ gs) graph is h =
+      let z : n + suc f ≡ suc n + f = omega arith in
+      or_second (blocks_show p w flaw node n 0 x.blocks) (graphs_show p w flaw node (suc n) gs)
+      (graph_shows (suc n) f gs graph is (subst (λ i. blocks_show p w flaw node i 0 graph.blocks ≡ true) z h))
+
 -- ---- the whole
 
 module _ (program : tree.Program) (gs : Graphs) (p : Whole) (functions : List Function) (spots : ℕ → Bool) (start : Assignment) (a : Annotation) where
@@ -170,7 +200,7 @@ module _ (program : tree.Program) (gs : Graphs) (p : Whole) (functions : List Fu
 
   -- ---- the classes of sites
 
-  in_sites : (s : ℕ) → leader w.same s < length p.sites
+  pub in_sites : (s : ℕ) → leader w.same s < length p.sites
   in_sites s = let l : leader w.same s < length start.same = h.fits.table.sites s in let e = h.placed.sites in omega (arith, l, e)
 
   item_in : (s : ℕ) → s < length p.sites → p.places.item s < length w.cells
@@ -208,7 +238,7 @@ module _ (program : tree.Program) (gs : Graphs) (p : Whole) (functions : List Fu
       (hold_right k w (tie p w (p.places.item s) (p.places.item (leader w.same s)))
       (tie p w (p.places.key s) (p.places.key (leader w.same s)) ++ when (mark w (p.places.loaded s)) (rule.contents p w s t.0.dict t.0.prebuilt)) t.1))
 
-  facts : Facts p w w
+  pub facts : Facts p w w
   facts = record {
     classes = h.classes;
     less = record { same = record { by = λ s v e. e }; cells = λ d. below_self k h.classes.tree w.same (at w d); marks = λ m e. e };
@@ -227,7 +257,7 @@ module _ (program : tree.Program) (gs : Graphs) (p : Whole) (functions : List Fu
   -- ---- a graph
 
   module _ (f : ℕ) (graph : Graph) (is : slice_get p.graphs f ≡ Some graph) where
-    graph_holds : AllHold k w (rule.graph_needs p w f graph)
+    pub graph_holds : AllHold k w (rule.graph_needs p w f graph)
     graph_holds = let z : zero + f ≡ f = omega arith in subst (λ m. AllHold k w (rule.graph_needs p w m graph)) z (numbered_at k w p (rule.graph_needs p w) zero p.graphs f graph graphs_hold is)
 
     spot_of : (o : Op) → In (ops_of graph) o → Spot p spots (length start.cells) f o
@@ -235,10 +265,10 @@ module _ (program : tree.Program) (gs : Graphs) (p : Whole) (functions : List Fu
         let z : zero + f ≡ f = omega arith in
         block_spot p spots (length start.cells) f graph.blocks o (subst (λ m. BlockSpots p spots (length start.cells) m graph.blocks) z (graph_spots p spots (length start.cells) zero p.graphs f graph h.placed.results is)) i
 
-    cell_of : (o : Op) → In (ops_of graph) o → p.places.variable f o.result < length w.cells
+    pub cell_of : (o : Op) → In (ops_of graph) o → p.places.variable f o.result < length w.cells
     cell_of o i = let s = spot_of o i in let l = s.1 in let e = h.fits.cells in omega (arith, l, e)
 
-    free_of : (o : Op) → In (ops_of graph) o → is_clash (at w (p.places.variable f o.result)) ≡ false
+    pub free_of : (o : Op) → In (ops_of graph) o → is_clash (at w (p.places.variable f o.result)) ≡ false
     free_of o i = h.free (p.places.variable f o.result) (spot_of o i).0
 
     -- the results of one node are level
@@ -269,6 +299,19 @@ module _ (program : tree.Program) (gs : Graphs) (p : Whole) (functions : List Fu
         let i = in_block graph.blocks b code o there (some_op code.ops o os first) in
         record { cell = cell_of o i; loose = h.cells.results f graph o is i; free = free_of o i; node = λ value. alike o i value }
 
+    shown : (b : ℕ) (code : Block) (o : Op) (os : List Op) → slice_get graph.blocks b ≡ Some code → code.ops ≡ o ∷ os → mark w (p.places.block f b) ≡ true → IsShown p w a.faulty f o
+    shown b code o os at_b ops_are set flaw some shows_it =
+        let zf : f ≡ zero + f = omega arith in
+        let zb : b ≡ zero + b = omega arith in
+        h.reading.of_flaws flaw o.node
+        (graph_shows p w flaw o.node 0 f p.graphs graph is
+        (subst (λ i. blocks_show p w flaw o.node i 0 graph.blocks ≡ true) zf
+        (block_shows p w flaw o.node f 0 b graph.blocks code at_b (subst (λ i. mark w (p.places.block f i) ≡ true) zb set)
+        (subst (λ l. ops_show p w flaw o.node f l ≡ true) (sym ops_are)
+        (or_first (op_shows p w flaw o.node f o) (rule.goes_on p w f o && ops_show p w flaw o.node f os)
+        (both (o.node == o.node) (not (some_nothing (map (rule.value p w f) o.args)) && shows p w flaw o.value o.op (map (rule.value p w f) o.args)) (eq-eqb o.node o.node refl)
+        (both (not (some_nothing (map (rule.value p w f) o.args))) (shows p w flaw o.value o.op (map (rule.value p w f) o.args)) (ap not some) shows_it)))))))
+
     inputs_placed : (b j : ℕ) (o : Option Block) → slice_get graph.blocks b ≡ o → j < length (rule.inputs_of o)
         → (p.places.variable f (get_or (rule.inputs_of o) j 0) < length w.cells) × (p.places.loose f (get_or (rule.inputs_of o) j 0) < length w.marks)
     inputs_placed b j None e lt = absurd (omega (arith, lt))
@@ -281,6 +324,7 @@ module _ (program : tree.Program) (gs : Graphs) (p : Whole) (functions : List Fu
       p = p;
       w = w;
       element = a.element;
+      faulty = a.faulty;
       f = f;
       n = n;
       graph = graph;
@@ -291,6 +335,7 @@ module _ (program : tree.Program) (gs : Graphs) (p : Whole) (functions : List Fu
       placed_blocks = λ b code there. h.cells.blocks f b graph code is there;
       placed_inputs = λ b j lt. inputs_placed b j (slice_get graph.blocks b) refl lt;
       kept = kept;
+      shown = shown;
     }
 
   -- ---- a function

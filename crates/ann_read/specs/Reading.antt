@@ -1,5 +1,5 @@
 -- Annotations of trees that are read from assignments of elements to the graphs that stand for them.
-use Rattle.std.specs.Prelude.{◌≡◌, ◌<◌, ◌⊎◌, ◌==◌, ◌&&◌, if◌then◌else◌, ℕ, zero, suc, Bool, true, List, [], ◌∷◌, length, get_or, slice_get, Option, Some, None}
+use Rattle.std.specs.Prelude.{◌≡◌, ◌<◌, ◌⊎◌, ◌==◌, ◌&&◌, ◌||◌, not, if◌then◌else◌, ℕ, zero, suc, Bool, true, false, List, [], ◌∷◌, length, map, get_or, slice_get, Option, Some, None}
 use Rattle.std.specs.List.{flat_map}
 use Rattle.rpy_meaning.specs.declared.row.RowOp.{RowOp}
 use Rattle.rpy_meaning.specs.Tree as tree
@@ -12,8 +12,11 @@ use Rattle.flow_trees.specs.Tree.{Function}
 use Rattle.flow_trees.specs.Marks.{Stand}
 use Rattle.flow_trees.specs.Ops.{OfBlocks, InFunction}
 use Rattle.ann_lattice.specs.Shape.{Shape, Nothing}
-use Rattle.ann_lattice.specs.Assign.{Assignment, at}
+use Rattle.ann_lattice.specs.Kind.{some_nothing}
+use Rattle.ann_lattice.specs.Assign.{Assignment, at, mark}
 use Rattle.ann_rules.specs.Program.{Whole, Callee}
+use Rattle.ann_rules.specs.Rules.{value, goes_on}
+use Rattle.ann_tree.specs.Faults.{Flaw, shows}
 use Rattle.ann_tree.specs.Annotation.{Annotation}
 use Rattle.ann_read.specs.Plain.{AllReturnPlainly}
 
@@ -25,10 +28,31 @@ In (q ∷ os) o = (q ≡ o) ⊎ In os o
 abbrev pub ops_of : Graph → List Op
 ops_of graph = flat_map (λ (b : Block). b.ops) graph.blocks
 
--- the element of a node is that of an operation which gives its value, wherever a graph has one
+-- ---- the flaws that reached operations show
+
+module _ (p : Whole) (w : Assignment) (flaw : Flaw) (node : ℕ) where
+  -- an operation at the node, of graph f, whose operands are reached
+  abbrev pub op_shows : ℕ → Op → Bool
+  op_shows f o = (o.node == node) && (not (some_nothing (map (value p w f) o.args)) && shows p w flaw o.value o.op (map (value p w f) o.args))
+
+  -- up to the first that gives no value
+  abbrev pub ops_show : ℕ → List Op → Bool
+  ops_show f [] = false
+  ops_show f (o ∷ os) = op_shows f o || (goes_on p w f o && ops_show f os)
+
+  abbrev pub blocks_show : ℕ → ℕ → List Block → Bool
+  blocks_show f n [] = false
+  blocks_show f n (b ∷ bs) = (mark w (p.places.block f n) && ops_show f b.ops) || blocks_show f (suc n) bs
+
+  abbrev pub graphs_show : ℕ → List Graph → Bool
+  graphs_show f [] = false
+  graphs_show f (graph ∷ graphs) = blocks_show f 0 graph.blocks || graphs_show (suc f) graphs
+
+-- the element of a node is that of an operation which gives its value, wherever a graph has one; and each flaw that a graph shows is marked
 pub record IsReading (p : Whole) (a : Annotation) : Type 0 where
   pub of_nodes : (f : ℕ) (graph : Graph) (o : Op) → slice_get p.graphs f ≡ Some graph → In (ops_of graph) o → o.value ≡ true
       → (q : Op) × In (ops_of graph) q × (q.value ≡ true) × (q.node ≡ o.node) × (a.element o.node ≡ at a.parts (p.places.variable f q.result))
+  pub of_flaws : (flaw : Flaw) (node : ℕ) → graphs_show p a.parts flaw node 0 p.graphs ≡ true → a.faulty flaw node ≡ true
 
 -- no node has its value from two graphs
 abbrev pub AreApart : Whole → Type 0
@@ -65,7 +89,7 @@ element_in p w node f [] = Nothing
 element_in p w node f (graph ∷ graphs) = element_of p w f (first_giving node (ops_of graph)) (element_in p w node (suc f) graphs)
 
 abbrev pub reading : Whole → Assignment → Annotation
-reading p w = record { parts = w; element = λ node. element_in p w node zero p.graphs }
+reading p w = record { parts = w; element = λ node. element_in p w node zero p.graphs; faulty = λ flaw node. graphs_show p w flaw node 0 p.graphs }
 
 -- the graphs of the program stand for the functions, each with its number, its parameters and whether it takes more
 pub record HasGraphs (program : tree.Program) (gs : Graphs) (p : Whole) (functions : List Function) : Type 0 where

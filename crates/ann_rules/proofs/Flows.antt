@@ -117,6 +117,10 @@ module _ (p : Whole) (a b : Assignment) (f : Facts p a b) (g : ℕ) where
         absurd (no_misfit k u z i bad.0)
     fit_case false e l = e
 
+    -- operands of what is asked fit each other
+    pub pairs_asked : Under k u (rule.asked p b g o ys node) z → AllPairs k u xs ys
+    pairs_asked l = pairs_from (under_left p a b f (pieces p.tables o ys Nothing) (rule.pieces_for p b g o ys (parts p b o ys)) z (unfit_case (rule.is_unfit p b g o ys node) refl l))
+
     pub asked_down : Under k u (rule.asked p b g o ys node) z → Under k u (rule.asked p a g o xs node) z
     asked_down l =
         let m : Under k u (rule.pieces_for p b g o ys (Nothing ∷ parts p b o ys)) z = unfit_case (rule.is_unfit p b g o ys node) refl l in

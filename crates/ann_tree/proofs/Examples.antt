@@ -1,5 +1,5 @@
 -- The worked programs: their annotations are closed and free.
-use Rattle.std.proofs.Common.{◌≡◌, refl, ap, subst, ℕ, zero, suc, inl, inr, ℤ, pos, Bool, true, false, List, [], ◌∷◌, Some, None, arith}
+use Rattle.std.proofs.Common.{◌≡◌, refl, sym, ap, ◌∙◌, subst, ℕ, zero, suc, inl, inr, ℤ, pos, Bool, true, false, List, [], ◌∷◌, Some, None, arith}
 use Rattle.std.specs.Prelude.{nat_le, ◌&&◌}
 use Rattle.std.proofs.lemmas.Bool.{false≢true, leb-true}
 use Rattle.rpy_meaning.specs.declared.row.RowOp.{RowOp}
@@ -11,8 +11,9 @@ use Rattle.flow_trees.specs.Tells.{by_ways}
 use Rattle.flow_trees.specs.Tree.{Apply, Exprs, none, more, Name, Augment, If, Return, Local, done, line, Function}
 use Rattle.rpy_tree.specs.declared.syntax.CmpOp.TheVariants as cmp
 use Rattle.rpy_tree.specs.declared.syntax.BinOp.TheVariants as bin
+use Rattle.ann_tree.specs.Faults.{OfConstant, OfFamily, shows}
 use Rattle.ann_tree.specs.Annotation.{Annotation, Environment, Point, Never, Away, With, bind, narrow, within, At, Passes, IsBelow, Handler, IsFree}
-use Rattle.ann_tree.specs.Gives.{Operates, LeadsTo, SeenBy, Gives, GivesAll, Test, Acts, AppliedAt}
+use Rattle.ann_tree.specs.Gives.{Operates, LeadsTo, SeenBy, Gives, GivesAll, Test, Acts, AppliedAt, MarksFaults}
 use Rattle.ann_lattice.specs.Join.{is_clash, depth}
 use Rattle.ann_lattice.specs.Laws.{IsFormed, is_sound}
 use Rattle.ann_lattice.proofs.Ordered.{and_left, and_right}
@@ -60,6 +61,13 @@ bound_to s z t u v below = both (bind (env s u) 1 z) (env t v) (arguments, λ h.
 narrow_to : (s z t : Shape) (u v : Bool) → Under z t → (u ≡ true → v ≡ true) → IsBelow [] (0 ∷ 1 ∷ []) 2 (narrow (env s u) 1 z) (env t v)
 narrow_to s z t u v below h = both (narrow (env s u) 1 z) (env t v) (arguments, λ h. h) (below, h)
 
+-- ---- no operation shows a fault
+
+clear : (result : Shape) (elements : List Shape) (node : ℕ) (value : Bool) (o : RowOp) (xs : List Shape) → shows whole (parts result) OfConstant value o xs ≡ false → shows whole (parts result) OfFamily value o xs ≡ false
+    → MarksFaults whole objects (annotated result elements) 2 node value o xs
+clear result elements node value o xs constant family OfConstant some shown = absurd (false≢true (sym constant ∙ shown))
+clear result elements node value o xs constant family OfFamily some shown = absurd (false≢true (sym family ∙ shown))
+
 -- ---- expressions whose node has the element w
 
 module _ (result : Shape) (elements : List Shape) (hs : List Handler) where
@@ -69,13 +77,16 @@ module _ (result : Shape) (elements : List Shape) (hs : List Handler) where
   -- an operation on what its operands give
   operation : (node : ℕ) (o : RowOp) (es : Exprs) (xs : List Shape) (e : Environment) (w y t : Shape) (v : Bool)
       → GivesAll whole objects a 2 hs es e xs (With (env t v)) → SeenBy whole objects a 2 hs (env t v) → by_ways o es ≡ false → Operates whole objects a 2 o node xs w → w ≡ a.element node → Under w y → Under t t
+      → shows whole a.parts OfConstant true o xs ≡ false → shows whole a.parts OfFamily true o xs ≡ false
       → Gives whole objects a 2 hs (Apply node true o es) e y (With (env t v))
-  operation node o es xs e w y t v operands seen plain does is below same = (xs, inl (plain, (With (env t v), operands, (seen, (w, does, is, λ h. (below, to t t v v same (λ h. h)))))))
+  operation node o es xs e w y t v operands seen plain does is below same constant family =
+      (xs, inl (plain, (With (env t v), operands, (seen, (w, does, is, (λ h. (below, to t t v v same (λ h. h))), clear result elements node true o xs constant family)))))
 
   -- the second local
   reading : (node : ℕ) (s w y : Shape) (u : Bool) → SeenBy whole objects a 2 hs (env s u) → Operates whole objects a 2 row.Copy node (s ∷ []) w → w ≡ a.element node → Under w y → Under s s
       → Gives whole objects a 2 hs (x node) (env s u) y (With (env s u))
-  reading node s w y u seen does is below same = (λ h lt. absurd (omega (arith, lt)), (seen, (w, does, is, λ h. (below, to s s u u same (λ h. h)))))
+  reading node s w y u seen does is below same =
+      (λ h lt. absurd (omega (arith, lt)), (seen, (w, does, is, (λ h. (below, to s s u u same (λ h. h))), clear result elements node true row.Copy (s ∷ []) refl refl)))
 
 -- ---- a loop
 
@@ -98,7 +109,7 @@ operates_as a o node xs z = Operates whole objects a 2 o node xs z
 in_counted : (node : ℕ) (z : ℤ) (e : Environment) (y t : Shape) (v : Bool) → operates_as counted (row.Word z) node [] (Num false) → Num false ≡ counted.element node
     → LeadsTo whole objects counted 2 e (With (env t v)) → Under (Num false) y → Under t t
     → Gives whole objects counted 2 [] (word node z) e y (With (env t v))
-in_counted node z e y t v does is leads below same = operation (Num false) counted_elements [] node (row.Word z) none [] e (Num false) y t v leads tt refl does is below same
+in_counted node z e y t v does is leads below same = operation (Num false) counted_elements [] node (row.Word z) none [] e (Num false) y t v leads tt refl does is below same refl refl
 
 first_line : Leaves whole objects counted 0 2 [] (set_x 2 (word 3 (pos 0)) 4) (before whole objects counted 0 counting) (record { next = With a_word; broken = Away; continued = Away; returned = Away })
 first_line = (
@@ -108,7 +119,7 @@ first_line = (
       (both (before whole objects counted 0 counting) (env Nothing true) (arguments, λ h. h) ((least Nothing, λ h. h), λ h. h)) int (least Nothing, λ h. h),
   (
     With a_word,
-    (tt, (refl, (λ h. ((int.0, tt), tt)), λ h. flat refl), λ h. bound_to Nothing (Num false) (Num false) true false int),
+    (tt, (refl, (λ h. ((int.0, tt), tt)), λ h. flat refl), (λ h. bound_to Nothing (Num false) (Num false) true false int), clear (Num false) counted_elements 2 true row.Copy (Num false ∷ []) refl refl),
     still,
   ),
 )
@@ -127,7 +138,14 @@ test = inl (
     Num false ∷ Num false ∷ [],
     Truth None,
     With a_word,
-    inl (refl, (With a_word, sides, (tt, (Truth None, (refl, (λ h. ((bool.0, tt), tt)), λ h. flat refl), refl, λ h. (bool, still))))),
+    inl (
+      refl,
+      (
+        With a_word,
+        sides,
+        (tt, (Truth None, (refl, (λ h. ((bool.0, tt), tt)), λ h. flat refl), refl, (λ h. (bool, still)), clear (Num false) counted_elements 7 true (row.Compare cmp.Lt) (Num false ∷ Num false ∷ []) refl refl)),
+      ),
+    ),
     (tt, Truth None, (refl, (λ h. ((bool.0, tt), tt)), λ h. flat refl), (λ h. still), (λ h. (Num false, (refl, (λ h. ((int.0, tt), tt)), λ h. flat refl), narrow_to (Num false) (Num false) (Num false) false false int (λ h. h)))),
   ),
 )
@@ -145,10 +163,10 @@ turn = (
     With a_word,
     With a_word,
     (λ h lt. absurd (omega (arith, lt))),
-    (tt, (Num false, (refl, (λ h. ((int.0, tt), tt)), λ h. flat refl), tt, λ h. (int, still))),
+    (tt, (Num false, (refl, (λ h. ((int.0, tt), tt)), λ h. flat refl), tt, (λ h. (int, still)), clear (Num false) counted_elements 9 false row.Copy (Num false ∷ []) refl refl)),
     in_counted 10 (pos 1) a_word (Num false) (Num false) false (refl, (λ h. ((int.0, tt), tt)), λ h. flat refl) refl still int int,
-    (tt, (Num false, (refl, (λ h. ((int.0, tt), tt)), λ h. flat refl), tt, λ h. (int, still))),
-    (tt, (refl, (λ h. ((int.0, tt), tt)), λ h. flat refl), λ h. bound_to (Num false) (Num false) (Num false) false false int),
+    (tt, (Num false, (refl, (λ h. ((int.0, tt), tt)), λ h. flat refl), tt, (λ h. (int, still)), clear (Num false) counted_elements 11 false (row.Binary bin.Add (Some 1)) (Num false ∷ Num false ∷ []) refl refl)),
+    (tt, (refl, (λ h. ((int.0, tt), tt)), λ h. flat refl), (λ h. bound_to (Num false) (Num false) (Num false) false false int), clear (Num false) counted_elements 9 true row.Copy (Num false ∷ []) refl refl),
   ),
   (tt, still),
 )
@@ -246,10 +264,10 @@ asking_first = (
   NoneOnly,
   With (env Nothing true),
   operation (Num true) asked_elements [] 3 row.None none [] (before whole objects asked 0 asking) NoneOnly NoneOnly Nothing true
-      (both (before whole objects asked 0 asking) (env Nothing true) (arguments, λ h. h) (nothing, λ h. h)) tt refl (refl, (λ h. ((no_value.0, tt), tt)), λ h. flat refl) refl no_value nothing,
+      (both (before whole objects asked 0 asking) (env Nothing true) (arguments, λ h. h) (nothing, λ h. h)) tt refl (refl, (λ h. ((no_value.0, tt), tt)), λ h. flat refl) refl no_value nothing refl refl,
   (
     with_x NoneOnly,
-    (tt, (refl, (λ h. ((no_value.0, tt), tt)), λ h. flat refl), λ h. bound_to Nothing NoneOnly NoneOnly true false no_value),
+    (tt, (refl, (λ h. ((no_value.0, tt), tt)), λ h. flat refl), (λ h. bound_to Nothing NoneOnly NoneOnly true false no_value), clear (Num true) asked_elements 2 true row.Copy (NoneOnly ∷ []) refl refl),
     to NoneOnly NoneOnly false false no_value (λ h. h),
   ),
 )
@@ -259,7 +277,7 @@ unchanged s same = to s s false false same (λ h. h)
 
 a_word_in_asked : (node : ℕ) (z : ℤ) (s : Shape) → Operates whole objects asked 2 (row.Word z) node [] (Num false) → Num false ≡ asked.element node → Under s s
     → Gives whole objects asked 2 [] (word node z) (env s false) (Num false) (with_x s)
-a_word_in_asked node z s does is same = operation (Num true) asked_elements [] node (row.Word z) none [] (env s false) (Num false) (Num false) s false (unchanged s same) tt refl does is int same
+a_word_in_asked node z s does is same = operation (Num true) asked_elements [] node (row.Word z) none [] (env s false) (Num false) (Num false) s false (unchanged s same) tt refl does is int same refl refl
 
 asking_if : Leaves whole objects asked 0 2 [] (If 8 (compare 7 (word 5 (pos 1)) (word 6 (pos 2))) (line (set_x 9 (text 10 (97 ∷ [])) 11) done) done) (env NoneOnly false)
     (record { next = with_x (Str OrNone); broken = Away; continued = Away; returned = Away })
@@ -281,7 +299,10 @@ asking_if = (
             a_word_in_asked 5 (pos 1) NoneOnly (refl, (λ h. ((int.0, tt), tt)), λ h. flat refl) refl no_value,
             (with_x NoneOnly, a_word_in_asked 6 (pos 2) NoneOnly (refl, (λ h. ((int.0, tt), tt)), λ h. flat refl) refl no_value, unchanged NoneOnly no_value),
           ),
-          (tt, (Truth None, (refl, (λ h. ((bool.0, tt), tt)), λ h. flat refl), refl, λ h. (bool, unchanged NoneOnly no_value))),
+          (
+            tt,
+            (Truth None, (refl, (λ h. ((bool.0, tt), tt)), λ h. flat refl), refl, (λ h. (bool, unchanged NoneOnly no_value)), clear (Num true) asked_elements 7 true (row.Compare cmp.Lt) (Num false ∷ Num false ∷ []) refl refl),
+          ),
         ),
       ),
       (tt, Truth None, (refl, (λ h. ((bool.0, tt), tt)), λ h. flat refl), (λ h. unchanged NoneOnly no_value), (λ h. unchanged NoneOnly no_value)),
@@ -293,8 +314,12 @@ asking_if = (
     (
       Str One,
       with_x NoneOnly,
-      operation (Num true) asked_elements [] 10 (row.Str (97 ∷ [])) none [] (env NoneOnly false) (Str One) (Str One) NoneOnly false (unchanged NoneOnly no_value) tt refl (refl, (λ h. ((char.0, tt), tt)), λ h. flat refl) refl char no_value,
-      (with_x (Str One), (tt, (refl, (λ h. ((char.0, tt), tt)), λ h. flat refl), λ h. bound_to NoneOnly (Str One) (Str One) false false char), unchanged (Str One) char),
+      operation (Num true) asked_elements [] 10 (row.Str (97 ∷ [])) none [] (env NoneOnly false) (Str One) (Str One) NoneOnly false (unchanged NoneOnly no_value) tt refl (refl, (λ h. ((char.0, tt), tt)), λ h. flat refl) refl char no_value refl refl,
+      (
+        with_x (Str One),
+        (tt, (refl, (λ h. ((char.0, tt), tt)), λ h. flat refl), (λ h. bound_to NoneOnly (Str One) (Str One) false false char), clear (Num true) asked_elements 9 true row.Copy (Str One ∷ []) refl refl),
+        unchanged (Str One) char,
+      ),
     ),
     (tt, to (Str One) (Str OrNone) false false (str One OrNone tt, λ h. flat refl) (λ h. h)),
   ),
@@ -323,11 +348,20 @@ asking_none = (
             reading (Num true) asked_elements [] 12 (Str OrNone) (Str OrNone) (Str OrNone) false tt (refl, (λ h. ((text_or_none.0, tt), tt)), λ h. flat refl) refl text_or_none text_or_none,
             (
               with_x (Str OrNone),
-              operation (Num true) asked_elements [] 13 row.None none [] (env (Str OrNone) false) NoneOnly NoneOnly (Str OrNone) false (unchanged (Str OrNone) text_or_none) tt refl (refl, (λ h. ((no_value.0, tt), tt)), λ h. flat refl) refl no_value text_or_none,
+              operation (Num true) asked_elements [] 13 row.None none [] (env (Str OrNone) false) NoneOnly NoneOnly (Str OrNone) false (unchanged (Str OrNone) text_or_none) tt refl (refl, (λ h. ((no_value.0, tt), tt)), λ h. flat refl) refl no_value text_or_none refl refl,
               unchanged (Str OrNone) text_or_none,
             ),
           ),
-          (tt, (Truth None, (refl, (λ h. ((bool.0, tt), tt)), λ h. flat refl), refl, λ h. (bool, unchanged (Str OrNone) text_or_none))),
+          (
+            tt,
+            (
+              Truth None,
+              (refl, (λ h. ((bool.0, tt), tt)), λ h. flat refl),
+              refl,
+              (λ h. (bool, unchanged (Str OrNone) text_or_none)),
+              clear (Num true) asked_elements 14 true (row.Compare cmp.Is) (Str OrNone ∷ NoneOnly ∷ []) refl refl,
+            ),
+          ),
         ),
       ),
       (
@@ -360,7 +394,7 @@ asking_last = (
   with_x (Str Any),
   operation (Num true) asked_elements [] 19 row.ToInt (more (x 18) none) (Str Any ∷ []) (env (Str Any) false) (Num true) (Num true) (Str Any) false
       (with_x (Str Any), reading (Num true) asked_elements [] 18 (Str Any) (Str Any) (Str Any) false tt (refl, (λ h. ((string.0, tt), tt)), λ h. flat refl) refl string string, unchanged (Str Any) string)
-      tt refl (refl, (λ h. ((any_int.0, tt), tt)), λ h. flat refl) refl any_int string,
+      tt refl (refl, (λ h. ((any_int.0, tt), tt)), λ h. flat refl) refl any_int string refl refl,
   ((λ lt. (any_int.0, tt)), tt),
 )
 
@@ -436,14 +470,20 @@ first_argument : Gives whole objects guarded 2 catching (Apply 6 true (row.Index
 first_argument =
     operation (Num true) guarded_elements catching 6 (row.Index (Some (pos 0))) (more (Local 4 0) (more (word 5 (pos 0)) none)) (Lst 0 false ∷ Num false ∷ []) begin_guarding (Str Any) (Str Any) Nothing true (
       With unbound_x,
-      ((λ h lt. absurd (omega (arith, lt))), ((begins_maybe, tt), (Lst 0 false, (refl, (λ h. ((arguments.0, tt), tt)), λ h. flat refl), refl, λ h. (arguments, begins_unbound)))),
+      (
+        (λ h lt. absurd (omega (arith, lt))),
+        (
+          (begins_maybe, tt),
+          (Lst 0 false, (refl, (λ h. ((arguments.0, tt), tt)), λ h. flat refl), refl, (λ h. (arguments, begins_unbound)), clear (Num true) guarded_elements 4 true row.Copy (Lst 0 false ∷ []) refl refl),
+        ),
+      ),
       (
         With unbound_x,
-        operation (Num true) guarded_elements catching 5 (row.Word (pos 0)) none [] unbound_x (Num false) (Num false) Nothing true still_unbound unbound_maybe refl (refl, (λ h. ((int.0, tt), tt)), λ h. flat refl) refl int nothing,
+        operation (Num true) guarded_elements catching 5 (row.Word (pos 0)) none [] unbound_x (Num false) (Num false) Nothing true still_unbound unbound_maybe refl (refl, (λ h. ((int.0, tt), tt)), λ h. flat refl) refl int nothing refl refl,
         still_unbound,
       ),
     )
-    unbound_maybe refl (refl, (λ h. ((least (Str Any), (string.0, tt)), tt)), λ h. flat refl) refl string nothing
+    unbound_maybe refl (refl, (λ h. ((least (Str Any), (string.0, tt)), tt)), λ h. flat refl) refl string nothing refl refl
 
 -- the handler is above the environments before and behind the statement of the body
 in_body : LeavesAll whole objects guarded 0 2 catching (line (set_x 3 (Apply 6 true (row.Index (Some (pos 0))) (more (Local 4 0) (more (word 5 (pos 0)) none))) 7) done) begin_guarding
@@ -457,7 +497,7 @@ in_body = (
     first_argument,
     (
       with_x (Str Any),
-      (unbound_maybe, (refl, (λ h. ((string.0, tt), tt)), λ h. flat refl), λ h. (bound_to Nothing (Str Any) (Str Any) true false string)),
+      (unbound_maybe, (refl, (λ h. ((string.0, tt), tt)), λ h. flat refl), (λ h. (bound_to Nothing (Str Any) (Str Any) true false string)), clear (Num true) guarded_elements 3 true row.Copy (Str Any ∷ []) refl refl),
       unchanged (Str Any) string,
     ),
   ),
@@ -472,8 +512,12 @@ in_clause = (
   (
     Str One,
     With maybe,
-    operation (Num true) guarded_elements [] 10 (row.Str (48 ∷ [])) none [] maybe (Str One) (Str One) (Str Any) true same_maybe tt refl (refl, (λ h. ((char.0, tt), tt)), λ h. flat refl) refl char string,
-    (with_x (Str Any), (tt, (refl, (λ h. ((char.0, tt), tt)), λ h. flat refl), λ h. bound_to (Str Any) (Str One) (Str Any) true false (str One Any tt, λ h. flat refl)), unchanged (Str Any) string),
+    operation (Num true) guarded_elements [] 10 (row.Str (48 ∷ [])) none [] maybe (Str One) (Str One) (Str Any) true same_maybe tt refl (refl, (λ h. ((char.0, tt), tt)), λ h. flat refl) refl char string refl refl,
+    (
+      with_x (Str Any),
+      (tt, (refl, (λ h. ((char.0, tt), tt)), λ h. flat refl), (λ h. bound_to (Str Any) (Str One) (Str Any) true false (str One Any tt, λ h. flat refl)), clear (Num true) guarded_elements 9 true row.Copy (Str One ∷ []) refl refl),
+      unchanged (Str Any) string,
+    ),
   ),
   (tt, unchanged (Str Any) string),
 )
@@ -485,7 +529,7 @@ guarding_last = (
   with_x (Str Any),
   operation (Num true) guarded_elements [] 13 row.ToInt (more (x 12) none) (Str Any ∷ []) (env (Str Any) false) (Num true) (Num true) (Str Any) false
       (with_x (Str Any), reading (Num true) guarded_elements [] 12 (Str Any) (Str Any) (Str Any) false tt (refl, (λ h. ((string.0, tt), tt)), λ h. flat refl) refl string string, unchanged (Str Any) string)
-      tt refl (refl, (λ h. ((any_int.0, tt), tt)), λ h. flat refl) refl any_int string,
+      tt refl (refl, (λ h. ((any_int.0, tt), tt)), λ h. flat refl) refl any_int string refl refl,
   ((λ lt. (any_int.0, tt)), tt),
 )
 
@@ -532,7 +576,7 @@ literal_gives : (e : Environment) (y : Shape) (q : Point) → Gives whole object
 literal_gives e y q (xs, inl h) = given xs h.1
   where
     acted : (g : Environment) → Acts whole objects mistaken 2 [] 2 true (row.Word (pos 1)) [] g y q → (d : Environment) × Under (Num false) y × LeadsTo whole objects mistaken 2 d q
-    acted g (seen, (z, does, is, on)) = let next = on (ap is_nothing is) in (g, subst (λ u. Under u y) is next.0, next.1)
+    acted g (seen, (z, does, is, on, faults)) = let next = on (ap is_nothing is) in (g, subst (λ u. Under u y) is next.0, next.1)
 
     given : (xs : List Shape) → AppliedAt whole objects mistaken 2 [] 2 true (row.Word (pos 1)) (GivesAll whole objects mistaken 2 [] none) e xs y q → (g : Environment) × Under (Num false) y × LeadsTo whole objects mistaken 2 g q
     given [] (behind, leads, at_behind) =

@@ -7,12 +7,14 @@ use Rattle.ann_lattice.specs.Join.{is_clash}
 use Rattle.ann_lattice.specs.Laws.{IsFormed}
 use Rattle.ann_lattice.specs.Assign.{Assignment, at}
 use Rattle.ann_rules.specs.Program.{Places}
+use Rattle.ann_tree.specs.Faults.{Flaw}
 
 -- the parts of a program, each at its place (parameters, results, attributes, items, keys, and what is reached, made, loaded or read unbound), the
--- classes of sites, and an element for each node
+-- classes of sites, an element for each node, and the nodes at which operations show faults of types
 pub record Annotation : Type 0 where
   pub parts : Assignment
   pub element : ℕ → Shape
+  pub faulty : Flaw → ℕ → Bool
 
 -- no part is in conflict
 pub record IsFree (places : Places) (a : Annotation) : Type 0 where

@@ -52,7 +52,7 @@ abbrev pub parts : Shape → Assignment
 parts result = record { cells = Lst 0 false ∷ result ∷ Str Any ∷ Nothing ∷ Nothing ∷ Nothing ∷ []; marks = true ∷ []; same = 0 ∷ 1 ∷ [] }
 
 abbrev pub annotated : Shape → List Shape → Annotation
-annotated result elements = record { parts = parts result; element = λ node. get_or elements node Nothing }
+annotated result elements = record { parts = parts result; element = λ node. get_or elements node Nothing; faulty = λ flaw node. false }
 
 abbrev pub entry_point : Block → Function
 entry_point body = record { node = 0; defaults = None ∷ []; takes_more = false; locals = 2; body = body }

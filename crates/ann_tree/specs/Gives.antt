@@ -18,6 +18,7 @@ use Rattle.rpy_meaning.specs.Meaning.{target_count}
 use Rattle.flow_stands.specs.Stands as stands
 use Rattle.flow_trees.specs.Tree.{Expr, Local, Constant, Apply, And, Or, Display, Comprehension, Exprs, none, more, Pairs, no_pairs, pair, Subject, Over, UpTo, FromTo, Condition, Always, Where, Target, Name, Attribute, Item, Parts, Targets, no_targets, more_targets, plain_subject, plain_targets}
 use Rattle.ann_tree.specs.Annotation.{Annotation, Environment, Point, bind, narrow, At, Handler, Passes, Leads, Seen}
+use Rattle.ann_tree.specs.Faults.{Flaw, shows}
 use Rattle.flow_trees.specs.Tells.{Telling, tells, negates, by_ways}
 
 -- an expression, or a test of one: in an environment, the elements, and the points behind it
@@ -95,9 +96,14 @@ module _ (p : Whole) (sites : List (Option Object)) (a : Annotation) (n : ℕ) w
   IsOf true node z = z ≡ a.element node
   IsOf false node z = Unit {0}
 
+  -- the node is marked where the operation, which is reached where its operands are, shows a fault of types
+  abbrev pub MarksFaults : ℕ → Bool → RowOp → List Shape → Type 0
+  MarksFaults node value o xs = (flaw : Flaw) → some_nothing xs ≡ false → shows p a.parts flaw value o xs ≡ true → a.faulty flaw node ≡ true
+
   -- an exception may come of any operation
   abbrev pub Acts : List Handler → ℕ → Bool → RowOp → List Shape → Giving
-  Acts hs node value o xs e x q = SeenBy hs e × ((z : Shape) × Operates o node xs z × IsOf value node z × (stops o z ≡ false → Fits z x × LeadsTo e q))
+  Acts hs node value o xs e x q =
+      SeenBy hs e × ((z : Shape) × Operates o node xs z × IsOf value node z × (stops o z ≡ false → Fits z x × LeadsTo e q) × MarksFaults node value o xs)
 
   -- what is taken is the result itself
   abbrev pub Takes : List Handler → ℕ → RowOp → List Shape → Giving
@@ -109,7 +115,8 @@ module _ (p : Whole) (sites : List (Option Object)) (a : Annotation) (n : ℕ) w
 
   -- the operation that stores to a target has what is bound as its result, and leaves another environment
   abbrev pub Stores : List Handler → ℕ → RowOp → List Shape → Environment → Environment → Point → Type 0
-  Stores hs node o xs e left q = SeenBy hs e × Operates o node xs (a.element node) × (is_nothing (a.element node) ≡ false → LeadsTo left q)
+  Stores hs node o xs e left q =
+      SeenBy hs e × Operates o node xs (a.element node) × (is_nothing (a.element node) ≡ false → LeadsTo left q) × MarksFaults node true o xs
 
   -- ---- tests
 

@@ -1,3 +1,4 @@
+pub mod Faults
 pub mod Annotation
 pub mod Gives
 pub mod Leaves

@@ -52,11 +52,17 @@ marks_at lists n = unwrap_or (slice_get lists n) []
 abbrev pub elements_at : List (List Element) → ℕ → List Element
 elements_at lists n = unwrap_or (slice_get lists n) []
 
+-- one of these variables has no value
+abbrev pub some_unreached : List Element → List ℕ → Bool
+some_unreached es [] = false
+some_unreached es (v ∷ vs) = if is_unreached_at (slice_get es v) then true else some_unreached es vs
+
 module _ (facts : Facts) (t : Tables) (a : Annotation) where
-  -- an operation that is reached modifies what may be a constant, or calls functions that do not take its arguments
+  -- an operation whose operands are reached modifies what may be a constant, or calls functions that do not take its arguments
   abbrev pub op_fault : List Element → Op → Option Fault
   op_fault es op =
-      if modifies_prebuilt facts.prebuilt a.same es op then fault_if true op.node kind.ConstantModified
+      if some_unreached es op.args then None
+      else if modifies_prebuilt facts.prebuilt a.same es op then fault_if true op.node kind.ConstantModified
       else fault_if (not (fits facts.arities (reach t a.made es op))) op.node kind.Family
 
   abbrev pub ops_fault : List Element → List Op → Option Fault → Option Fault

@@ -61,7 +61,19 @@ fn stops(elements: &[Element], op: &Op) -> bool
     is_unreached_at(elements, op.result) && !narrows(&op.op)
 }
 
-// The fault of an operation that is reached.
+// Whether one of these variables has no value.
+fn some_unreached(elements: &[Element], variables: &[VarId]) -> bool
+    ensures { result ≡ spec.some_unreached elements.now variables.now }
+{
+    for variable in variables {
+        if is_unreached_at(elements, *variable) {
+            return true;
+        }
+    }
+    false
+}
+
+// The fault of an operation that is reached, where its operands are.
 fn op_fault(
     alloc: Global,
     facts: &Facts,
@@ -72,6 +84,9 @@ fn op_fault(
 ) -> Result<Option<Fault>, NoMem>
     ensures { IfOk result (λ fault. fault ≡ spec.op_fault facts.now classes.now annotation.now elements.now op.now) }
 {
+    if some_unreached(elements, op.args.as_slice()) {
+        return Ok(None);
+    }
     if modifies_prebuilt(facts.prebuilt.as_slice(), &annotation.same, elements, op) {
         return Ok(fault_if(true, op.node, FaultKind::ConstantModified));
     }
