@@ -60,7 +60,7 @@ each_down callees fs gs (f ∷ hs) n i h =
     both (takes_beside callees fs n f) (list_all (λ f. takes_beside callees fs n f) hs)
     (beside_down callees fs gs n f i (and_left (takes_beside callees gs n f) rest h)) (each_down callees fs gs hs n i (and_right (takes_beside callees gs n f) rest h))
 
-fit_down : (callees : List Callee) (fs gs : List ℕ) (n : ℕ) → Among fs gs → fit callees gs n ≡ true → fit callees fs n ≡ true
+pub fit_down : (callees : List Callee) (fs gs : List ℕ) (n : ℕ) → Among fs gs → fit callees gs n ≡ true → fit callees fs n ≡ true
 fit_down callees fs gs n i h = all_among (λ f. takes_beside callees fs n f) fs gs i (each_down callees fs gs gs n i h)
 
 -- ---- operands
