@@ -1,5 +1,6 @@
 -- Annotations of the trees of a program that the checks have looked at.
-use Rattle.std.specs.Prelude.{◌<◌, ◌≤◌, length}
+use Rattle.std.specs.Prelude.{◌≡◌, ◌<◌, ◌≤◌, ◌^◌, ℕ, length}
+use Rattle.rpy_tree.specs.Places.{node_file, node_line}
 use Rattle.rpy_tree.specs.declared.program.Program.{Program}
 use Rattle.resolved_meaning.specs.Trees.{program_of}
 use Rattle.resolver_laws.specs.Made.{HaveApartNodes}
@@ -15,6 +16,11 @@ use Rattle.ann_places.specs.Spots.{start}
 use Rattle.ann_tree.specs.Annotation.{Annotation}
 use Rattle.ann_read.specs.Reading.{reading}
 use Rattle.ann_least.specs.Least.{IsAnnotation, IsLeast}
+use Rattle.rtyper_core.specs.declared.fault.FaultKind.{FaultKind}
+use Rattle.rtyper_core.specs.declared.fault.FaultKind.TheVariants as kind
+use Rattle.typing_laws.specs.Faults.{HasNoFault, IsLeastFault}
+use Rattle.rpy_checked.specs.declared.fault.TypeKind.{TypeKind}
+use Rattle.rpy_checked.specs.declared.fault.TypeKind.TheVariants as type
 
 -- The classes are a tree of at most 2^32, there is a site, no number is the node of two functions, and no cell and no mark has the number of what does not
 -- exist.
@@ -24,6 +30,24 @@ pub record HasTrees (p : Program) (gs : Graphs) : Type 0 where
   pub nodes : HaveApartNodes p.modules
   pub cells : (planned p gs (tables p)).cells ≤ nowhere
   pub marks : (planned p gs (tables p)).marks ≤ nowhere
+
+abbrev pub kind_of : TypeKind → FaultKind
+kind_of type.ConstantModified = kind.ConstantModified
+kind_of type.MaybeUnbound = kind.MaybeUnbound
+kind_of type.Family = kind.Family
+kind_of type.EntryResult = kind.EntryResult
+
+module _ (p : Program) (gs : Graphs) where
+  -- what stands in these cells and marks, read at the nodes of the trees, shows no fault of types
+  abbrev pub ShowsNoFault : State → Type 0
+  ShowsNoFault s = HasNoFault p (whole (plan p gs (tables p))) (reading (whole (plan p gs (tables p))) (assignment s))
+
+  -- the least fault of types of that annotation stands at a node in this file and on this line
+  pub record ShowsLeastFault (s : State) (file line : ℕ) (k : TypeKind) : Type 0 where
+    pub node : ℕ
+    pub least : IsLeastFault p (whole (plan p gs (tables p))) (reading (whole (plan p gs (tables p))) (assignment s)) node (kind_of k)
+    pub file : length p.modules < 2 ^ 32 → file ≡ node_file p.modules node
+    pub line : line ≡ node_line p.modules node
 
 module _ (p : Program) (gs : Graphs) (stand : StandFor p gs) where
   -- an annotation of the trees with bound names for which the graphs stand

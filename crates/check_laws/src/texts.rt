@@ -8,12 +8,15 @@ ghost use Rattle.flow_graph.specs.declared.graph.Graphs.{Graphs};
 ghost use Rattle.ann_element.specs.declared.annotation.Annotation as element;
 ghost use Rattle.ann_tree.specs.Annotation.{Annotation};
 ghost use Rattle.rpy_checked.specs.declared.fault.CheckFault.{CheckFault};
+ghost use Rattle.rpy_checked.specs.declared.fault.CheckFault.TheVariants.{Typing};
+ghost use Rattle.rpy_checked.specs.declared.fault.TypeKind.{TypeKind};
 ghost use Rattle.rpy_checked.specs.Settles.{IsSmall, HasTypes, HasConflict, HasFault};
-ghost use Rattle.check_laws.specs.Trees.{HasTrees, IsOfTrees, IsLeastOfTrees};
+ghost use Rattle.check_laws.specs.Trees.{HasTrees, ShowsNoFault, ShowsLeastFault, IsOfTrees, IsLeastOfTrees};
 
 use crate::laws::{
     conflicts_leave_trees_without_annotation, faults_are_of_the_least_annotation_of_the_trees,
-    types_are_of_the_least_annotation_of_the_trees,
+    the_least_fault_of_the_trees_is_told, types_are_of_the_least_annotation_of_the_trees,
+    types_leave_trees_without_fault,
 };
 use names_forest::{classes_are_a_forest, programs_have_a_site};
 use parse_nodes::modules_number_their_nodes;
@@ -41,12 +44,28 @@ pub fn types_of_texts_are_of_the_least_annotation()
     types_are_of_the_least_annotation_of_the_trees();
 }
 
+/// That annotation shows no fault of types.
+pub fn types_leave_texts_without_fault()
+    ensures { (sources names : List (List ℕ)) (modules : List Named) (p : Program) (gs : Graphs) (n : element.Annotation) (types : HasTypes p gs n) → AreModules sources names modules → prog modules ≡ Some p → ShowsNoFault p gs types.state }
+{
+    programs_of_texts_have_trees();
+    types_leave_trees_without_fault();
+}
+
 /// Where a fault of types is told, for status 5, it is one of the least annotation of the trees.
 pub fn faults_of_texts_are_of_the_least_annotation()
     ensures { (sources names : List (List ℕ)) (modules : List Named) (p : Program) (e : CheckFault) (fault : HasFault p e) → AreModules sources names modules → prog modules ≡ Some p → IsLeastOfTrees p fault.graphs fault.stand fault.state }
 {
     programs_of_texts_have_trees();
     faults_are_of_the_least_annotation_of_the_trees();
+}
+
+/// It is the least that this annotation shows, told by the file and the line of its node, and its kind.
+pub fn the_least_fault_of_texts_is_told()
+    ensures { (sources names : List (List ℕ)) (modules : List Named) (p : Program) (file line : ℕ) (k : TypeKind) (fault : HasFault p (Typing file line k)) → AreModules sources names modules → prog modules ≡ Some p → ShowsLeastFault p fault.graphs fault.state file line k }
+{
+    programs_of_texts_have_trees();
+    the_least_fault_of_the_trees_is_told();
 }
 
 /// Where a conflict is shown, for status 4, the trees have no annotation.

@@ -39,9 +39,9 @@ IsShown p t fault.NoMem = Unit {0}
 
 -- ---- faults of types
 
--- a fault of this kind on the line of the node
+-- a fault of this kind in the file and on the line of the node
 abbrev pub IsAt : Program → ℕ → TypeKind → CheckFault → Type 0
-IsAt p node kind (fault.Typing file line told) = (line ≡ node_line p.modules node) × (told ≡ kind)
+IsAt p node kind (fault.Typing file line told) = IsFile p node file × ((line ≡ node_line p.modules node) × (told ≡ kind))
 IsAt p node kind other = ⊥
 
 -- how a fault of types is told
