@@ -15,9 +15,9 @@ use Rattle.ann_rules.specs.Program.{Whole}
 use Rattle.ann_read.specs.Reading.{In, ops_of, IsReading, AreApart, gives, first_giving, element_of, element_in, reading, HaveOwnNodes, HasOps}
 
 -- it is one of them, and gives the value
-record Found (node : ℕ) (os : List Op) (q : Op) : Type 0 where
-  inside : In os q
-  giving : gives node q ≡ true
+pub record Found (node : ℕ) (os : List Op) (q : Op) : Type 0 where
+  pub inside : In os q
+  pub giving : gives node q ≡ true
 
 more_found : (node : ℕ) (x : Op) (os : List Op) (q : Op) → Found node os q → Found node (x ∷ os) q
 more_found node x os q f = record { inside = inr f.inside; giving = f.giving }
@@ -39,7 +39,7 @@ first_there node (x ∷ os) o i g = by_test (gives node x) refl (later i (λ j. 
         clash z = cc
     by_test false e (inr r) = (r.0, ap (λ b. if b then Some x else first_giving node os) e ∙ r.1, more_found node x os r.0 r.2)
 
-first_is : (node : ℕ) (os : List Op) (q : Op) → first_giving node os ≡ Some q → Found node os q
+pub first_is : (node : ℕ) (os : List Op) (q : Op) → first_giving node os ≡ Some q → Found node os q
 first_is node [] q e = absurd_of e
   where
     absurd_of : {A : Type 0} → None ≡ Some q → A

@@ -283,7 +283,7 @@ module _ (program : tree.Program) (gs : Graphs) (p : Whole) (functions : List Fu
         level_of (p.places.variable f q.result) (p.places.variable f o.result) (cell_of q i) (cell_of o j)
         (subst (λ b. AllHold k w (when b (tie p w (p.places.variable f q.result) (p.places.variable f o.result)))) test two)
 
-    alike : (o : Op) → In (ops_of graph) o → o.value ≡ true → IsAlike p w (a.element o.node) (at w (p.places.variable f o.result))
+    pub alike : (o : Op) → In (ops_of graph) o → o.value ≡ true → IsAlike p w (a.element o.node) (at w (p.places.variable f o.result))
     alike o i value =
         let r = h.reading.of_nodes f graph o is i value in
         let l = tied r.0 o r.1 i r.2 value r.3 in

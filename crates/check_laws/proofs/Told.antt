@@ -1,5 +1,5 @@
 -- The fault that is told is the least one of the annotation of the trees.
-use Rattle.std.proofs.Common.{◌≡◌, ◌<◌, ◌≤◌, ℕ, length, Option, Some, None, refl, sym, subst}
+use Rattle.std.proofs.Common.{◌≡◌, ◌≤◌, ℕ, Option, Some, None, sym, ap, subst}
 use Rattle.std.specs.Prelude.{Err}
 use Rattle.rpy_tree.specs.declared.program.Program.{Program}
 use Rattle.flow_graph.specs.declared.graph.Graphs.{Graphs}
@@ -23,29 +23,32 @@ use Rattle.rpy_checked.specs.Settles.{HasTypes, HasFault, IsTold, IsAt}
 use Rattle.rpy_checked.specs.declared.fault.CheckFault.TheVariants as fault
 use Rattle.rpy_checked.specs.declared.fault.TypeKind.{TypeKind}
 use Rattle.rpy_checked.specs.declared.fault.TypeKind.TheVariants as type
-use Rattle.typing_laws.specs.Faults.{HasNoFault, IsLeastFault}
+use Rattle.typing_laws.specs.Faults.{IsLeastFault}
 use Rattle.typing_laws.specs.Least.{IsLeastOf}
 use Rattle.check_laws.specs.Trees.{HasTrees, kind_of, ShowsNoFault, ShowsLeastFault}
 
 -- ---- the fault that is shown is the one that was found
 
-same_kind : (n : ℕ) (k : FaultKind) (node : ℕ) (l : FaultKind) → shown_as n k ≡ shown_as node l → record { node = n; kind = k } ≡ record { node = node; kind = l }
-same_kind n kind.ConstantModified node kind.ConstantModified h = let e : n ≡ node = cc in λ j. record { node = e j; kind = kind.ConstantModified }
+abbrev fault_at : ℕ → FaultKind → Fault
+fault_at node k = record { node = node; kind = k }
+
+same_kind : (n : ℕ) (k : FaultKind) (node : ℕ) (l : FaultKind) → shown_as n k ≡ shown_as node l → fault_at n k ≡ fault_at node l
+same_kind n kind.ConstantModified node kind.ConstantModified h = let e : n ≡ node = cc in ap (λ m. fault_at m kind.ConstantModified) e
 same_kind n kind.ConstantModified node kind.MaybeUnbound h = cc
 same_kind n kind.ConstantModified node kind.Family h = cc
 same_kind n kind.ConstantModified node kind.EntryResult h = cc
 same_kind n kind.MaybeUnbound node kind.ConstantModified h = cc
-same_kind n kind.MaybeUnbound node kind.MaybeUnbound h = let e : n ≡ node = cc in λ j. record { node = e j; kind = kind.MaybeUnbound }
+same_kind n kind.MaybeUnbound node kind.MaybeUnbound h = let e : n ≡ node = cc in ap (λ m. fault_at m kind.MaybeUnbound) e
 same_kind n kind.MaybeUnbound node kind.Family h = cc
 same_kind n kind.MaybeUnbound node kind.EntryResult h = cc
 same_kind n kind.Family node kind.ConstantModified h = cc
 same_kind n kind.Family node kind.MaybeUnbound h = cc
-same_kind n kind.Family node kind.Family h = let e : n ≡ node = cc in λ j. record { node = e j; kind = kind.Family }
+same_kind n kind.Family node kind.Family h = let e : n ≡ node = cc in ap (λ m. fault_at m kind.Family) e
 same_kind n kind.Family node kind.EntryResult h = cc
 same_kind n kind.EntryResult node kind.ConstantModified h = cc
 same_kind n kind.EntryResult node kind.MaybeUnbound h = cc
 same_kind n kind.EntryResult node kind.Family h = cc
-same_kind n kind.EntryResult node kind.EntryResult h = let e : n ≡ node = cc in λ j. record { node = e j; kind = kind.EntryResult }
+same_kind n kind.EntryResult node kind.EntryResult h = let e : n ≡ node = cc in ap (λ m. fault_at m kind.EntryResult) e
 
 found : (o : Option Fault) (node : ℕ) (l : FaultKind) → told o ≡ Err (shown_as node l) → o ≡ Some (record { node = node; kind = l })
 found None node l h = cc
@@ -70,7 +73,7 @@ module _ (of_trees : (p : Program) (gs : Graphs) (t : Tables) (n : Annotation) (
         (of_trees p f.graphs (tables p) f.annotation f.state f.settled.read (f.settled.fits trees.classes trees.sites) trees.cells trees.marks)
 
     shown_at : (node : ℕ) (l : TypeKind) → Least node (kind_of l) → IsAt p node l (fault.Typing file line k) → ShowsLeastFault p f.graphs f.state file line k
-    shown_at node l least at = record { node = node; least = subst (λ (m : TypeKind). Least node (kind_of m)) (sym at.2) least; file = at.0; line = at.1 }
+    shown_at node l least at = record { node = node; least = subst (λ (m : TypeKind). Least node (kind_of m)) (sym at.1.1) least; in_file = at.0; on_line = at.1.0 }
 
     by_fault : (e : TypeFault) → Tells (least_fault p f.graphs f.annotation (tables p)) (Err e) → IsTold p e (fault.Typing file line k) → ShowsLeastFault p f.graphs f.state file line k
     by_fault (typing.ConstantModified node) tells is = shown_at node type.ConstantModified (least_at node kind.ConstantModified tells) is

@@ -1,20 +1,27 @@
--- Annotations of the trees of a program that the checks have looked at.
-use Rattle.std.specs.Prelude.{◌≡◌, ◌<◌, ◌≤◌, ◌^◌, ℕ, length}
+-- Annotations of the trees of a program that the checks have looked at, and the faults of types that these show.
+use Rattle.std.specs.Prelude.{◌≡◌, ◌<◌, ◌≤◌, ◌^◌, ◌⊎◌, ℕ, true, false, length, slice_get, Some}
 use Rattle.rpy_tree.specs.Places.{node_file, node_line}
 use Rattle.rpy_tree.specs.declared.program.Program.{Program}
 use Rattle.resolved_meaning.specs.Trees.{program_of}
 use Rattle.resolver_laws.specs.Made.{HaveApartNodes}
+use Rattle.flow_graph.specs.declared.graph.Graph.{Graph}
 use Rattle.flow_graph.specs.declared.graph.Graphs.{Graphs}
+use Rattle.flow_graph.specs.declared.graph.Op.{Op}
 use Rattle.flow_space.specs.Placed.{StandFor}
 use Rattle.flow_space.specs.Trees.{functions_of}
 use Rattle.class_desc.specs.Tables.{tables}
+use Rattle.ann_element.specs.declared.annotation.Annotation as element
+use Rattle.ann_lattice.specs.Laws.{named}
+use Rattle.ann_lattice.specs.Shape.{shape}
 use Rattle.ann_laws.specs.Rows.{HasClasses}
 use Rattle.ann_needs.specs.View.{nowhere, assignment, whole}
 use Rattle.ann_needs.specs.declared.state.State.{State}
 use Rattle.ann_layout.specs.Layout.{plan, planned}
 use Rattle.ann_places.specs.Spots.{start}
 use Rattle.ann_tree.specs.Annotation.{Annotation}
-use Rattle.ann_read.specs.Reading.{reading}
+use Rattle.ann_read.specs.Reading.{In, ops_of, reading}
+use Rattle.ann_settled.specs.Nodes.{is_augmented}
+use Rattle.ann_settled.specs.Read.{element_at}
 use Rattle.ann_least.specs.Least.{IsAnnotation, IsLeast}
 use Rattle.rtyper_core.specs.declared.fault.FaultKind.{FaultKind}
 use Rattle.rtyper_core.specs.declared.fault.FaultKind.TheVariants as kind
@@ -37,7 +44,15 @@ kind_of type.MaybeUnbound = kind.MaybeUnbound
 kind_of type.Family = kind.Family
 kind_of type.EntryResult = kind.EntryResult
 
+-- an augmented assignment has the node: its operation gives the new value, which is that of no expression
+abbrev pub IsAugmented : Graphs → ℕ → Type 0
+IsAugmented gs node = (f : ℕ) × (graph : Graph) × (o : Op) × (slice_get gs.graphs f ≡ Some graph) × In (ops_of graph) o × (o.value ≡ false) × (is_augmented o.op ≡ true) × (o.node ≡ node)
+
 module _ (p : Program) (gs : Graphs) where
+  -- with the least site of each class, a node has the element that is read at it, but where it is that of an augmented assignment
+  abbrev pub HasElements : element.Annotation → State → Type 0
+  HasElements n s = (node : ℕ) → node < length n.nodes → (named s.same (shape (element_at n.nodes node)) ≡ named s.same ((reading (whole (plan p gs (tables p))) (assignment s)).element node)) ⊎ IsAugmented gs node
+
   -- what stands in these cells and marks, read at the nodes of the trees, shows no fault of types
   abbrev pub ShowsNoFault : State → Type 0
   ShowsNoFault s = HasNoFault p (whole (plan p gs (tables p))) (reading (whole (plan p gs (tables p))) (assignment s))
@@ -46,8 +61,8 @@ module _ (p : Program) (gs : Graphs) where
   pub record ShowsLeastFault (s : State) (file line : ℕ) (k : TypeKind) : Type 0 where
     pub node : ℕ
     pub least : IsLeastFault p (whole (plan p gs (tables p))) (reading (whole (plan p gs (tables p))) (assignment s)) node (kind_of k)
-    pub file : length p.modules < 2 ^ 32 → file ≡ node_file p.modules node
-    pub line : line ≡ node_line p.modules node
+    pub in_file : length p.modules < 2 ^ 32 → file ≡ node_file p.modules node
+    pub on_line : line ≡ node_line p.modules node
 
 module _ (p : Program) (gs : Graphs) (stand : StandFor p gs) where
   -- an annotation of the trees with bound names for which the graphs stand

@@ -8,7 +8,7 @@ ghost use Rattle.rpy_checked.specs.declared.fault.CheckFault.{CheckFault};
 ghost use Rattle.rpy_checked.specs.declared.fault.CheckFault.TheVariants.{Typing};
 ghost use Rattle.rpy_checked.specs.declared.fault.TypeKind.{TypeKind};
 ghost use Rattle.rpy_checked.specs.Settles.{HasTypes, HasConflict, HasFault};
-ghost use Rattle.check_laws.specs.Trees.{HasTrees, ShowsNoFault, ShowsLeastFault, IsOfTrees, IsLeastOfTrees};
+ghost use Rattle.check_laws.specs.Trees.{HasTrees, HasElements, ShowsNoFault, ShowsLeastFault, IsOfTrees, IsLeastOfTrees};
 
 use typing_laws::the_least_fault_is_that_of_trees;
 
@@ -16,6 +16,11 @@ use typing_laws::the_least_fault_is_that_of_trees;
 /// the trees with bound names, is the least annotation of these trees.
 pub fn types_are_of_the_least_annotation_of_the_trees()
     ensures { (p : Program) (gs : Graphs) (n : element.Annotation) (types : HasTypes p gs n) → HasTrees p gs → IsLeastOfTrees p gs types.stand types.state }
+{}
+
+/// The elements of nodes that are answered are its elements.
+pub fn nodes_have_the_elements_of_the_trees()
+    ensures { (p : Program) (gs : Graphs) (n : element.Annotation) (types : HasTypes p gs n) → HasTrees p gs → HasElements p gs n types.state }
 {}
 
 /// That annotation shows no fault of types.

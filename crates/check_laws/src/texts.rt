@@ -11,12 +11,12 @@ ghost use Rattle.rpy_checked.specs.declared.fault.CheckFault.{CheckFault};
 ghost use Rattle.rpy_checked.specs.declared.fault.CheckFault.TheVariants.{Typing};
 ghost use Rattle.rpy_checked.specs.declared.fault.TypeKind.{TypeKind};
 ghost use Rattle.rpy_checked.specs.Settles.{IsSmall, HasTypes, HasConflict, HasFault};
-ghost use Rattle.check_laws.specs.Trees.{HasTrees, ShowsNoFault, ShowsLeastFault, IsOfTrees, IsLeastOfTrees};
+ghost use Rattle.check_laws.specs.Trees.{HasTrees, HasElements, ShowsNoFault, ShowsLeastFault, IsOfTrees, IsLeastOfTrees};
 
 use crate::laws::{
     conflicts_leave_trees_without_annotation, faults_are_of_the_least_annotation_of_the_trees,
-    the_least_fault_of_the_trees_is_told, types_are_of_the_least_annotation_of_the_trees,
-    types_leave_trees_without_fault,
+    nodes_have_the_elements_of_the_trees, the_least_fault_of_the_trees_is_told,
+    types_are_of_the_least_annotation_of_the_trees, types_leave_trees_without_fault,
 };
 use names_forest::{classes_are_a_forest, programs_have_a_site};
 use parse_nodes::modules_number_their_nodes;
@@ -42,6 +42,14 @@ pub fn types_of_texts_are_of_the_least_annotation()
 {
     programs_of_texts_have_trees();
     types_are_of_the_least_annotation_of_the_trees();
+}
+
+/// The elements of nodes that are answered are its elements.
+pub fn nodes_have_the_elements_of_texts()
+    ensures { (sources names : List (List ℕ)) (modules : List Named) (p : Program) (gs : Graphs) (n : element.Annotation) (types : HasTypes p gs n) → AreModules sources names modules → prog modules ≡ Some p → HasElements p gs n types.state }
+{
+    programs_of_texts_have_trees();
+    nodes_have_the_elements_of_the_trees();
 }
 
 /// That annotation shows no fault of types.

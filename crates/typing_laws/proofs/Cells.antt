@@ -22,11 +22,11 @@ past [] i x le = refl
 past (y ∷ xs) zero x le = absurd (omega (arith, le))
 past (y ∷ xs) (suc i) x le = past xs i x (omega (arith, le))
 
-unreached_shape : shape element.Unreached ≡ Nothing
+pub unreached_shape : shape element.Unreached ≡ Nothing
 unfolding forms.roll-Element denote.Hole.Carrier.roll
 unreached_shape = fold-roll-Element Shape shape_step Element-F.Unreached
 
-shape_at : (cells : List Element) (c : ℕ) → shape (element_at cells c) ≡ get_or (map shape cells) c Nothing
+pub shape_at : (cells : List Element) (c : ℕ) → shape (element_at cells c) ≡ get_or (map shape cells) c Nothing
 shape_at [] c = unreached_shape
 shape_at (x ∷ xs) zero = refl
 shape_at (x ∷ xs) (suc c) = shape_at xs c
