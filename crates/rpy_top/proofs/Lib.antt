@@ -1,15 +1,3 @@
-mod Abstract
-mod Digits
-mod Goes
 mod Loading
-mod MachineSide
-mod MeanSide
-mod Options
-mod Printing
-mod Quotients
-mod Read
-mod Reports
-mod Rules
 mod Samples
 mod Translation
-mod Whole

@@ -3,18 +3,19 @@ use Rattle.std.proofs.Common.{◌≡◌, ℕ, zero, suc, ◌+◌, ◌≤◌, Boo
 use Rattle.std.specs.Prelude.{slice_get, nat_lt, nat_le, map, IfSome}
 use Rattle.rpy_top.specs.declared.fault.TranslateFault.{TranslateFault}
 use Rattle.rpy_top.specs.declared.fault.TranslateFault.TheVariants as fault
-use Rattle.rpy_top.specs.Command.{module_name}
+use Rattle.rpy_words.specs.Command.{module_name}
 use Rattle.std.proofs.lemmas.Bool.Decides.{nat_tests}
 use Rattle.rpy_base.specs.Reading.{Disk}
 use Rattle.rpy_front.specs.Modules.{are_short}
 use Rattle.ll_code.specs.declared.program.LlProgram.{LlProgram}
-use Rattle.rpy_top.specs.Answer.{Filed, filed, Sunk, AllRead, AreBytes, AreFirst, AreSources, AreChecked, AreRefused, OfSources, WritesTo, WritesFiles, LowersTo, LowersFiles, MakesText, MakesCode, Stops, untranslated, Took, IsQuiet, PutEnds, Builds, StopsAt, StopsAtNext, StopsLoading, limit}
-use Rattle.rpy_top.proofs.Rules.{and_both}
+use Rattle.rpy_edge.specs.Edge.{Filed, filed, Sunk, AllRead, AreBytes, Took, IsQuiet, PutEnds}
+use Rattle.rpy_top.specs.Answer.{AreFirst, AreSources, AreChecked, AreRefused, WritesTo, WritesFiles, LowersTo, LowersFiles, MakesText, MakesCode, Stops, untranslated, Builds, StopsAtNext, StopsLoading, limit}
+use Rattle.rpy_words.proofs.Tests.{and_both}
 use Rattle.rpy_top.specs.declared.building.BuildWork.{BuildWork}
-use Rattle.rpy_top.specs.declared.building.BuildWork.TheVariants.{Ended, AtFile, Refused, Misnamed}
-use Rattle.rpy_top.specs.declared.job.Task.{Task}
-use Rattle.rpy_top.specs.declared.status.Status.{Status}
-use Rattle.rpy_top.specs.declared.status.Status.TheVariants as status
+use Rattle.rpy_top.specs.declared.building.BuildWork.TheVariants.{Ended, AtFile}
+use Rattle.rpy_words.specs.declared.job.Task.{Task}
+use Rattle.rpy_edge.specs.declared.status.Status.{Status}
+use Rattle.rpy_edge.specs.declared.status.Status.TheVariants as status
 
 same : {A : Type 0} (a b : A) → Some a ≡ Some b → a ≡ b
 same a b e = cc

@@ -1,13 +1,13 @@
 -- The sample program: where there is no memory, and where it was run.
 use Rattle.std.proofs.Common.{◌≡◌, List, [], ℕ, length, Some, refl, sym, ap, subst, ◌∙◌, inl, inr}
 use Rattle.rpy_base.specs.Watching.{Seen}
-use Rattle.rpy_top.specs.Answer.{Sunk, IsQuiet}
+use Rattle.rpy_edge.specs.Edge.{Sunk, IsQuiet}
 use Rattle.rpy_top.specs.Running.{AnswersSource, WorksSample, SaidSample, taken_length}
 use Rattle.rpy_top.specs.declared.building.BuildWork.TheVariants.{Ended}
 use Rattle.rpy_top.specs.declared.run.RunWork.{RunWork}
 use Rattle.rpy_top.specs.declared.run.RunWork.TheVariants.{Unmade}
-use Rattle.rpy_top.specs.declared.status.Status.{Status}
-use Rattle.rpy_top.specs.declared.status.Status.TheVariants.{NoMem}
+use Rattle.rpy_edge.specs.declared.status.Status.{Status}
+use Rattle.rpy_edge.specs.declared.status.Status.TheVariants.{NoMem}
 
 nothing : Sunk
 nothing = record { faults_before = 0; faults = 0; taken_before = Some []; taken = Some [] }

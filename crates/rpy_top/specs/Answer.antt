@@ -1,13 +1,12 @@
 -- When a call answers each status, and what then stands in the sinks.
-use Rattle.std.specs.Prelude.{◌≡◌, ◌⊎◌, nat_le, Bool, true, false, ℕ, ◌+◌, ◌<◌, ◌≤◌, List, [], ◌∷◌, ◌++◌, length, take, map, slice_get, unwrap_or, codes, Option, Some, None, IfSome, option_map, Result, Ok, Err}
+use Rattle.std.specs.Prelude.{◌≡◌, ◌⊎◌, nat_le, Bool, true, false, ℕ, ◌+◌, List, [], ◌∷◌, ◌++◌, length, map, slice_get, unwrap_or, codes, Option, Some, None, Result, Ok, Err}
 use Rattle.rpy_base.specs.Causes.{Rose}
-use Rattle.rpy_base.specs.Reading.{Disk}
 use Rattle.csub_tree.specs.Spelling.{file_text}
 use Rattle.rpy_first.specs.FirstPath.{first_path}
-use Rattle.rpy_top.specs.Lower.{lowered}
 use Rattle.rpy_first.specs.Gives.{Gives}
 use Rattle.rpy_first.specs.Program.{program_of}
-use Rattle.rpy_top.specs.Built.{Built}
+use Rattle.first_lower.specs.Lower.{text_of}
+use Rattle.first_lower.specs.Built.{Built}
 use Rattle.ll_file.specs.File.{IsOfSome}
 use Rattle.csub_tree.specs.declared.tree.CFile.{CFile}
 use Rattle.ll_code.specs.declared.program.LlProgram.{LlProgram}
@@ -16,7 +15,6 @@ use Rattle.rpy_first.specs.declared.fault.TranslateFault.TheVariants as front
 use Rattle.rpy_checked.specs.Settles.{HasTypes, HasConflict, HasFault}
 use Rattle.rpy_checked.specs.declared.fault.CheckFault.{CheckFault}
 use Rattle.rpy_checked.specs.declared.fault.CheckFault.TheVariants as check
-use Rattle.rpy_checked.specs.declared.fault.TypeKind.{TypeKind}
 use Rattle.rpy_checked.specs.Words.{words_of as type_words}
 use Rattle.ann_text.specs.AnnotationText.{annotation_text}
 use Rattle.ann_element.specs.declared.annotation.Annotation.{Annotation}
@@ -31,89 +29,20 @@ use Rattle.rpy_front.specs.Names.{IsMisnamed, name_refusal}
 use Rattle.rpy_tree.specs.declared.program.Program.{Program}
 use Rattle.rpy_top.specs.declared.building.BuildWork.{BuildWork}
 use Rattle.rpy_top.specs.declared.building.BuildWork.TheVariants.{Ended, AtFile, Refused as RefusedAt, Misnamed, Conflicts, Untypable}
-use Rattle.rpy_top.specs.Command.{Brought, Writing, Running as RunningFile, RunningProgram, RunningLow, Sampling, NotThere, module_name}
-use Rattle.rpy_top.specs.declared.job.Task.{Task}
-use Rattle.rpy_top.specs.declared.job.Task.TheVariants.{Build, Check, Annotate, Flow}
+use Rattle.rpy_words.specs.Command.{Brought, Writing, Running as RunningFile, RunningProgram, RunningLow, Sampling, NotThere, module_name}
+use Rattle.rpy_words.specs.declared.job.Task.{Task}
+use Rattle.rpy_words.specs.declared.job.Task.TheVariants.{Build, Check, Annotate, Flow}
 use Rattle.rpy_resolved.specs.Label.{class_labels, function_labels}
 use Rattle.flow_graph.specs.GraphText.{graphs_text}
 use Rattle.flow_graph.specs.declared.graph.Graphs.{Graphs}
 use Rattle.rpy_first.specs.declared.body.Body.{Body}
-use Rattle.rpy_top.specs.declared.status.Status.{Status}
-use Rattle.rpy_top.specs.declared.status.Status.TheVariants.{Done, Usage, NotSource, NotProgram, Conflicting, Untyped, TooMany, NotC, Stuck, NoFile, NotRead, WriteFault, Raised, Failed, Running, NoMem, WorkSpent, TooLong}
-
-abbrev pub code : Status → ℕ
-code Done = 0
-code Usage = 1
-code NotSource = 2
-code NotC = 6
-code Stuck = 7
-code NoFile = 8
-code NotRead = 8
-code WriteFault = 9
-code Raised = 10
-code Failed = 11
-code Running = 12
-code NoMem = 13
-code WorkSpent = 14
-code TooLong = 15
-code NotProgram = 3
-code Conflicting = 4
-code Untyped = 5
-code TooMany = 15
+use Rattle.rpy_edge.specs.Edge.{Sunk, Filed, Took, TookPart, IsQuiet, AllRead, AreBytes, IsMissing, IsTooLong, Says, line}
+use Rattle.rpy_edge.specs.declared.status.Status.{Status}
+use Rattle.rpy_edge.specs.declared.status.Status.TheVariants.{Done, Usage, NotSource, NotProgram, Conflicting, Untyped, TooMany, NoFile, NotRead, WriteFault, NoMem, TooLong}
 
 -- how many bytes a source may have
 abbrev pub limit : ℕ
 limit = 1048576
-
--- how many bytes a C file may have
-abbrev pub c_limit : ℕ
-c_limit = 67108864
-
--- a sink before and after a call: its count of faults, and what it took where it tells that
-pub record Sunk : Type 0 where
-  pub faults_before : ℕ
-  pub faults : ℕ
-  pub taken_before : Option (List ℕ)
-  pub taken : Option (List ℕ)
-
-abbrev pub sunk : {S : Type 0} → (S → ℕ) → (S → Option (List ℕ)) → S → S → Sunk
-sunk faults taken old new = record { faults_before = faults old; faults = faults new; taken_before = taken old; taken = taken new }
-
--- the files before and after a call: what they hold, where they tell it, and their count of faults
-pub record Filed : Type 0 where
-  pub held : Option Disk
-  pub faults_before : ℕ
-  pub faults : ℕ
-
-abbrev pub filed : {F : Type 0} → (F → Option Disk) → (F → ℕ) → F → F → Filed
-filed held faults old new = record { held = held old; faults_before = faults old; faults = faults new }
-
--- in the call the sink took this text and did not fail
-abbrev pub Took : Sunk → List ℕ → Type 0
-Took sink text = (sink.faults ≡ sink.faults_before) × (sink.taken ≡ option_map (λ before. before ++ text) sink.taken_before)
-
--- it took a first part of this text, and failed
-abbrev pub TookPart : Sunk → List ℕ → Type 0
-TookPart sink text = Rose sink.faults_before sink.faults × ((k : ℕ) × (sink.taken ≡ option_map (λ before. before ++ take k text) sink.taken_before))
-
--- it is as before
-abbrev pub IsQuiet : Sunk → Type 0
-IsQuiet sink = (sink.faults ≡ sink.faults_before) × (sink.taken ≡ sink.taken_before)
-
--- no read failed
-abbrev pub AllRead : Filed → Type 0
-AllRead files = files.faults ≡ files.faults_before
-
--- these are the file's bytes, at most so many, where the files tell what they hold
-abbrev pub AreBytes : ℕ → Filed → List ℕ → List ℕ → Type 0
-AreBytes most files file bytes = (length bytes ≤ most) × IfSome files.held (λ disk. disk file ≡ Some bytes)
-
--- there is no file of this name, or it has more bytes than these, where the files tell it
-abbrev pub IsMissing : Filed → List ℕ → Type 0
-IsMissing files file = IfSome files.held (λ disk. disk file ≡ None)
-
-abbrev pub IsTooLong : ℕ → Filed → List ℕ → Type 0
-IsTooLong most files file = IfSome files.held (λ disk. IfSome (disk file) (λ bytes. most < length bytes))
 
 -- these are the bytes of the first files
 abbrev pub AreFirst : Filed → List (List ℕ) → List (List ℕ) → Type 0
@@ -130,10 +59,6 @@ abbrev pub StopsAt : (List ℕ → Type 0) → Filed → List (List ℕ) → ℕ
 StopsAt Why files names file = (sources : List (List ℕ)) × AreFirst files names sources × (file ≡ length sources) × ((name : List ℕ) × (slice_get names file ≡ Some name) × Why name)
 
 -- ---- translation
-
--- the C text of a program
-abbrev pub text_of : List ℕ → Body → List ℕ
-text_of name body = file_text (lowered (name ++ codes ".entry_point") body)
 
 -- the body of the only module, where there is one alone and it is of the first path
 abbrev pub only_body : List Named → Option Body
@@ -413,25 +338,6 @@ files_of (Sampling k) = codes "sample" ∷ []
 abbrev pub file_at : List (List ℕ) → ℕ → List ℕ
 file_at names file = unwrap_or (slice_get names file) []
 
-abbrev pub usage_line : List ℕ
-usage_line = codes "usage: rpy COMMAND [OPTION..] FILE.. [-- ARG..]\n"
-
--- the line for a status, of this file; none where nothing is to be written, and where it tells more than the status
-abbrev pub line : Status → List ℕ → List ℕ
-line Usage file = usage_line
-line NoFile file = file ++ codes ": no such file\n"
-line NotRead file = file ++ codes ": not read\n"
-line TooLong file = file ++ codes ": too long\n"
-line TooMany file = codes "too many files\n"
-line other file = []
-
--- a call answers the status of its work once the line for it is written to err; else a fault of err, or want of memory
-abbrev pub Says : Status → Status → List ℕ → Sunk → Type 0
-Says worked answered text err =
-    ((answered ≡ worked) × Took err text)
-    ⊎ ((answered ≡ WriteFault) × TookPart err text)
-    ⊎ ((answered ≡ NoMem) × IsQuiet err)
-
 abbrev pub Said : BuildWork → Status → List (List ℕ) → Sunk → Type 0
 Said (Ended worked) answered names err = Says worked answered (line worked []) err
 Said (AtFile file worked) answered names err = Says worked answered (line worked (file_at names file)) err
@@ -443,21 +349,6 @@ Said (Untypable file at kind) answered names err = Says Untyped answered (line_a
 -- the whole call
 abbrev pub Answers : Status → Brought → Filed → Sunk → Sunk → Type 0
 Answers answered what files out err = (work : BuildWork) × Works work what files out × Said work answered (files_of what) err
-
--- why a put or a read stopped, and what the sink and the files are then
-abbrev pub PutEnds : Result (Unit {0}) Status → List ℕ → Sunk → Type 0
-PutEnds (Ok done) text sink = Took sink text
-PutEnds (Err WriteFault) text sink = TookPart sink text
-PutEnds (Err NoMem) text sink = IsQuiet sink
-PutEnds (Err status) text sink = ⊥
-
-abbrev pub Loads : ℕ → Result (List ℕ) Status → List ℕ → Filed → Type 0
-Loads most (Ok bytes) file files = AreBytes most files file bytes × AllRead files
-Loads most (Err NoFile) file files = IsMissing files file × AllRead files
-Loads most (Err NotRead) file files = Rose files.faults_before files.faults
-Loads most (Err TooLong) file files = IsTooLong most files file × AllRead files
-Loads most (Err NoMem) file files = AllRead files
-Loads most (Err status) file files = ⊥
 
 -- why this file, which is the next one, is not read
 abbrev pub StopsAtNext : BuildWork → List ℕ → Filed → ℕ → Type 0
@@ -497,8 +388,3 @@ WritesFiles task sources names (Err work) = (work ≡ Ended NoMem) ⊎ ((fault :
 abbrev pub LowersFiles : List (List ℕ) → List (List ℕ) → Result LlProgram BuildWork → Type 0
 LowersFiles sources names (Ok typed) = HasProgram sources (map module_name names)
 LowersFiles sources names (Err work) = (work ≡ Ended NoMem) ⊎ ((fault : TranslateFault) × (work ≡ untranslated fault) × LowersTo sources (map module_name names) (Err fault))
-
--- a line is said, if there was memory for it
-abbrev pub SaysLine : {N : Type 0} → Status → Status → Result (List ℕ) N → Sunk → Type 0
-SaysLine status answered (Ok text) err = Says status answered text err
-SaysLine status answered (Err n) err = (answered ≡ NoMem) × IsQuiet err

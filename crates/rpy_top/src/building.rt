@@ -2,21 +2,21 @@
 ghost use Rattle.std.specs.Prelude.{◌≡◌, ◌≤◌, ◌<◌, ◌++◌, length, nat_le, true, codes, IfOk};
 ghost use Rattle.rpy_first.specs.Source.{line_at};
 ghost use Rattle.rpy_checked.specs.Words.{words_of};
-ghost use Rattle.rpy_top.specs.Command.{are_sources};
+ghost use Rattle.rpy_words.specs.Command.{are_sources};
 ghost use Rattle.rpy_front.specs.Modules.{are_short};
 ghost use Rattle.rpy_top.specs.Answer as spec;
-ghost use Rattle.rpy_top.specs.Answer.{sunk, filed, Builds, MakesText, MakesCode, LoadsNext, LoadsAll, LowersFiles, WritesFiles, Said, SaysLine};
+ghost use Rattle.rpy_edge.specs.Edge.{sunk, filed, SaysLine};
+ghost use Rattle.rpy_top.specs.Answer.{Builds, MakesText, MakesCode, LoadsNext, LoadsAll, LowersFiles, WritesFiles, Said};
 
-use crate::edge::{joined, load, put, say, say_text};
 use crate::fault::TranslateFault;
-use crate::job::Task;
 use crate::sources::{lower_sources, names_of, write_sources};
-use crate::status::Status;
 use ll_code::LlProgram;
 use rpy_base::{Files, NoMem, Seq, Sink, Text};
 use rpy_checked::{TypeKind, type_words};
+use rpy_edge::{Status, joined, load, put, say, say_text};
 use rpy_first::{NameKind, SourceKind, line_at, refusal};
 use rpy_front::{LIMIT, name_refusal};
+use rpy_words::Task;
 use std::alloc::Global;
 
 /// How many files a program may have.
@@ -99,7 +99,7 @@ pub fn untranslated(fault: TranslateFault) -> BuildWork
 }
 
 // What is written of the program that sources are, which the names of their files name.
-#[tactic(auto, using(crate::proofs::Translation::sources_named, crate::proofs::Translation::some_sources))]
+#[tactic(auto, using(rpy_words::proofs::Files::sources_named, rpy_words::proofs::Files::some_sources))]
 fn write_files(
     alloc: Global,
     task: Task,
@@ -123,7 +123,7 @@ fn write_files(
 }
 
 // The low-level program of the program that sources are, which the names of their files name.
-#[tactic(auto, using(crate::proofs::Translation::sources_named, crate::proofs::Translation::some_sources))]
+#[tactic(auto, using(rpy_words::proofs::Files::sources_named, rpy_words::proofs::Files::some_sources))]
 fn lower_files(alloc: Global, files: &[Text], sources: &[Text]) -> Result<LlProgram, BuildWork>
     requires named { are_sources files.now ≡ true }
     requires few { length files.now ≤ 64 }
@@ -273,7 +273,7 @@ fn type_line(alloc: Global, file: &[u8], line: u32, kind: TypeKind) -> Result<Te
 }
 
 /// Writes the line for what came of the work.
-#[tactic(auto, using(crate::proofs::Translation::said_line))]
+#[tactic(auto, using(rpy_edge::proofs::Lines::said_line))]
 pub fn say_work<E: Sink>(alloc: Global, work: BuildWork, names: &[Text], err: &mut E) -> Status
     ensures { Said work result names.now (sunk E.faults E.taken err.old err.new) }
 {

@@ -1,17 +1,16 @@
 // The command that runs a program by its low-level program.
 ghost use Rattle.std.specs.Prelude.{◌≡◌, ◌∷◌, true};
-ghost use Rattle.rpy_top.specs.Answer.{sunk, filed};
-ghost use Rattle.rpy_top.specs.Command.{are_sources, words_of};
+ghost use Rattle.rpy_edge.specs.Edge.{sunk, filed};
+ghost use Rattle.rpy_words.specs.Command.{are_sources, words_of};
 ghost use Rattle.rpy_top.specs.Running as spec;
 
 use crate::building::{BuildWork, make_low, say_work};
-use crate::crun::{arguments, outcome_line, outcome_status, say_spent};
-use crate::edge::say_text;
-use crate::status::Status;
-use crate::words::RunAsked;
 use ll_code::LlProgram;
 use llinterp_run::{LlFault, run_ll};
 use rpy_base::{Files, NoMem, Outcome, Sink};
+use rpy_crun::{arguments, outcome_line, outcome_status, say_spent};
+use rpy_edge::{Status, say_text};
+use rpy_words::RunAsked;
 use std::alloc::Global;
 
 /// What came of the work: there is no low-level program to run, there was no memory to begin, or it was

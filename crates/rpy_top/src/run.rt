@@ -1,17 +1,15 @@
 // The command that runs a program by its C text.
 ghost use Rattle.std.specs.Prelude.{◌≡◌, map, length, nat_le, All, true};
 ghost use Rattle.rpy_base.specs.Watching.{IsFresh};
-ghost use Rattle.rpy_top.specs.Answer.{sunk, filed, Said};
-ghost use Rattle.rpy_top.specs.Command.{are_sources, words_of};
+ghost use Rattle.rpy_edge.specs.Edge.{sunk, filed};
+ghost use Rattle.rpy_words.specs.Command.{are_sources, words_of};
 ghost use Rattle.rpy_top.specs.Running as spec;
 
 use crate::building::{BuildWork, file_at, make, say_work};
-use crate::crun::{CWork, run_text, say_ran};
-use crate::edge::say;
-use crate::job::Task;
-use crate::status::Status;
-use crate::words::RunAsked;
 use rpy_base::{Files, HeapWatch, Sink, Text};
+use rpy_crun::{CWork, run_text, say_ran};
+use rpy_edge::{Status, say};
+use rpy_words::{RunAsked, Task};
 use std::alloc::Global;
 
 /// What came of the work on a program that is run: there is no C text to run, or this is what came

@@ -2,22 +2,21 @@
 ghost use Rattle.std.specs.Prelude.{◌≡◌, ◌++◌, ◌∷◌, [], length, map, All, IfOk, codes};
 ghost use Rattle.rpy_base.specs.Watching.{IsFresh};
 ghost use Rattle.rpy_sample.specs.Sample as text;
-ghost use Rattle.rpy_top.specs.Answer.{sunk, Says};
-ghost use Rattle.rpy_top.specs.Command.{words_of};
+ghost use Rattle.rpy_crun.specs.Running.{outcome_status};
+ghost use Rattle.rpy_edge.specs.Edge.{sunk, Says};
+ghost use Rattle.rpy_words.specs.Command.{words_of};
 ghost use Rattle.rpy_top.specs.Running as spec;
 
 use crate::building::{BuildWork, untranslated};
-use crate::crun::{CWork, outcome_line, outcome_status, run_text};
-use crate::edge::say_text;
-use crate::job::Task;
 use crate::run::{RunWork, say_run};
 use crate::sources::write_sources;
-use crate::status::Status;
-use crate::words::{DEFAULT_STEPS, RunAsked};
 use csub_runner::CRan;
 use rpy_base::{HeapWatch, MemSink, NoMem, Sink, Text, udecimal};
+use rpy_crun::{CWork, outcome_line, outcome_status, run_text};
+use rpy_edge::{Status, say_text};
 use rpy_front::are_short;
 use rpy_sample::sample_text;
+use rpy_words::{DEFAULT_STEPS, RunAsked, Task};
 use std::alloc::Global;
 
 // A list of one text.
@@ -30,7 +29,7 @@ fn one(alloc: Global, text: Text) -> Result<Vec<Text>, NoMem>
 }
 
 // The C text of a source of the module of this name.
-#[tactic(auto, using(crate::proofs::Translation::sample_named))]
+#[tactic(auto, using(rpy_words::proofs::Files::sample_named))]
 fn translated(alloc: Global, source: &[Text], names: &[Text]) -> Result<Text, BuildWork>
     requires one { length source.now ≡ 1 }
     requires named { names.now ≡ codes "sample" ∷ [] }
@@ -69,7 +68,7 @@ fn put_summary<K: Sink>(
     printed: u64,
     out: &mut K,
 ) -> Status
-    ensures { Says (spec.outcome_status ran.now.outcome) result (spec.summary (spec.first_length source.now) ran.now printed) (sunk K.faults K.taken out.old out.new) }
+    ensures { Says (outcome_status ran.now.outcome) result (spec.summary (spec.first_length source.now) ran.now printed) (sunk K.faults K.taken out.old out.new) }
 {
     let length = match source {
         [] => 0,

@@ -1,14 +1,12 @@
 // Sources to what is written of their program.
-ghost use Rattle.std.specs.Prelude.{◌≡◌, ◌≤◌, ◌<◌, ◌++◌, map, length, true, IfOk, codes};
+ghost use Rattle.std.specs.Prelude.{◌≡◌, ◌≤◌, ◌<◌, map, length, true, IfOk};
 ghost use Rattle.rpy_front.specs.Modules.{are_short};
-ghost use Rattle.rpy_top.specs.Command.{are_module_names, is_name, are_sources, module_name};
-ghost use Rattle.rpy_top.specs.Answer.{AnnotatesProgram, ApprovesProgram, BuildsProgram, CompilesProgram, DrawsProgram, LowersModules, LowersProgram, LowersTo, OnlyBody, ShowsProgram, WritesModules, WritesProgram, WritesTo, text_of};
+ghost use Rattle.rpy_words.specs.Command.{are_module_names, is_name, module_name};
+ghost use Rattle.rpy_top.specs.Answer.{AnnotatesProgram, ApprovesProgram, BuildsProgram, CompilesProgram, DrawsProgram, LowersModules, LowersProgram, LowersTo, OnlyBody, ShowsProgram, WritesModules, WritesProgram, WritesTo};
 
 use crate::fault::{TranslateFault, check_fault, front_fault};
-use crate::job::Task;
-use crate::lower::lower;
-use crate::words::module_name;
 use ann_text::annotation_text;
+use first_lower::write_program;
 use flow_graph::graphs_text;
 use genc_writer::write_c;
 use ll_code::LlProgram;
@@ -19,24 +17,8 @@ use rpy_first::{Body, TranslateFault as FrontFault, first_path};
 use rpy_front::{read_modules, refused_name};
 use rpy_names::{Named, resolve};
 use rpy_tree::Program;
+use rpy_words::{Task, module_name};
 use std::alloc::Global;
-
-// The name of the C function that is the program.
-fn entry_name(alloc: Global, name: &[u8]) -> Result<Text, NoMem>
-    ensures { IfOk result (λ text. text ≡ name.now ++ codes ".entry_point") }
-{
-    let mut text = Text::from_bytes(alloc, name)?;
-    text.append(b".entry_point")?;
-    Ok(text)
-}
-
-// The C text of a program.
-fn write_program(alloc: Global, name: &[u8], body: &Body) -> Result<Text, NoMem>
-    ensures { IfOk result (λ text. text ≡ text_of name.now body.now) }
-{
-    let file = lower(alloc, entry_name(alloc, name)?, body)?;
-    write_c(alloc, &file)
-}
 
 // The body of the only module, where it is of the first path.
 fn only_body(alloc: Global, modules: &[Named]) -> Result<Body, FrontFault>
@@ -150,7 +132,7 @@ fn write_modules(
 }
 
 /// What is written of sources, each with its module's name.
-#[tactic(auto, using(crate::proofs::Translation::first_named, crate::proofs::Translation::written))]
+#[tactic(auto, using(rpy_words::proofs::Files::first_named, crate::proofs::Translation::written))]
 pub fn write_sources(
     alloc: Global,
     task: Task,

@@ -2,22 +2,23 @@
 ghost use Rattle.std.specs.Prelude.{◌≡◌, ◌≤◌, ◌<◌, length, map, All, true};
 ghost use Rattle.rpy_base.specs.Watching.{Seen, IsFresh};
 ghost use Rattle.rpy_front.specs.Modules.{are_short};
-ghost use Rattle.rpy_top.specs.Command.{command, brought, Writing, are_module_names, are_sources};
-ghost use Rattle.rpy_top.specs.declared.job.Task.TheVariants.{Build};
-ghost use Rattle.rpy_top.specs.declared.status.Status.{Status};
-ghost use Rattle.rpy_top.specs.Answer.{code, sunk, filed, Answers, WritesTo};
+ghost use Rattle.rpy_words.specs.Command.{command, brought, Writing, are_module_names, are_sources};
+ghost use Rattle.rpy_words.specs.declared.job.Task.TheVariants.{Build};
+ghost use Rattle.rpy_edge.specs.declared.status.Status.{Status};
+ghost use Rattle.rpy_edge.specs.Edge.{code, sunk, filed};
+ghost use Rattle.rpy_top.specs.Answer.{Answers, WritesTo};
 ghost use Rattle.rpy_top.specs.Running.{AnswersCall, AreLeft};
 
 use crate::building::{BuildWork, say_work, write};
-use crate::crun::crun;
 use crate::fault::TranslateFault;
-use crate::job::{Job, Task, job_of};
 use crate::llrun::llrun;
 use crate::run::run;
 use crate::sample::sample;
 use crate::sources::write_sources;
-use crate::status::Status;
 use rpy_base::{Files, HeapWatch, Seq, Sink, Text};
+use rpy_crun::crun;
+use rpy_edge::Status;
+use rpy_words::{Job, Task, job_of};
 use std::alloc::Global;
 
 // Writes what is asked of the program of files, and the line for it.

@@ -1,7 +1,8 @@
 use Rattle.std.proofs.Common.{◌≡◌, ℕ, List, Some, length, refl, sym, subst, ◌∙◌, arith}
 use Rattle.std.specs.Prelude.{slice_get, Ok}
-use Rattle.rpy_top.specs.Answer.{Filed, filed, AreFirst, LoadsNext, StopsAtNext}
-use Rattle.rpy_top.proofs.Loading.{at_place, further, most, not_below, moved, same_filed, stops}
+use Rattle.rpy_edge.specs.Edge.{Filed, filed}
+use Rattle.rpy_top.specs.Answer.{AreFirst, LoadsNext}
+use Rattle.rpy_top.proofs.Loading.{at_place, further, most, not_below, moved, same_filed}
 use Rattle.rpy_top.proofs.building.load_all.Goals as goal
 
 pub loop-name-preserved : goal.loop-name-preserved

@@ -1,5 +1,6 @@
 use Rattle.std.proofs.Common.{◌≡◌, ◌-◌, length}
-use Rattle.rpy_top.specs.Answer.{filed, AreFirst}
+use Rattle.rpy_edge.specs.Edge.{filed}
+use Rattle.rpy_top.specs.Answer.{AreFirst}
 use Rattle.rpy_top.proofs.building.load_all.Given as goal
 
 abbrev pub invariant-loop-name : goal.invariant-loop-name

@@ -2,9 +2,9 @@ use Rattle.std.proofs.Common.{subst, codes, ◌++◌}
 use Rattle.rpy_checked.specs.Words.{words_of}
 use Rattle.rpy_first.specs.Source.{refusal, line_at}
 use Rattle.rpy_front.specs.Names.{name_refusal}
-use Rattle.rpy_top.specs.Answer.{Says, sunk}
-use Rattle.rpy_top.specs.declared.status.Status.TheVariants.{NotSource, NotProgram, Conflicting, Untyped}
-use Rattle.rpy_top.proofs.Translation.{said_line}
+use Rattle.rpy_edge.specs.Edge.{Says, sunk}
+use Rattle.rpy_edge.specs.declared.status.Status.TheVariants.{NotSource, NotProgram, Conflicting, Untyped}
+use Rattle.rpy_edge.proofs.Lines.{said_line}
 use Rattle.rpy_top.proofs.building.say_work.Goals as goal
 
 pub returns-in-Refused : goal.returns-in-Refused

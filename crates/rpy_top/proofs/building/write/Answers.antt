@@ -1,6 +1,6 @@
 use Rattle.std.proofs.Common.{subst, length}
 use Rattle.std.specs.Prelude.{nat_le, Err}
-use Rattle.rpy_top.specs.Answer.{Took, PutEnds, filed, sunk}
+use Rattle.rpy_edge.specs.Edge.{Took, PutEnds, filed, sunk}
 use Rattle.rpy_top.proofs.Loading.{put_ends, put_fails}
 use Rattle.rpy_top.proofs.building.write.Goals as goal
 

@@ -1,6 +1,6 @@
 use Rattle.std.proofs.Common.{[], ◌∷◌, refl}
 use Rattle.rpy_sample.specs.Sample.{sample}
-use Rattle.rpy_top.specs.Answer.{sunk}
+use Rattle.rpy_edge.specs.Edge.{sunk}
 use Rattle.rpy_top.proofs.Samples.{starved}
 use Rattle.rpy_top.proofs.sample.sample.Goals as goal
 

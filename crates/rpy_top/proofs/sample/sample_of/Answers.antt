@@ -1,5 +1,5 @@
 use Rattle.std.proofs.Common.{Some, length, refl, ap}
-use Rattle.rpy_top.specs.Answer.{Sunk, sunk}
+use Rattle.rpy_edge.specs.Edge.{Sunk, sunk}
 use Rattle.rpy_top.proofs.Samples.{answered}
 use Rattle.rpy_top.proofs.sample.sample_of.Goals as goal
 

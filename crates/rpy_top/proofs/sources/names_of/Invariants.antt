@@ -1,6 +1,6 @@
 use Rattle.std.proofs.Common.{◌≡◌, take}
 use Rattle.std.specs.Prelude.{map}
-use Rattle.rpy_top.specs.Command.{module_name}
+use Rattle.rpy_words.specs.Command.{module_name}
 use Rattle.rpy_top.proofs.sources.names_of.Given as goal
 
 abbrev pub invariant-loop-file : goal.invariant-loop-file

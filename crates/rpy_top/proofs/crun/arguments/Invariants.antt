@@ -1,5 +1,0 @@
-use Rattle.std.proofs.Common.{◌≡◌, ◌∷◌, codes, take}
-use Rattle.rpy_top.proofs.crun.arguments.Given as goal
-
-abbrev pub invariant-loop-arg : goal.invariant-loop-arg
-invariant-loop-arg l = l.made.items ≡ codes "program" ∷ take l.arg-index l.args

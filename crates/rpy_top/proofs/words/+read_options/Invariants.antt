@@ -1,4 +1,0 @@
-use Rattle.rpy_top.proofs.words.+read_options.Given as goal
-
-abbrev pub decreases-read_options : goal.decreases-read_options
-decreases-read_options l = l.turns

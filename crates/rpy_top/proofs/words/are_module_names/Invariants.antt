@@ -1,6 +1,0 @@
-use Rattle.std.proofs.Common.{◌≡◌, drop}
-use Rattle.rpy_top.specs.Command.{are_module_names}
-use Rattle.rpy_top.proofs.words.are_module_names.Given as goal
-
-abbrev pub invariant-loop-name : goal.invariant-loop-name
-invariant-loop-name l = are_module_names (drop l.name-index l.names) ≡ are_module_names l.names

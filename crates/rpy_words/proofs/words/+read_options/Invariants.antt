@@ -1,0 +1,4 @@
+use Rattle.rpy_words.proofs.words.+read_options.Given as goal
+
+abbrev pub decreases-read_options : goal.decreases-read_options
+decreases-read_options l = l.turns
