@@ -2,14 +2,8 @@
 #![tactic(auto)]
 
 #[cfg(test)]
-mod hostile;
-#[cfg(test)]
-mod program;
-#[cfg(test)]
 mod run;
 #[cfg(test)]
 mod text;
 #[cfg(test)]
 mod whole;
-#[cfg(test)]
-mod worked;

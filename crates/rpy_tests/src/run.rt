@@ -1,8 +1,6 @@
 // Whole calls that run C files in memory.
-ghost use Rattle.std.specs.Prelude.{◌≡◌, ◌≤◌};
-
-use crate::whole::{files_of, words_of};
-use rpy_base::{HeapWatch, Leaks, MemSink, NoMem, Tally, Text, pair_of};
+use rpy_base::{HeapWatch, Leaks, MemSink, NoMem, Tally, pair_of};
+use rpy_calls::{Refuses, files_of, words_of};
 use rpy_top::rpyc;
 use std::alloc::Global;
 use std::test::Fail;
@@ -21,59 +19,15 @@ const PAYS: &str =
 
 const HEAD: &str = "/* C-sub 1 */\n#include \"rpy_prim.h\"\nstruct s0 {\n";
 
-/// A watcher that refuses a block behind so many.
-#[derive(Drop)]
-pub struct Refuses {
-    made: u64,
-    gone: u64,
-    most: u64,
-    ghost in_order: { gone ≤ made },
-}
-
-impl Refuses {
-    pub fn new(most: u64) -> Refuses
-        ensures made { result.made ≡ 0 }
-        ensures gone { result.gone ≡ 0 }
-    {
-        Refuses {
-            made: 0,
-            gone: 0,
-            most,
-        }
-    }
-}
-
-impl HeapWatch for Refuses {
-    ghost use Rattle.std.specs.Prelude.{None, codes};
-    ghost use Rattle.rpy_base.specs.Watching.{Own};
-
-    ghost seen = { λ c. record { name = codes "tally"; style = Own; made = c.made; gone = c.gone; live = None } };
-
-    fn name(&self) -> &[u8] {
-        b"tally"
-    }
-
-    fn made(&mut self, _alloc: Global, _block: u64, _kind: u64, _cells: u64) -> Result<(), NoMem> {
-        if self.made >= self.most {
-            return Err(NoMem);
-        }
-        self.made += 1;
-        Ok(())
-    }
-
-    fn gone(&mut self, _block: u64) {
-        self.gone += 1;
-    }
-
-    fn report(&self, _alloc: Global) -> Result<Text, NoMem> {
-        Err(NoMem)
-    }
-}
-
-// The status of a call over one C file, and what its sinks took.
-fn run_of(alloc: Global, line: &str, text: &str) -> Result<(u8, MemSink, MemSink), NoMem> {
+// The status of a call over one file, and what its sinks took.
+pub fn run_of(
+    alloc: Global,
+    line: &str,
+    name: &str,
+    text: &str,
+) -> Result<(u8, MemSink, MemSink), NoMem> {
     let words = words_of(alloc, line)?;
-    let mut files = files_of(alloc, "c.c", text.as_bytes())?;
+    let mut files = files_of(alloc, name, text.as_bytes())?;
     let mut out = MemSink::new(alloc);
     let mut err = MemSink::new(alloc);
     let tally = Box::new(alloc, Tally::new())?;
@@ -121,7 +75,7 @@ fn c_files_run(rt: HostRuntime) -> Result<(), Fail> {
         ("crun --tally c.c", HEAD, 6, "", "c.c:4: not C-sub\n"),
         ("crun d.c", ONCE, 8, "", "d.c: no such file\n"),
     ] {
-        let (answered, out, err) = run_of(alloc, line, text)?;
+        let (answered, out, err) = run_of(alloc, line, "c.c", text)?;
         assert_eq!(rt; err.taken(), said.as_bytes(), "{line:?} on {text:?}");
         assert_eq!(rt; answered, status, "{line:?} on {text:?}");
         assert_eq!(rt; out.taken(), printed.as_bytes(), "{line:?} on {text:?}");

@@ -1,5 +1,5 @@
 // Whole calls on every operation on strings, characters and tuples, a line of the table for each.
-use crate::program::run_of;
+use crate::run::run_of;
 use std::test::Fail;
 
 // A program up to what it prints, and behind that.
@@ -120,7 +120,7 @@ fn operations_on_texts(rt: HostRuntime) -> Result<(), Fail> {
         ),
     ] {
         let source = format!(in alloc; "{before}{expression}{behind}")?;
-        let (answered, out, err) = run_of(alloc, "run --leaks a.py", source.as_str())?;
+        let (answered, out, err) = run_of(alloc, "run --leaks a.py", "a.py", source.as_str())?;
         assert_eq!(rt;
             err.taken(),
             b"returned 0\nleaks: none\n".as_slice(),

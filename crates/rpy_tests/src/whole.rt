@@ -1,5 +1,6 @@
 // Whole calls over files and sinks in memory.
-use rpy_base::{HeapWatch, Leaks, MemFiles, MemSink, NoMem, Seq, Tally, Text, pair_of};
+use rpy_base::{HeapWatch, Leaks, MemSink, NoMem, Seq, Tally, Text, pair_of};
+use rpy_calls::{files_of, words_of};
 use rpy_top::{are_module_names, are_short, rpyc, translate};
 use std::alloc::Global;
 use std::test::Fail;
@@ -12,23 +13,6 @@ const SUMS: &str =
     "def entry_point(argv):\n    x = 2 * 3 - 10\n    y = x * x\n    print y\n    x = y - x\n    return x\n";
 
 const DICTS: &str = "def entry_point(argv):\n    print len({1: 2})\n    return 0\n";
-
-pub fn words_of(alloc: Global, line: &str) -> Result<Vec<Text>, NoMem> {
-    let mut words = Vec::new(alloc);
-    for word in line.split_whitespace() {
-        words.push(Text::from_bytes(alloc, word.as_bytes())?)?;
-    }
-    Ok(words)
-}
-
-pub fn files_of(alloc: Global, name: &str, source: &[u8]) -> Result<MemFiles, NoMem> {
-    let mut files = MemFiles::new(alloc);
-    files.add(
-        Text::from_bytes(alloc, name.as_bytes())?,
-        Text::from_bytes(alloc, source)?,
-    )?;
-    Ok(files)
-}
 
 fn starts_as_text(out: &[u8]) -> bool {
     match out.strip_prefix(b"/* C-sub 1 */\n".as_slice()) {

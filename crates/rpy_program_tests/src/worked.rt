@@ -1,7 +1,7 @@
 // Whole calls on worked programs: lists, dicts, arguments, and how many steps they take.
 use crate::program::run_of;
-use crate::whole::{files_of, words_of};
 use rpy_base::{HeapWatch, Leaks, MemSink, NoMem, Tally, Text, pair_of};
+use rpy_calls::{files_of, words_of};
 use rpy_top::rpyc;
 use std::alloc::Global;
 use std::test::Fail;

@@ -1,8 +1,7 @@
 // Whole calls on broken sources and C texts, failing files and sinks, and watchers.
-use crate::run::Refuses;
-use crate::whole::{files_of, words_of};
 use crate::worked::{CHAIN, PROGRAM, STACK, TURNS, told};
 use rpy_base::{HeapWatch, Leaks, MemSink, NoMem, Tally, Text, pair_of};
+use rpy_calls::{Refuses, files_of, words_of};
 use rpy_top::rpyc;
 use std::alloc::Global;
 use std::test::Fail;

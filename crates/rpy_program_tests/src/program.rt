@@ -1,8 +1,8 @@
 // Whole calls that run programs.
-use crate::whole::{files_of, words_of};
 use csub_reader::{CFault, read_c};
 use csub_tree::{CFile, CFunction, CStmt};
 use rpy_base::{HeapWatch, Leaks, MemSink, NoMem, Tally, Text, pair_of};
+use rpy_calls::{files_of, words_of};
 use rpy_top::rpyc;
 use std::alloc::Global;
 use std::test::Fail;
