@@ -2,7 +2,7 @@
 ghost use Rattle.std.specs.Prelude.{◌≡◌, ◌≤◌, ◌<◌, map, length, true, IfOk};
 ghost use Rattle.rpy_front.specs.Modules.{are_short};
 ghost use Rattle.rpy_words.specs.Command.{are_module_names, is_name, module_name};
-ghost use Rattle.rpy_top.specs.Answer.{AnnotatesProgram, ApprovesProgram, BuildsProgram, CompilesProgram, DrawsProgram, LowersModules, LowersProgram, LowersTo, OnlyBody, ShowsProgram, WritesModules, WritesProgram, WritesTo};
+ghost use Rattle.rpy_top.specs.Answer.{AnnotatesProgram, ApprovesProgram, BuildsProgram, CompilesProgram, DrawsProgram, Emits, LowersModules, LowersProgram, LowersTo, OnlyBody, ShowsProgram, WritesModules, WritesProgram, WritesTo};
 
 use crate::fault::{TranslateFault, check_fault, front_fault};
 use ann_text::annotation_text;
@@ -11,7 +11,7 @@ use flow_graph::graphs_text;
 use genc_writer::write_c;
 use ll_code::LlProgram;
 use rpy_base::{NoMem, Seq, Text};
-use rpy_checked::check;
+use rpy_checked::{Checked, check};
 use rpy_compiled::{compile, low_level};
 use rpy_first::{Body, TranslateFault as FrontFault, first_path};
 use rpy_front::{read_modules, refused_name};
@@ -30,6 +30,14 @@ fn only_body(alloc: Global, modules: &[Named]) -> Result<Body, FrontFault>
     }
 }
 
+// The C text of a program that has passed its checks.
+fn compiled_text(alloc: Global, program: &Program, checked: &Checked) -> Result<Text, NoMem>
+    ensures { IfOk result (λ text. Emits text) }
+{
+    let file = compile(alloc, program, checked)?;
+    write_c(alloc, &file)
+}
+
 // The C text of a program by its low-level program, once it has passed its checks.
 #[tactic(auto, using(crate::proofs::Translation::refused))]
 fn compiled(alloc: Global, program: &Program) -> Result<Text, TranslateFault>
@@ -37,8 +45,9 @@ fn compiled(alloc: Global, program: &Program) -> Result<Text, TranslateFault>
 {
     match check(alloc, program) {
         Ok(checked) => {
-            let file = compile(alloc, program, &checked)?;
-            Ok(write_c(alloc, &file)?)
+            let made = compiled_text(alloc, program, &checked);
+            drop(checked);
+            Ok(made?)
         }
         Err(fault) => Err(check_fault(fault)),
     }
@@ -66,7 +75,11 @@ fn draw(alloc: Global, program: &Program) -> Result<Text, TranslateFault>
     ensures { ShowsProgram program.now (DrawsProgram program.now) result }
 {
     match check(alloc, program) {
-        Ok(checked) => Ok(graphs_text(alloc, program, &checked.graphs)?),
+        Ok(checked) => {
+            let made = graphs_text(alloc, program, &checked.graphs);
+            drop(checked);
+            Ok(made?)
+        }
         Err(fault) => Err(check_fault(fault)),
     }
 }
@@ -77,7 +90,11 @@ fn annotate(alloc: Global, program: &Program) -> Result<Text, TranslateFault>
     ensures { ShowsProgram program.now (AnnotatesProgram program.now) result }
 {
     match check(alloc, program) {
-        Ok(checked) => Ok(annotation_text(alloc, program, &checked.graphs, &checked.annotation)?),
+        Ok(checked) => {
+            let made = annotation_text(alloc, program, &checked.graphs, &checked.annotation);
+            drop(checked);
+            Ok(made?)
+        }
         Err(fault) => Err(check_fault(fault)),
     }
 }
@@ -88,7 +105,10 @@ fn approve(alloc: Global, program: &Program) -> Result<Text, TranslateFault>
     ensures { ShowsProgram program.now (ApprovesProgram program.now) result }
 {
     match check(alloc, program) {
-        Ok(_checked) => Ok(Text::from_bytes(alloc, b"ok\n")?),
+        Ok(checked) => {
+            drop(checked);
+            Ok(Text::from_bytes(alloc, b"ok\n")?)
+        }
         Err(fault) => Err(check_fault(fault)),
     }
 }
@@ -158,7 +178,11 @@ fn lower_program(alloc: Global, program: &Program) -> Result<LlProgram, Translat
     ensures { LowersProgram program.now result }
 {
     match check(alloc, program) {
-        Ok(checked) => Ok(low_level(alloc, program, &checked)?),
+        Ok(checked) => {
+            let made = low_level(alloc, program, &checked);
+            drop(checked);
+            Ok(made?)
+        }
         Err(fault) => Err(check_fault(fault)),
     }
 }
