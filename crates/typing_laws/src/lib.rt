@@ -3,4 +3,6 @@
 
 mod laws;
 
-pub use laws::the_least_fault_is_that_of_trees;
+pub use laws::{
+    constants_may_not_be_modified, functions_take_their_arguments, the_least_fault_is_that_of_trees,
+};
