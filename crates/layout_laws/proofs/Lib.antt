@@ -1,0 +1,13 @@
+pub mod Attributes
+pub mod Chains
+pub mod Classes
+pub mod Facts
+pub mod Knowing
+pub mod Laying
+pub mod Lines
+pub mod Numbers
+pub mod Order
+pub mod Places
+pub mod Rows
+pub mod Shapes
+pub mod Structs
