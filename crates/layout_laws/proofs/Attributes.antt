@@ -42,7 +42,7 @@ length_fields layout home (a ∷ more) =
 -- ---- the place of an attribute
 
 -- what the first of a list gives
-abbrev stepped : Bool → Bool → ℕ → Element → Option (ℕ × Element) → Option (ℕ × Element) → Option (ℕ × Element)
+abbrev pub stepped : Bool → Bool → ℕ → Element → Option (ℕ × Element) → Option (ℕ × Element) → Option (ℕ × Element)
 stepped ours named n e further beside = if ours then if named then Some (n, e) else further else beside
 
 pub place_within : (attributes : List (ℕ × List ℕ × Element)) (n home : ℕ) (name : List ℕ) (at : ℕ × Element) → place_from n attributes home name ≡ Some at → (n ≤ at.0) × (at.0 < n + declared home attributes)

@@ -170,7 +170,7 @@ module _ (world : World) (known : Known) (counted : IsNumbered world) (knows : K
           struct = v.inside;
           own = ap (λ (s : Shape). s.own) v.shape;
           first = ap (λ (s : Shape). s.first) v.shape;
-          some = (let z : (shape_at (shapes layout) l.vtable).size ≡ 1 + v.methods = ap (λ (s : Shape). s.size) v.shape in omega (arith, z));
+          some = (let z : (shape_at (shapes layout) l.vtable).size ≡ 1 + length v.names = ap (λ (s : Shape). s.size) v.shape in omega (arith, z));
         },
         ap (λ (s : Shape). is_among l.vtable s.bases) v.shape ∙ among_first world.classes.classes world.attributes layout of l.vtable [],
       )
@@ -202,7 +202,7 @@ module _ (world : World) (known : Known) (counted : IsNumbered world) (knows : K
   }
 
 -- the facts of the layout of a program are those of its world
-of_world : (program : Resolved) (annotation : Annotation) (raises : Bool) (world : World) → IsWorldOf program annotation raises world → IsNumbered world → Facts world.classes.classes world.attributes world.around.layout
+pub of_world : (program : Resolved) (annotation : Annotation) (raises : Bool) (world : World) → IsWorldOf program annotation raises world → IsNumbered world → Facts world.classes.classes world.attributes world.around.layout
 of_world program annotation raises world is counted =
     subst (λ (l : Layout). Facts world.classes.classes world.attributes l) (sym is.layout)
     (subst (λ (attributes : List (ℕ × List ℕ × Element)). Facts world.classes.classes attributes (layout_of program world.classes.classes annotation raises)) (sym is.attributes)

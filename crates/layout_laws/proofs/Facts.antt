@@ -1,6 +1,6 @@
 -- What the structs of classes are, however the layout came about.
 use Rattle.std.proofs.Common.{◌≡◌, ◌<◌, ℕ, ◌+◌, List, length, Some, None}
-use Rattle.std.specs.Prelude.{◌*◌}
+use Rattle.std.specs.Prelude.{◌*◌, ◌-◌, slice_get}
 use Rattle.csub_tree.specs.Layout.{shape_at, shape_over}
 use Rattle.rpy_tree.specs.declared.program.ClassInfo.{ClassInfo}
 use Rattle.ann_element.specs.declared.element.Element.{Element}
@@ -20,11 +20,13 @@ module _ (infos : List ClassInfo) (attributes : List (ℕ × List ℕ × Element
 
   pub record HasVtable (l : Laid) : Type 0 where
     pub inside : l.vtable < length layout.structs
-    pub methods : ℕ
-    pub shape : shape_at (shapes layout) l.vtable ≡ shape_over l.vtable (1 + methods) None
+    pub names : List (List ℕ)
+    pub named : slice_get layout.methods (l.vtable - 1) ≡ Some names
+    pub shape : shape_at (shapes layout) l.vtable ≡ shape_over l.vtable (1 + length names) None
 
   pub record Facts : Type 0 where
     pub within : (c : ℕ) (l : Laid) → laid_in layout.classes c ≡ Some l → c < length infos
     pub inside : (c : ℕ) (l : Laid) → laid_in layout.classes c ≡ Some l → l.own < length layout.structs
     pub sort : (c : ℕ) (l : Laid) → laid_in layout.classes c ≡ Some l → Sort c l
     pub vtable : (c : ℕ) (l : Laid) → laid_in layout.classes c ≡ Some l → HasVtable l
+    pub order : (c : ℕ) (l : Laid) → laid_in layout.classes c ≡ Some l → slice_get layout.order l.place ≡ Some c

@@ -1,6 +1,8 @@
 pub mod Attributes
+pub mod Cells
 pub mod Chains
 pub mod Classes
+pub mod Exceptions
 pub mod Facts
 pub mod Knowing
 pub mod Laying
@@ -10,4 +12,6 @@ pub mod Order
 pub mod Places
 pub mod Rows
 pub mod Shapes
+pub mod Starting
 pub mod Structs
+pub mod Vtables

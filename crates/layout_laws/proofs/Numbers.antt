@@ -23,7 +23,7 @@ use Rattle.rtyper_layout.specs.Types.{word, laid_in}
 use Rattle.object_laws.specs.Done.{HasLayout}
 use Rattle.object_laws.specs.Represents.{shapes, is_settled}
 use Rattle.layout_laws.specs.Layouts.{LayoutsAreHad}
-use Rattle.layout_laws.proofs.Places.{same_some, no_some, not_true, get_right, laid_here, laid_there, none_laid}
+use Rattle.layout_laws.proofs.Places.{is_same, same_some, no_some, not_true, get_right, laid_here, laid_there, none_laid}
 use Rattle.layout_laws.proofs.Shapes.{shape_kept, Plain, plain_shape, plain_left, plain_right}
 use Rattle.layout_laws.proofs.Structs.{word_same, started, mapped, inorder, vtables_now, classes_now, bare_mapped, classes_are, order_is, count_vtables, length_classes, length_names}
 
@@ -106,9 +106,6 @@ and_both false c e = absurd (not_true e)
 not_so : (b : Bool) → not b ≡ true → b ≡ false
 not_so true e = absurd (not_true e)
 not_so false e = refl
-
-is_same : (m n : ℕ) → (m == n) ≡ true → m ≡ n
-is_same m n e = elim (eqb_tells m n) [ inl t ↦ t.1 | inr t ↦ absurd (not_true (sym t.0 ∙ e)) ]
 
 not_same : (n : ℕ) → 0 < n → (n == 0) ≡ false
 not_same n lt = elim (eqb_tells n 0) [ inl t ↦ absurd (omega (arith, lt, t.1)) | inr t ↦ t.0 ]

@@ -20,6 +20,9 @@ no_none h = cc
 pub not_true : false ≡ true → ⊥
 not_true h = cc
 
+pub is_same : (m n : ℕ) → (m == n) ≡ true → m ≡ n
+is_same m n e = elim (eqb_tells m n) [ inl t ↦ t.1 | inr t ↦ absurd (not_true (sym t.0 ∙ e)) ]
+
 -- ---- lists
 
 module _ {A : Type 0} where

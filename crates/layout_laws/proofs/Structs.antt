@@ -1,5 +1,5 @@
 -- Where the structs of classes stand among those of a layout.
-use Rattle.std.proofs.Common.{◌≡◌, ◌<◌, ◌≤◌, ℕ, zero, suc, ◌+◌, Bool, true, false, List, [], ◌∷◌, ◌++◌, length, Option, Some, None, refl, sym, ap, ◌∙◌, subst, arith}
+use Rattle.std.proofs.Common.{◌≡◌, ◌<◌, ◌≤◌, ℕ, zero, suc, ◌+◌, ◌-◌, Bool, true, false, List, [], ◌∷◌, ◌++◌, length, Option, Some, None, refl, sym, ap, ◌∙◌, subst, arith}
 use Rattle.std.specs.Prelude.{◌^◌, ◌*◌, slice_get, is_some, replicate, if◌then◌else◌}
 use Rattle.ann_element.specs.declared.annotation.Annotation.{Annotation}
 use Rattle.ann_element.specs.declared.element.Element.{Element}
@@ -72,9 +72,9 @@ pub length_vtables : (ms : List (List (List ℕ))) → length (vtable_structs ms
 length_vtables [] = refl
 length_vtables (m ∷ ms) = ap suc (length_vtables ms)
 
-get_vtable : (ms : List (List (List ℕ))) (i : ℕ) → i < length ms → (k : ℕ) × (slice_get (vtable_structs ms) i ≡ Some (vtable_struct k))
+get_vtable : (ms : List (List (List ℕ))) (i : ℕ) → i < length ms → (names : List (List ℕ)) × (slice_get ms i ≡ Some names) × (slice_get (vtable_structs ms) i ≡ Some (vtable_struct (length names)))
 get_vtable [] i lt = absurd (omega (arith, lt))
-get_vtable (m ∷ ms) zero lt = (length m, refl)
+get_vtable (m ∷ ms) zero lt = (m, refl, refl)
 get_vtable (m ∷ ms) (suc i) lt = get_vtable ms i (omega (arith, lt))
 
 length_methods : (fields : ℕ) (t : LlType) → length (replicate fields t) ≡ fields
@@ -152,11 +152,14 @@ module _ (program : Resolved) (infos : List ClassInfo) (a : Annotation) (raises 
   pub count_vtables : length vtables_now ≡ tops infos inorder
   count_vtables = length_vtables layout.methods ∙ count_methods
 
-  at_vtable : (k : ℕ) → 0 < k → k ≤ tops infos inorder → (names : ℕ) × (slice_get layout.structs k ≡ Some (vtable_struct names))
+  at_vtable : (k : ℕ) → 0 < k → k ≤ tops infos inorder → (names : List (List ℕ)) × (slice_get layout.methods (k - 1) ≡ Some names) × (slice_get layout.structs k ≡ Some (vtable_struct (length names)))
   at_vtable zero low high = absurd (omega (arith, low))
   at_vtable (suc i) low high =
-      let found = get_vtable layout.methods i (omega (arith, high, count_methods)) in
-      (found.0, get_left (vtables_now ++ classes_now) behind i (vtable_struct found.0) (get_left vtables_now classes_now i (vtable_struct found.0) found.1))
+      let found = get_vtable layout.methods i (omega (arith, high, count_methods)) in (
+        found.0,
+        ap (slice_get layout.methods) (let z : suc i - 1 ≡ i = omega arith in z) ∙ found.1,
+        get_left (vtables_now ++ classes_now) behind i (vtable_struct (length found.0)) (get_left vtables_now classes_now i (vtable_struct (length found.0)) found.2),
+      )
 
   at_class : (n j c : ℕ) → slice_get inorder j ≡ Some c → n ≡ tops infos inorder + 1 + j → slice_get layout.structs n ≡ Some (class_struct mapped infos a.attributes c)
   at_class zero j c h e = absurd (omega (arith, e))
@@ -223,10 +226,13 @@ module _ (program : Resolved) (infos : List ClassInfo) (a : Annotation) (raises 
     vtable_of_class c l h =
         let fits = lying.each c l h in
         let found = at_vtable l.vtable fits.low fits.high in
+        let shape : shape_at (shapes_of layout.structs) l.vtable ≡ shape_over l.vtable (suc (length (replicate (length found.0) type.Fn))) None =
+        shape_is layout.structs l.vtable (vtable_struct (length found.0)) found.2 (λ m is. absurd (no_some is)) in
         record {
-          inside = get_within layout.structs l.vtable (vtable_struct found.0) found.1;
-          methods = found.0;
-          shape = shape_is layout.structs l.vtable (vtable_struct found.0) found.1 (λ m is. absurd (no_some is)) ∙ ap (λ n. shape_over l.vtable (suc n) None) (length_methods found.0 type.Fn) ∙ ap (λ n. shape_over l.vtable n None) (let z : suc found.0 ≡ 1 + found.0 = omega arith in z);
+          inside = get_within layout.structs l.vtable (vtable_struct (length found.0)) found.2;
+          names = found.0;
+          named = found.1;
+          shape = shape ∙ ap (λ n. shape_over l.vtable (suc n) None) (length_methods (length found.0) type.Fn) ∙ ap (λ n. shape_over l.vtable n None) (let z : suc (length found.0) ≡ 1 + length found.0 = omega arith in z);
         }
 
     pub facts : Facts infos a.attributes layout
@@ -235,4 +241,5 @@ module _ (program : Resolved) (infos : List ClassInfo) (a : Annotation) (raises 
       inside = λ c l h. get_within layout.structs l.own (the_class c) (struct_is c l h);
       sort = λ c l h. sort_of c l h (base infos c) refl (lying.each c l h).above;
       vtable = vtable_of_class;
+      order = λ c l h. ap (λ xs. slice_get xs l.place) order_is ∙ (lying.each c l h).at;
     }

@@ -1,3 +1,5 @@
 pub mod Knowing
 pub mod Layouts
 pub mod Rows
+pub mod Starting
+pub mod Statics

@@ -2,6 +2,8 @@
 ghost use Rattle.layout_laws.specs.Knowing.{ClassesAreKnown};
 ghost use Rattle.layout_laws.specs.Layouts.{LayoutsAreHad, LayoutsLayOutClasses};
 ghost use Rattle.layout_laws.specs.Rows.{HasAttributes, HasClasses, HasShapes, IsKnown};
+ghost use Rattle.layout_laws.specs.Starting.{AttributesAreKnown, BasesAreLaid};
+ghost use Rattle.layout_laws.specs.Statics.{ExceptionsStand, VtablesStand};
 
 /// The layout of every program lays out its classes, as the laws of operations on instances take it.
 pub fn layouts_lay_out_classes()
@@ -16,6 +18,18 @@ pub fn classes_are_known()
 /// A program that has the structs of its layout has those of strings, tuples and lists in their shapes, and apart.
 pub fn layouts_are_had()
     ensures { LayoutsAreHad }
+{}
+
+/// The bases of a class with structs have some, and what it and they declare is known, as the law of new instances takes it.
+pub fn new_instances_have_places()
+    ensures bases { BasesAreLaid }
+    ensures attributes { AttributesAreKnown }
+{}
+
+/// The statics of vtables and of builtin exceptions hold what is known of them, where it is known.
+pub fn statics_of_classes_stand()
+    ensures vtables { VtablesStand }
+    ensures exceptions { ExceptionsStand }
 {}
 
 /// A program of two classes, one below the other, has this layout, of which the laws speak.
