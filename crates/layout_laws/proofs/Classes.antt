@@ -30,14 +30,14 @@ module _ (world : World) (known : Known) (counted : IsNumbered world) (knows : K
   layout = world.around.layout
 
   -- an attribute of a class: where it is declared, and its place there
-  record Stands (c : ℕ) (name : List ℕ) (s : Standing) : Type 0 where
-    home : ℕ
-    at_home : home_of world.classes c name ≡ Some home
-    m : Laid
-    is_laid : laid world home ≡ Some m
-    at : ℕ × Element
-    placed : attribute_place world.attributes home name ≡ Some at
-    is : record { own = m.own; place = at.0; element = at.1 } ≡ s
+  pub record Stands (c : ℕ) (name : List ℕ) (s : Standing) : Type 0 where
+    pub home : ℕ
+    pub at_home : home_of world.classes c name ≡ Some home
+    pub m : Laid
+    pub is_laid : laid world home ≡ Some m
+    pub at : ℕ × Element
+    pub placed : attribute_place world.attributes home name ≡ Some at
+    pub is : record { own = m.own; place = at.0; element = at.1 } ≡ s
 
   stands_in : (c h : ℕ) (name : List ℕ) (s : Standing) (m : Laid) → home_of world.classes c name ≡ Some h → laid world h ≡ Some m → (o : Option (ℕ × Element)) → attribute_place world.attributes h name ≡ o
       → option_map standing_of (standing m.own o) ≡ Some s → Stands c name s
@@ -58,14 +58,14 @@ module _ (world : World) (known : Known) (counted : IsNumbered world) (knows : K
 
   -- ---- the fields of an attribute
 
-  record Spot (c : ℕ) (name : List ℕ) (s : Standing) : Type 0 where
-    it : Stands c name s
-    fields : Fields world.classes.classes world.attributes layout of counted.forest it.home it.m
-    within : it.at.0 < declared it.home world.attributes
-    value : value_at layout s ≡ fields.start + 2 * it.at.0
-    set : set_at layout s ≡ fields.start + 2 * it.at.0 + 1
+  pub record Spot (c : ℕ) (name : List ℕ) (s : Standing) : Type 0 where
+    pub it : Stands c name s
+    pub fields : Fields world.classes.classes world.attributes layout of counted.forest it.home it.m
+    pub within : it.at.0 < declared it.home world.attributes
+    pub value : value_at layout s ≡ fields.start + 2 * it.at.0
+    pub set : set_at layout s ≡ fields.start + 2 * it.at.0 + 1
 
-  spot : (c : ℕ) (name : List ℕ) (s : Standing) → known.attribute c name ≡ Some s → Spot c name s
+  pub spot : (c : ℕ) (name : List ℕ) (s : Standing) → known.attribute c name ≡ Some s → Spot c name s
   spot c name s h =
       let it = stands c name s h in
       let fields = fields_of world.classes.classes world.attributes layout of counted.forest it.home it.m it.is_laid in
@@ -79,7 +79,7 @@ module _ (world : World) (known : Known) (counted : IsNumbered world) (knows : K
         set = ap (set_at layout) (sym it.is) ∙ fields.set it.at.0 small;
       }
 
-  above : (c : ℕ) (name : List ℕ) (s : Standing) (p : Spot c name s) → Under world.classes.classes p.it.home c
+  pub above : (c : ℕ) (name : List ℕ) (s : Standing) (p : Spot c name s) → Under world.classes.classes p.it.home c
   above c name s p = home_under world.classes counted.forest c p.it.home name p.it.at_home
 
   has_fields : (c : ℕ) (l : Laid) (name : List ℕ) (s : Standing) → laid world c ≡ Some l → known.attribute c name ≡ Some s → HasFields layout l s

@@ -62,7 +62,7 @@ one_of world (suc n) class lt = by (λ less. one_of world n class less) (cases_e
 
 -- ---- a class without attributes
 
-none_declared : (class : ℕ) (attributes : List (ℕ × List ℕ × Element)) → ((i : ℕ) (name : List ℕ) (e : Element) → slice_get attributes i ≡ Some (class, name, e) → ⊥) → declared class attributes ≡ 0
+pub none_declared : (class : ℕ) (attributes : List (ℕ × List ℕ × Element)) → ((i : ℕ) (name : List ℕ) (e : Element) → slice_get attributes i ≡ Some (class, name, e) → ⊥) → declared class attributes ≡ 0
 none_declared class [] none = refl
 none_declared class (a ∷ more) none = elim (eqb_tells a.0 class) [
   | inl t ↦ absurd (none 0 a.1 a.2 (ap (λ k. Some (k, a.1, a.2)) t.1))

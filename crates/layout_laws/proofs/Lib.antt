@@ -1,4 +1,6 @@
 pub mod Attributes
+pub mod Beginning
+pub mod Builtin
 pub mod Cells
 pub mod Chains
 pub mod Classes

@@ -124,7 +124,7 @@ of_list l n e =
     record { place = (n - l.first_list) / 2; within = ltb-true ((n - l.first_list) / 2) (length l.lists) whole.1; is = omega (arith, low, even) }
 
 -- a struct that is none of the tuples and not that of strings
-unsettled : (l : Layout) (n : ℕ) → 0 < n → n < l.first_tuple → is_settled l n ≡ false
+pub unsettled : (l : Layout) (n : ℕ) → 0 < n → n < l.first_tuple → is_settled l n ≡ false
 unsettled l n low high = ap (λ b. b || is_tuple l n) (not_same n low) ∙ by (nat_le l.first_tuple n) refl
   where
     by : (b : Bool) → nat_le l.first_tuple n ≡ b → (b && nat_lt (n - l.first_tuple) (length l.shapes)) ≡ false
@@ -229,7 +229,7 @@ module _ (program : Resolved) (infos : List ClassInfo) (a : Annotation) (raises 
             ∙ get_right dicts tuples (3 * length all.dicts + i) i (let z = length_dicts given.mappings in omega (arith, z, count_mappings)) ∙ found.1,
       )
 
-  own_numbers : (c : ℕ) (l : Laid) → laid_in all.classes c ≡ Some l → (0 < l.own) × (l.own < all.first_tuple)
+  pub own_numbers : (c : ℕ) (l : Laid) → laid_in all.classes c ≡ Some l → (0 < l.own) × (l.own < all.first_tuple)
   own_numbers c l h =
       let none : Numbered infos (word (tops infos classed + 1)) 0 (replicate (length infos) None) = record { each = λ d m k. absurd (no_some (sym (none_laid (length infos) d) ∙ k)) } in
       let numbers = numbers_all infos (word (tops infos classed + 1)) classed 0 0 (replicate (length infos) None) none in

@@ -1,3 +1,4 @@
+pub mod Beginning
 pub mod Knowing
 pub mod Layouts
 pub mod Rows

@@ -1,7 +1,11 @@
--- A program of two classes, one below the other, and its layout.
-use Rattle.std.specs.Prelude.{◌≡◌, ℕ, true, false, List, [], ◌∷◌, Option, Some, None}
+-- A program of two classes, one below the other, and its layout; and one of builtin exceptions alone.
+use Rattle.std.specs.Prelude.{◌≡◌, ℕ, true, false, List, [], ◌∷◌, ◌++◌, replicate, Option, Some, None}
 use Rattle.ann_element.specs.declared.annotation.Annotation.{Annotation}
 use Rattle.ann_element.specs.declared.element.Element.TheVariants as element
+use Rattle.ll_code.specs.declared.program.LlProgram.{LlProgram}
+use Rattle.ll_code.specs.declared.program.LlStage.TheVariants as stage
+use Rattle.rpy_meaning.specs.Meaning.{exceptions_from}
+use Rattle.rpy_meaning.specs.Operations.{builtin_classes}
 use Rattle.rpy_meaning.specs.Tree.{Class, Program}
 use Rattle.rpy_resolved.specs.declared.tree.Class.{Class as Resolving}
 use Rattle.rpy_resolved.specs.declared.tree.Resolved.{Resolved}
@@ -9,10 +13,13 @@ use Rattle.rpy_tree.specs.declared.program.ClassInfo.{ClassInfo}
 use Rattle.rtyper_layout.specs.declared.layout.Layout.{Layout}
 use Rattle.rtyper_layout.specs.Layout.{layout_of}
 use Rattle.rtyper_class.specs.Seen.{World}
+use Rattle.rtyper_class.specs.Vtables.{vtables, exceptions}
 use Rattle.object_laws.specs.Known.{Known}
-use Rattle.object_laws.specs.Represents.{shapes}
+use Rattle.object_laws.specs.Represents.{Represents, shapes}
 use Rattle.class_laws.specs.Classes.{IsLaidOut, IsOf}
+use Rattle.layout_laws.specs.Beginning.{first_ghost}
 use Rattle.layout_laws.specs.Knowing.{known_of}
+use Rattle.layout_laws.specs.Statics.{statics_of}
 
 -- class 1 is below class 0, which has a method
 abbrev pub info : Option ℕ → ClassInfo
@@ -88,3 +95,32 @@ HasAttributes = (known.attribute 1 x ≡ Some (record { own = 2; place = 0; elem
 
 abbrev pub IsKnown : Type 0
 IsKnown = IsLaidOut world known × IsOf world known
+
+-- ---- builtin exceptions
+
+-- the thirteen classes, each below the first, and an annotation without attributes
+abbrev pub builtin : List ClassInfo
+builtin = info None ∷ replicate 12 (info (Some 0))
+
+abbrev pub bare : Annotation
+bare = record annotation { attributes = []; made = [] }
+
+abbrev pub resolved : Resolved
+resolved = record { functions = []; classes = []; sites = []; entry = 0 }
+
+abbrev pub raising : World
+raising = record {
+  around = record { layout = layout_of resolved builtin bare true; numbers = []; params = []; results = []; functions = [] };
+  classes = record { classes = builtin; attributes = [] };
+  made = [];
+  attributes = [];
+  first_vtable = 0;
+  first_exception = 13;
+}
+
+-- it has nothing but their vtables and instances
+abbrev pub raised : LlProgram
+raised = record { stage = stage.Raw; structs = raising.around.layout.structs; statics = vtables raising resolved [] ++ exceptions raising; graphs = []; entry = 0 }
+
+abbrev pub ExceptionsBegin : Type 0
+ExceptionsBegin = Represents raising.around.layout (known_of raising resolved [] meant (λ n. None) (λ s. None)) (first_ghost raising raised 0) (exceptions_from 0 builtin_classes ++ []) 1000 [] (statics_of raised)

@@ -1,7 +1,8 @@
 // Laws of the layouts of programs.
+ghost use Rattle.layout_laws.specs.Beginning.{MemoryBegins};
 ghost use Rattle.layout_laws.specs.Knowing.{ClassesAreKnown};
 ghost use Rattle.layout_laws.specs.Layouts.{LayoutsAreHad, LayoutsLayOutClasses};
-ghost use Rattle.layout_laws.specs.Rows.{HasAttributes, HasClasses, HasShapes, IsKnown};
+ghost use Rattle.layout_laws.specs.Rows.{ExceptionsBegin, HasAttributes, HasClasses, HasShapes, IsKnown};
 ghost use Rattle.layout_laws.specs.Starting.{AttributesAreKnown, BasesAreLaid};
 ghost use Rattle.layout_laws.specs.Statics.{ExceptionsStand, VtablesStand};
 
@@ -30,6 +31,16 @@ pub fn new_instances_have_places()
 pub fn statics_of_classes_stand()
     ensures vtables { VtablesStand }
     ensures exceptions { ExceptionsStand }
+{}
+
+/// Before anything is made, memory represents the builtin exceptions; they alone are seen of what is there from the start.
+pub fn memory_begins()
+    ensures { MemoryBegins }
+{}
+
+/// A program that has nothing but builtin exceptions begins so.
+pub fn exceptions_begin()
+    ensures { ExceptionsBegin }
 {}
 
 /// A program of two classes, one below the other, has this layout, of which the laws speak.
