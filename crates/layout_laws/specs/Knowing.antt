@@ -1,13 +1,15 @@
 -- What those who lower a program know of it, by the world of the lowering.
-use Rattle.std.specs.Prelude.{◌≡◌, ℕ, ◌+◌, Bool, true, List, length, map, slice_get, Option, Some, None, option_map}
+use Rattle.std.specs.Prelude.{◌≡◌, ◌≤◌, ℕ, ◌+◌, Bool, true, List, ◌++◌, length, map, slice_get, Option, Some, None, option_map}
 use Rattle.ann_element.specs.declared.element.Element.{Element}
 use Rattle.csub_tree.specs.State.{Value, Null, Static, Block}
 use Rattle.csub_tree.specs.Layout.{constant, joined, cell_constants}
 use Rattle.csub_tree.specs.declared.tree.CCell.{CCell}
 use Rattle.rpy_meaning.specs.Tree.{Class, Program}
 use Rattle.rpy_meaning.specs.Classes.{base_of}
+use Rattle.rpy_meaning.specs.Resolved.{Further, builtin_names, class_names_from, program_of}
 use Rattle.rpy_resolved.specs.declared.tree.Resolved.{Resolved}
 use Rattle.rpy_tree.specs.declared.program.ClassInfo.{ClassInfo}
+use Rattle.rpy_tree.specs.declared.program.Program as tree
 use Rattle.class_desc.specs.Line.{base}
 use Rattle.class_desc.specs.Range.{IsForest, range}
 use Rattle.rtyper_layout.specs.declared.classes.Laid.{Laid}
@@ -59,3 +61,7 @@ pub record AreClasses (meant : List Class) (infos : List ClassInfo) : Type 0 whe
 abbrev pub ClassesAreKnown : Type 0
 ClassesAreKnown = (world : World) (program : Resolved) (reached : List Bool) (meant : Program) (items : ℕ → Option Element) (static : ℕ → Option Block)
     → IsForest world.classes.classes → AreClasses meant.classes world.classes.classes → IsOf world (known_of world program reached meant items static)
+
+-- the program that the meaning makes of a program has the classes of that, where each of them has a name
+abbrev pub ProgramsHaveTheirClasses : Type 0
+ProgramsHaveTheirClasses = (p : tree.Program) (further : Further) → length p.classes ≤ length (builtin_names ++ class_names_from p further p.names p.modules) → AreClasses (program_of p further).classes p.classes

@@ -1,6 +1,6 @@
 // Laws of the layouts of programs.
 ghost use Rattle.layout_laws.specs.Beginning.{MemoryBegins};
-ghost use Rattle.layout_laws.specs.Knowing.{ClassesAreKnown};
+ghost use Rattle.layout_laws.specs.Knowing.{ClassesAreKnown, ProgramsHaveTheirClasses};
 ghost use Rattle.layout_laws.specs.Layouts.{LayoutsAreHad, LayoutsLayOutClasses};
 ghost use Rattle.layout_laws.specs.Rows.{ExceptionsBegin, HasAttributes, HasClasses, HasShapes, IsKnown};
 ghost use Rattle.layout_laws.specs.Starting.{AttributesAreKnown, BasesAreLaid};
@@ -11,9 +11,10 @@ pub fn layouts_lay_out_classes()
     ensures { LayoutsLayOutClasses }
 {}
 
-/// What is known of a program by the world of its lowering is of the program.
+/// What is known of a program by the world of its lowering is of the program, as its meaning sees it.
 pub fn classes_are_known()
-    ensures { ClassesAreKnown }
+    ensures of { ClassesAreKnown }
+    ensures meant { ProgramsHaveTheirClasses }
 {}
 
 /// A program that has the structs of its layout has those of strings, tuples and lists in their shapes, and apart.
