@@ -52,7 +52,7 @@ module _ (world : World) (known : Known) (counted : IsNumbered world) (knows : K
   stands_at c name s None at_home e = absurd (no_some e)
   stands_at c name s (Some h) at_home e = stands_home c h name s at_home (laid world h) refl e
 
-  stands : (c : ℕ) (name : List ℕ) (s : Standing) → known.attribute c name ≡ Some s → Stands c name s
+  pub stands : (c : ℕ) (name : List ℕ) (s : Standing) → known.attribute c name ≡ Some s → Stands c name s
   unfolding place_in
   stands c name s h = stands_at c name s (home_of world.classes c name) refl (sym (knows c name) ∙ h)
 

@@ -29,4 +29,6 @@ module _ (infos : List ClassInfo) (attributes : List (ℕ × List ℕ × Element
     pub inside : (c : ℕ) (l : Laid) → laid_in layout.classes c ≡ Some l → l.own < length layout.structs
     pub sort : (c : ℕ) (l : Laid) → laid_in layout.classes c ≡ Some l → Sort c l
     pub vtable : (c : ℕ) (l : Laid) → laid_in layout.classes c ≡ Some l → HasVtable l
+    pub behind : ℕ
+    pub own : (c : ℕ) (l : Laid) → laid_in layout.classes c ≡ Some l → l.own ≡ behind + l.place
     pub order : (c : ℕ) (l : Laid) → laid_in layout.classes c ≡ Some l → slice_get layout.order l.place ≡ Some c

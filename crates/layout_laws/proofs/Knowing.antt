@@ -3,16 +3,18 @@ use Rattle.std.proofs.Common.{◌≡◌, ◌≤◌, ℕ, zero, suc, List, [], �
 use Rattle.std.specs.Prelude.{◌==◌, slice_get, zip}
 use Rattle.std.specs.List.{list_any}
 use Rattle.rpy_meaning.specs.Tree.{Class}
-use Rattle.rpy_meaning.specs.Classes.{base_of, line_of, is_below as is_below_meant}
-use Rattle.rpy_meaning.specs.Resolved.{Further, builtin_names, class_names_from, class_by}
+use Rattle.rpy_meaning.specs.Classes.{base_of, constants_of, line_of, is_below as is_below_meant}
+use Rattle.rpy_meaning.specs.Resolved.{Further, builtin_names, class_names_from, class_by, value_in}
 use Rattle.rpy_tree.specs.declared.program.ClassInfo.{ClassInfo}
+use Rattle.rpy_tree.specs.declared.program.Const.{Const}
 use Rattle.rpy_tree.specs.declared.program.Program as tree
-use Rattle.class_desc.specs.Line.{base, onward, line, is_below}
+use Rattle.class_desc.specs.Line.{base, constants_in, onward, line, is_below}
 use Rattle.class_desc.proofs.Exact.{exact}
 use Rattle.layout_laws.specs.Knowing.{AreClasses, ClassesAreKnown, ProgramsHaveTheirClasses, vtable_in}
+use Rattle.layout_laws.specs.Starting.{ProgramsHaveTheirConstants}
 
 module _ (meant : List Class) (infos : List ClassInfo) (are : AreClasses meant infos) where
-  same_line : (k : ℕ) (o : Option ℕ) → line_of meant k o ≡ onward (line infos k) o
+  pub same_line : (k : ℕ) (o : Option ℕ) → line_of meant k o ≡ onward (line infos k) o
   same_line zero None = refl
   same_line zero (Some c) = refl
   same_line (suc k) None = refl
@@ -49,6 +51,17 @@ module _ (p : tree.Program) (further : Further) where
   base_same (n ∷ names) [] c le = refl
   base_same (n ∷ names) (i ∷ infos) zero le = refl
   base_same (n ∷ names) (i ∷ infos) (suc c) le = base_same names infos c (omega (arith, le))
+
+  same_constants : (names : List (List ℕ)) (infos : List ClassInfo) (c : ℕ) → length infos ≤ length names
+      → constants_of (slice_get (named_by names infos) c) ≡ map (λ (a : List ℕ × Const). (a.0, value_in p further a.1)) (constants_in (slice_get infos c))
+  same_constants [] [] c le = refl
+  same_constants [] (i ∷ infos) c le = absurd (omega (arith, le))
+  same_constants (n ∷ names) [] c le = refl
+  same_constants (n ∷ names) (i ∷ infos) zero le = refl
+  same_constants (n ∷ names) (i ∷ infos) (suc c) le = same_constants names infos c (omega (arith, le))
+
+pub programs_have_their_constants : ProgramsHaveTheirConstants
+programs_have_their_constants p further le c = same_constants p further (builtin_names ++ class_names_from p further p.names p.modules) p.classes c le
 
 pub programs_have_their_classes : ProgramsHaveTheirClasses
 programs_have_their_classes p further le =

@@ -4,8 +4,10 @@ pub mod Builtin
 pub mod Cells
 pub mod Chains
 pub mod Classes
+pub mod Constants
 pub mod Exceptions
 pub mod Facts
+pub mod Instances
 pub mod Knowing
 pub mod Laying
 pub mod Lines

@@ -5,9 +5,11 @@ use Rattle.ann_element.specs.declared.element.Element.{Element, fold-roll-Elemen
 use Rattle.ann_element.specs.declared.element.Element.TheOpen.{Element-F}
 use Rattle.ann_element.specs.declared.element.Element.TheVariants as element
 use Rattle.ll_code.specs.Machine.{shapes_from}
+use Rattle.rpy_tree.specs.Value.{Nothing}
 use Rattle.rpy_meaning.specs.Classes.{base_of}
 use Rattle.class_desc.specs.Line.{base}
 use Rattle.class_desc.specs.Range.{ends, IsForest}
+use Rattle.class_desc.specs.Tables.{home}
 use Rattle.rtyper_layout.specs.declared.layout.Layout.{Layout}
 use Rattle.rtyper_layout.specs.Layout.{with_classes, with_mappings, with_structs}
 use Rattle.rtyper_layout.specs.Sites.{sites_step, sites_of, with_sites, all_sites, lists, dicts, tuples_step, tuples_of, with_shapes, all_shapes}
@@ -16,8 +18,10 @@ use Rattle.rtyper_class.specs.Attributes.{standing_in, place_in}
 use Rattle.object_laws.specs.Represents.{shapes}
 use Rattle.class_laws.specs.Classes.{standing_of}
 use Rattle.layout_laws.specs.Layouts.{IsNumbered}
-use Rattle.layout_laws.specs.Rows.{infos, program, annotation, layout, world, meant, known, x, y, HasShapes, HasClasses, HasAttributes, IsKnown}
+use Rattle.layout_laws.specs.Rows.{infos, program, annotation, layout, world, meant, known, x, y, HasShapes, HasClasses, HasAttributes, IsKnown, IsStarted}
+use Rattle.layout_laws.specs.Starting.{AreConstants}
 use Rattle.layout_laws.proofs.Classes.{layouts_lay_out_classes}
+use Rattle.layout_laws.proofs.Instances.{instances_start}
 use Rattle.layout_laws.proofs.Knowing.{classes_are_known}
 use Rattle.layout_laws.proofs.Places.{same_some, no_some}
 
@@ -103,3 +107,35 @@ is_known = (
   layouts_lay_out_classes program annotation false world known (record { layout = refl; attributes = refl }) numbered (λ class name. refl),
   classes_are_known world program annotation.reached meant (λ n. None) (λ s. None) forest (record { count = refl; bases = same_bases }),
 )
+
+-- ---- new instances
+
+at_home : (i class : ℕ) (name : List ℕ) (e : Element) → slice_get world.attributes i ≡ Some (class, name, e) → home world.classes class name ≡ Some class
+at_home zero class name e h = (let q = same_some h in ap (λ (p : ℕ × List ℕ × Element). home world.classes p.0 p.1) (sym q) ∙ ap (λ (p : ℕ × List ℕ × Element). Some p.0) q)
+at_home (suc zero) class name e h = (let q = same_some h in ap (λ (p : ℕ × List ℕ × Element). home world.classes p.0 p.1) (sym q) ∙ ap (λ (p : ℕ × List ℕ × Element). Some p.0) q)
+at_home (suc (suc i)) class name e h = absurd (no_some h)
+
+two_homes : (class : ℕ) (name : List ℕ) (e f : Element) → slice_get world.attributes 0 ≡ Some (class, name, e) → slice_get world.attributes 1 ≡ Some (class, name, f) → ⊥
+two_homes class name e f h k =
+    let a : 0 ≡ class = ap (λ (p : ℕ × List ℕ × Element). p.0) (same_some h) in
+    let b : 1 ≡ class = ap (λ (p : ℕ × List ℕ × Element). p.0) (same_some k) in
+    omega (arith, a, b)
+
+once : (i j class : ℕ) (name : List ℕ) (e f : Element) → slice_get world.attributes i ≡ Some (class, name, e) → slice_get world.attributes j ≡ Some (class, name, f) → i ≡ j
+once zero zero class name e f h k = refl
+once (suc zero) (suc zero) class name e f h k = refl
+once zero (suc zero) class name e f h k = absurd (two_homes class name e f h k)
+once (suc zero) zero class name e f h k = absurd (two_homes class name f e k h)
+once (suc (suc i)) j class name e f h k = absurd (no_some h)
+once zero (suc (suc j)) class name e f h k = absurd (no_some k)
+once (suc zero) (suc (suc j)) class name e f h k = absurd (no_some k)
+
+no_constants : AreConstants (λ c. Nothing) meant.classes infos
+no_constants zero = refl
+no_constants (suc zero) = refl
+no_constants (suc (suc c)) = refl
+
+pub is_started : IsStarted
+is_started =
+    instances_start program annotation false world known (λ c. Nothing) 1 (record { layout = refl; attributes = refl }) numbered (λ class name. refl) (record { at_home = at_home; once = once })
+    (record { count = refl; bases = same_bases }) no_constants (λ home name s i found h k. absurd (no_some k)) refl refl

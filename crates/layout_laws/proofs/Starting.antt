@@ -50,9 +50,13 @@ declared_more class [] a = omega arith
 declared_more class (p ∷ before) a = omega (arith, declared_more class before a)
 
 module _ (world : World) (known : Known) (counted : IsNumbered world) (knows : KnowsAttributes world known) (are : AreDeclared world) (class home : ℕ) (l : Laid) (below : is_below world.classes.classes class home ≡ true) (laid_as : laid world home ≡ Some l) where
+  standing_is : (name : List ℕ) (at : ℕ × Element) → home_of world.classes class name ≡ Some home → attribute_place world.attributes home name ≡ Some at → known.attribute class name ≡ Some (record { own = l.own; place = at.0; element = at.1 })
+  unfolding place_in
+  standing_is name at found placed =
+      knows class name ∙ ap (λ o. option_map standing_of (standing_at world name o)) found ∙ ap (λ o. option_map standing_of (standing_in world home name o)) laid_as ∙ ap (λ o. option_map standing_of (standing l.own o)) placed
+
   -- one of them
   known_at : (before : List (ℕ × List ℕ × Element)) (a : ℕ × List ℕ × Element) (more : List (ℕ × List ℕ × Element)) → world.attributes ≡ before ++ a ∷ more → a.0 ≡ home → known.attribute class a.1 ≡ Some (record { own = l.own; place = declared home before; element = a.2 })
-  unfolding place_in
   known_at before a more is e =
       let here : slice_get world.attributes (length before) ≡ Some (a.0, a.1, a.2) = ap (λ xs. slice_get xs (length before)) is ∙ get_right before (a ∷ more) (length before) 0 (omega arith) in
       let at : home_of world.classes home a.1 ≡ Some home = subst (λ h. home_of world.classes h a.1 ≡ Some h) e (are.at_home (length before) a.0 a.1 a.2 here) in
@@ -62,7 +66,7 @@ module _ (world : World) (known : Known) (counted : IsNumbered world) (knows : K
       let placed : attribute_place world.attributes home a.1 ≡ Some (declared home before, a.2) =
       ap (λ h. attribute_place world.attributes h a.1) (sym e) ∙ ap (λ xs. attribute_place xs a.0 a.1) is ∙ place_at before a more 0 new
       ∙ ap (λ k. Some (k, a.2)) (let z : 0 + declared a.0 before ≡ declared a.0 before = omega arith in z) ∙ ap (λ h. Some (declared h before, a.2)) e in
-      knows class a.1 ∙ ap (λ o. option_map standing_of (standing_at world a.1 o)) found ∙ ap (λ o. option_map standing_of (standing_in world home a.1 o)) laid_as ∙ ap (λ o. option_map standing_of (standing l.own o)) placed
+      standing_is a.1 (declared home before, a.2) found placed
 
   place_next : (b : Bool) (n : ℕ) → n + 1 < 2 ^ 64 → next_place b n ≡ n + when b 1
   place_next true n lt = word_same (n + 1) lt

@@ -241,5 +241,7 @@ module _ (program : Resolved) (infos : List ClassInfo) (a : Annotation) (raises 
       inside = λ c l h. get_within layout.structs l.own (the_class c) (struct_is c l h);
       sort = λ c l h. sort_of c l h (base infos c) refl (lying.each c l h).above;
       vtable = vtable_of_class;
+      behind = tops infos inorder + 1;
+      own = own_is;
       order = λ c l h. ap (λ xs. slice_get xs l.place) order_is ∙ (lying.each c l h).at;
     }

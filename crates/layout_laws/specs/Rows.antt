@@ -17,6 +17,7 @@ use Rattle.rtyper_class.specs.Vtables.{vtables, exceptions}
 use Rattle.object_laws.specs.Known.{Known}
 use Rattle.object_laws.specs.Represents.{Represents, shapes}
 use Rattle.class_laws.specs.Classes.{IsLaidOut, IsOf}
+use Rattle.class_laws.specs.Starting.{Starts}
 use Rattle.layout_laws.specs.Beginning.{first_ghost}
 use Rattle.layout_laws.specs.Knowing.{known_of}
 use Rattle.layout_laws.specs.Statics.{statics_of}
@@ -95,6 +96,10 @@ HasAttributes = (known.attribute 1 x ≡ Some (record { own = 2; place = 0; elem
 
 abbrev pub IsKnown : Type 0
 IsKnown = IsLaidOut world known × IsOf world known
+
+-- new instances of the one below
+abbrev pub IsStarted : Type 0
+IsStarted = Starts world known 1
 
 -- ---- builtin exceptions
 

@@ -2,8 +2,8 @@
 ghost use Rattle.layout_laws.specs.Beginning.{MemoryBegins};
 ghost use Rattle.layout_laws.specs.Knowing.{ClassesAreKnown, ProgramsHaveTheirClasses};
 ghost use Rattle.layout_laws.specs.Layouts.{LayoutsAreHad, LayoutsLayOutClasses};
-ghost use Rattle.layout_laws.specs.Rows.{ExceptionsBegin, HasAttributes, HasClasses, HasShapes, IsKnown};
-ghost use Rattle.layout_laws.specs.Starting.{AttributesAreKnown, BasesAreLaid};
+ghost use Rattle.layout_laws.specs.Rows.{ExceptionsBegin, HasAttributes, HasClasses, HasShapes, IsKnown, IsStarted};
+ghost use Rattle.layout_laws.specs.Starting.{AttributesAreKnown, BasesAreLaid, InstancesStart, ProgramsHaveTheirConstants};
 ghost use Rattle.layout_laws.specs.Statics.{ExceptionsStand, VtablesStand};
 
 /// The layout of every program lays out its classes, as the laws of operations on instances take it.
@@ -15,6 +15,7 @@ pub fn layouts_lay_out_classes()
 pub fn classes_are_known()
     ensures of { ClassesAreKnown }
     ensures meant { ProgramsHaveTheirClasses }
+    ensures constants { ProgramsHaveTheirConstants }
 {}
 
 /// A program that has the structs of its layout has those of strings, tuples and lists in their shapes, and apart.
@@ -22,10 +23,12 @@ pub fn layouts_are_had()
     ensures { LayoutsAreHad }
 {}
 
-/// The bases of a class with structs have some, and what it and they declare is known, as the law of new instances takes it.
-pub fn new_instances_have_places()
+/// The bases of a class with structs have some, and what it and they declare is known; so new instances start as the law
+/// of them takes it, where constants stand for their values.
+pub fn new_instances_start()
     ensures bases { BasesAreLaid }
     ensures attributes { AttributesAreKnown }
+    ensures whole { InstancesStart }
 {}
 
 /// The statics of vtables and of builtin exceptions hold what is known of them, where it is known.
@@ -50,4 +53,5 @@ pub fn two_classes_have_a_layout()
     ensures classes { HasClasses }
     ensures attributes { HasAttributes }
     ensures known { IsKnown }
+    ensures starts { IsStarted }
 {}

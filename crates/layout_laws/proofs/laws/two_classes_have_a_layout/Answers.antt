@@ -1,4 +1,4 @@
-use Rattle.layout_laws.proofs.Rows.{has_shapes, has_classes, has_attributes, is_known}
+use Rattle.layout_laws.proofs.Rows.{has_shapes, has_classes, has_attributes, is_known, is_started}
 use Rattle.layout_laws.proofs.laws.two_classes_have_a_layout.Goals as goal
 
 pub returns-clause-shapes : goal.returns-clause-shapes
@@ -12,3 +12,6 @@ returns-clause-attributes c = has_attributes
 
 pub returns-clause-known : goal.returns-clause-known
 returns-clause-known c = is_known
+
+pub returns-clause-starts : goal.returns-clause-starts
+returns-clause-starts c = is_started
