@@ -18,4 +18,6 @@ pub mod Rows
 pub mod Shapes
 pub mod Starting
 pub mod Structs
+pub mod Typed
+pub mod Typing
 pub mod Vtables

@@ -30,7 +30,7 @@ use Rattle.layout_laws.proofs.Structs.{word_same, started, mapped, inorder, vtab
 -- ---- stretches of structs
 
 module _ (layout : Layout) (a : Annotation) where
-  length_lists : (n : ℕ) (sites : List ℕ) → length (all_lists layout a n sites) ≡ 2 * length sites
+  pub length_lists : (n : ℕ) (sites : List ℕ) → length (all_lists layout a n sites) ≡ 2 * length sites
   length_lists n [] = omega arith
   length_lists n (site ∷ sites) = omega (arith, length_lists (n + 2) sites)
 
@@ -50,7 +50,7 @@ module _ (layout : Layout) (a : Annotation) where
   length_mappings n [] = refl
   length_mappings n (site ∷ sites) = ap suc (length_mappings (word (n + 3)) sites)
 
-length_dicts : (ms : List Mapping) → length (all_dicts ms) ≡ 3 * length ms
+pub length_dicts : (ms : List Mapping) → length (all_dicts ms) ≡ 3 * length ms
 length_dicts [] = omega arith
 length_dicts (m ∷ ms) = omega (arith, length_dicts ms)
 
@@ -158,7 +158,7 @@ module _ (program : Resolved) (infos : List ClassInfo) (a : Annotation) (raises 
   structs : all.structs ≡ before ++ (listed ++ (dicts ++ tuples))
   structs = refl
 
-  count_before : length before ≡ suc (tops infos classed + length classed)
+  pub count_before : length before ≡ suc (tops infos classed + length classed)
   count_before =
       let apart : length before ≡ suc (length (vtables_now program infos a raises ++ classes_now program infos a raises)) = refl in
       let both : length (vtables_now program infos a raises ++ classes_now program infos a raises) ≡ length (vtables_now program infos a raises) + length (classes_now program infos a raises) =
@@ -166,10 +166,10 @@ module _ (program : Resolved) (infos : List ClassInfo) (a : Annotation) (raises 
       let right : length (classes_now program infos a raises) ≡ length classed = length_classes infos given a.attributes all.order ∙ ap length (order_is program infos a raises) in
       omega (arith, apart, both, right, count_vtables program infos a raises)
 
-  count_mappings : length given.mappings ≡ length all.dicts
+  pub count_mappings : length given.mappings ≡ length all.dicts
   count_mappings = length_mappings (all_shapes (started program infos a raises) a) a (all_shapes (started program infos a raises) a).first_dict (all_shapes (started program infos a raises) a).dicts
 
-  count_all : length all.structs ≡ length before + (2 * length all.lists + (3 * length all.dicts + length all.shapes))
+  pub count_all : length all.structs ≡ length before + (2 * length all.lists + (3 * length all.dicts + length all.shapes))
   count_all =
       let one : length all.structs ≡ length before + length (listed ++ (dicts ++ tuples)) = length-append before (listed ++ (dicts ++ tuples)) in
       let two : length (listed ++ (dicts ++ tuples)) ≡ length listed + length (dicts ++ tuples) = length-append listed (dicts ++ tuples) in
@@ -178,7 +178,7 @@ module _ (program : Resolved) (infos : List ClassInfo) (a : Annotation) (raises 
 
   -- ---- the first of each kind
 
-  first_list_is : all.first_list ≡ length before
+  pub first_list_is : all.first_list ≡ length before
   first_list_is =
       let names : length (vtables infos program classed) ≡ tops infos classed = length_names infos program.classes classed classed in
       let inner : word (length (vtables infos program classed) + length classed) ≡ tops infos classed + length classed =
@@ -186,7 +186,7 @@ module _ (program : Resolved) (infos : List ClassInfo) (a : Annotation) (raises 
       ap (λ (l : Layout). l.first_list) (bare_mapped program infos a raises) ∙ ap (λ n. word (n + 1)) inner
       ∙ word_same (tops infos classed + length classed + 1) (omega (arith, small, count_all, count_before)) ∙ omega (arith, count_before)
 
-  first_dict_is : all.first_dict ≡ length before + 2 * length all.lists
+  pub first_dict_is : all.first_dict ≡ length before + 2 * length all.lists
   first_dict_is =
       let inner : word (length all.lists * 2) ≡ 2 * length all.lists = word_same (length all.lists * 2) (omega (arith, small, count_all)) ∙ omega arith in
       let from : all.first_dict ≡ word (all.first_list + word (length all.lists * 2)) =
@@ -195,7 +195,7 @@ module _ (program : Resolved) (infos : List ClassInfo) (a : Annotation) (raises 
       from ∙ ap (λ n. word (all.first_list + n)) inner ∙ ap (λ n. word (n + 2 * length all.lists)) first_list_is
       ∙ word_same (length before + 2 * length all.lists) (omega (arith, small, count_all))
 
-  first_tuple_is : all.first_tuple ≡ length before + (2 * length all.lists + 3 * length all.dicts)
+  pub first_tuple_is : all.first_tuple ≡ length before + (2 * length all.lists + 3 * length all.dicts)
   first_tuple_is =
       let inner : word (length all.dicts * 3) ≡ 3 * length all.dicts = word_same (length all.dicts * 3) (omega (arith, small, count_all)) ∙ omega arith in
       let from : all.first_tuple ≡ word (all.first_dict + word (length all.dicts * 3)) =

@@ -172,23 +172,23 @@ module _ (program : Resolved) (infos : List ClassInfo) (a : Annotation) (raises 
     abbrev first : ℕ
     first = word (tops infos inorder + 1)
 
-    in_order : Ordered infos [] inorder
+    pub in_order : Ordered infos [] inorder
     in_order = ordered infos tree small (families infos a.made raises)
 
     few : length inorder ≤ length infos + 1
     few = few_ordered infos tree small (families infos a.made raises)
 
-    lying : Lying infos first inorder layout.classes
+    pub lying : Lying infos first inorder layout.classes
     lying = subst (Lying infos first inorder) (sym classes_are) (lies infos first inorder in_order)
 
-    own_is : (c : ℕ) (l : Laid) → laid_in layout.classes c ≡ Some l → l.own ≡ tops infos inorder + 1 + l.place
+    pub own_is : (c : ℕ) (l : Laid) → laid_in layout.classes c ≡ Some l → l.own ≡ tops infos inorder + 1 + l.place
     own_is c l h =
         let fits = lying.each c l h in
         let within : l.place < length inorder = get_within inorder l.place c fits.at in
         let low : first ≡ tops infos inorder + 1 = word_same (tops infos inorder + 1) (omega (arith, tops_few infos inorder, few, small)) in
         fits.own ∙ ap (λ n. word (n + l.place)) low ∙ word_same (tops infos inorder + 1 + l.place) (omega (arith, tops_few infos inorder, few, small, within))
 
-    struct_is : (c : ℕ) (l : Laid) → laid_in layout.classes c ≡ Some l → slice_get layout.structs l.own ≡ Some (class_struct mapped infos a.attributes c)
+    pub struct_is : (c : ℕ) (l : Laid) → laid_in layout.classes c ≡ Some l → slice_get layout.structs l.own ≡ Some (class_struct mapped infos a.attributes c)
     struct_is c l h = at_class l.own l.place c (lying.each c l h).at (own_is c l h)
 
     -- ---- what class it is of

@@ -4,3 +4,4 @@ pub mod Layouts
 pub mod Rows
 pub mod Starting
 pub mod Statics
+pub mod Typing

@@ -5,6 +5,7 @@ ghost use Rattle.layout_laws.specs.Layouts.{LayoutsAreHad, LayoutsLayOutClasses}
 ghost use Rattle.layout_laws.specs.Rows.{ExceptionsBegin, HasAttributes, HasClasses, HasShapes, IsKnown, IsStarted};
 ghost use Rattle.layout_laws.specs.Starting.{AttributesAreKnown, BasesAreLaid, InstancesStart, ProgramsHaveTheirConstants};
 ghost use Rattle.layout_laws.specs.Statics.{ExceptionsStand, VtablesStand};
+ghost use Rattle.layout_laws.specs.Typing.{StructsAreTyped};
 
 /// The layout of every program lays out its classes, as the laws of operations on instances take it.
 pub fn layouts_lay_out_classes()
@@ -21,6 +22,11 @@ pub fn classes_are_known()
 /// A program that has the structs of its layout has those of strings, tuples and lists in their shapes, and apart.
 pub fn layouts_are_had()
     ensures { LayoutsAreHad }
+{}
+
+/// The structs of a layout keep the rules of low-level programs.
+pub fn structs_are_typed()
+    ensures { StructsAreTyped }
 {}
 
 /// The bases of a class with structs have some, and what it and they declare is known; so new instances start as the law

@@ -6,5 +6,5 @@ mod laws;
 
 pub use laws::{
     classes_are_known, exceptions_begin, layouts_are_had, layouts_lay_out_classes, memory_begins,
-    new_instances_start, statics_of_classes_stand, two_classes_have_a_layout,
+    new_instances_start, statics_of_classes_stand, structs_are_typed, two_classes_have_a_layout,
 };
