@@ -56,17 +56,23 @@ module _ (world : World) (known : Known) (counted : IsNumbered world) (knows : K
       knows class name ∙ ap (λ o. option_map standing_of (standing_at world name o)) found ∙ ap (λ o. option_map standing_of (standing_in world home name o)) laid_as ∙ ap (λ o. option_map standing_of (standing l.own o)) placed
 
   -- one of them
+  stands_before : (before : List (ℕ × List ℕ × Element)) (a : ℕ × List ℕ × Element) (more : List (ℕ × List ℕ × Element)) → world.attributes ≡ before ++ a ∷ more → slice_get world.attributes (length before) ≡ Some (a.0, a.1, a.2)
+  stands_before before a more is = ap (λ xs. slice_get xs (length before)) is ∙ get_right before (a ∷ more) (length before) 0 (omega arith)
+
+  new_there : (before : List (ℕ × List ℕ × Element)) (a : ℕ × List ℕ × Element) (more : List (ℕ × List ℕ × Element)) → world.attributes ≡ before ++ a ∷ more → (i : ℕ) (x : Element) → slice_get before i ≡ Some (a.0, a.1, x) → ⊥
+  new_there before a more is i x h =
+      let same : i ≡ length before = are.once i (length before) a.0 a.1 x a.2 (ap (λ xs. slice_get xs i) is ∙ get_left before (a ∷ more) i (a.0, a.1, x) h) (stands_before before a more is) in
+      omega (arith, same, get_within before i (a.0, a.1, x) h)
+
+  placed_at : (before : List (ℕ × List ℕ × Element)) (a : ℕ × List ℕ × Element) (more : List (ℕ × List ℕ × Element)) → world.attributes ≡ before ++ a ∷ more → a.0 ≡ home → attribute_place world.attributes home a.1 ≡ Some (declared home before, a.2)
+  placed_at before a more is e =
+      ap (λ h. attribute_place world.attributes h a.1) (sym e) ∙ ap (λ xs. attribute_place xs a.0 a.1) is ∙ place_at before a more 0 (new_there before a more is)
+      ∙ ap (λ k. Some (k, a.2)) (let z : 0 + declared a.0 before ≡ declared a.0 before = omega arith in z) ∙ ap (λ h. Some (declared h before, a.2)) e
+
   known_at : (before : List (ℕ × List ℕ × Element)) (a : ℕ × List ℕ × Element) (more : List (ℕ × List ℕ × Element)) → world.attributes ≡ before ++ a ∷ more → a.0 ≡ home → known.attribute class a.1 ≡ Some (record { own = l.own; place = declared home before; element = a.2 })
   known_at before a more is e =
-      let here : slice_get world.attributes (length before) ≡ Some (a.0, a.1, a.2) = ap (λ xs. slice_get xs (length before)) is ∙ get_right before (a ∷ more) (length before) 0 (omega arith) in
-      let at : home_of world.classes home a.1 ≡ Some home = subst (λ h. home_of world.classes h a.1 ≡ Some h) e (are.at_home (length before) a.0 a.1 a.2 here) in
-      let found : home_of world.classes class a.1 ≡ Some home = home_below world.classes counted.forest home class home a.1 (is_under world.classes.classes class home below) at in
-      let new : (i : ℕ) (x : Element) → slice_get before i ≡ Some (a.0, a.1, x) → ⊥ =
-      λ i x h. (let same : i ≡ length before = are.once i (length before) a.0 a.1 x a.2 (ap (λ xs. slice_get xs i) is ∙ get_left before (a ∷ more) i (a.0, a.1, x) h) here in let within = get_within before i (a.0, a.1, x) h in omega (arith, same, within)) in
-      let placed : attribute_place world.attributes home a.1 ≡ Some (declared home before, a.2) =
-      ap (λ h. attribute_place world.attributes h a.1) (sym e) ∙ ap (λ xs. attribute_place xs a.0 a.1) is ∙ place_at before a more 0 new
-      ∙ ap (λ k. Some (k, a.2)) (let z : 0 + declared a.0 before ≡ declared a.0 before = omega arith in z) ∙ ap (λ h. Some (declared h before, a.2)) e in
-      standing_is a.1 (declared home before, a.2) found placed
+      let at : home_of world.classes home a.1 ≡ Some home = subst (λ h. home_of world.classes h a.1 ≡ Some h) e (are.at_home (length before) a.0 a.1 a.2 (stands_before before a more is)) in
+      standing_is a.1 (declared home before, a.2) (home_below world.classes counted.forest home class home a.1 (is_under world.classes.classes class home below) at) (placed_at before a more is e)
 
   place_next : (b : Bool) (n : ℕ) → n + 1 < 2 ^ 64 → next_place b n ≡ n + when b 1
   place_next true n lt = word_same (n + 1) lt
