@@ -242,8 +242,8 @@ module _ (c : Known) where
             operates sc base m node value o args norm e h does xs ch.z given_by ch.free ch.formed ch.above,
             ch.is,
             (λ t.
-            let parts = or_parts (is_raise o) (not (rule.is_narrowing o) && is_nothing ch.z) t in
-            lead ch.z parts.0 ch.below (unstopped ch.z ch.below (and_cases (not (rule.is_narrowing o)) (is_nothing ch.z) parts.1))),
+                let parts = or_parts (is_raise o) (not (rule.is_narrowing o) && is_nothing ch.z) t in
+                lead ch.z parts.0 ch.below (unstopped ch.z ch.below (and_cases (not (rule.is_narrowing o)) (is_nothing ch.z) parts.1))),
             marked sc base m node value o args norm e h does xs given_by,
           ),
         )

@@ -94,11 +94,11 @@ merged : (o : Option Fault) (S : Fault → Type 0) (one other third : Flaw → �
 merged o S one other third same h =
     alike o (λ x. (S x ⊎ Shown one x) ⊎ Shown other x) (λ x. S x ⊎ Shown (λ flaw n. one flaw n || third flaw n) x)
     (λ x i. elim i [
-      inl j ↦ elim j [ inl k ↦ inl k | inr k ↦ inr (first_shown one third x.node x.kind k) ]
+      | inl j ↦ elim j [ inl k ↦ inl k | inr k ↦ inr (first_shown one third x.node x.kind k) ]
       | inr j ↦ inr (second_shown one third x.node x.kind (shown_same other third same x.node x.kind j))
     ])
     (λ x i. elim i [
-      inl j ↦ inl (inl j)
+      | inl j ↦ inl (inl j)
       | inr j ↦ elim (split one third x.node x.kind j) [ inl k ↦ inl (inr k) | inr k ↦ inr (shown_same third other (λ flaw n. sym (same flaw n)) x.node x.kind k) ]
     ]) h
 
