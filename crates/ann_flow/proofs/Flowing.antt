@@ -21,7 +21,7 @@ use Rattle.ann_tree.specs.Closed.{IsClosed}
 use Rattle.ann_read.specs.Reading.{HasOps, HasGraphs, reading}
 use Rattle.ann_read.proofs.Readings.{is_reading, are_apart}
 use Rattle.ann_planned.proofs.Planning.{closed_plan}
-use Rattle.ann_flow.specs.Sound.{AreSound}
+use Rattle.ann_read.specs.Sound.{AreSound}
 
 module _ (p : Program) (gs : Graphs) (t : Tables) (r : Resolved) (nodes : NodesAt r gs) where
   abbrev W : Whole

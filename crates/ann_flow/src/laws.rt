@@ -15,7 +15,7 @@ ghost use Rattle.ann_layout.specs.Layout.{plan, planned};
 ghost use Rattle.ann_places.specs.Spots.{spots, start};
 ghost use Rattle.ann_tree.specs.Closed.{IsClosed};
 ghost use Rattle.ann_read.specs.Reading.{reading};
-ghost use Rattle.ann_flow.specs.Sound.{AreSound};
+ghost use Rattle.ann_read.specs.Sound.{AreSound};
 
 /// Of graphs that `flow_space` makes of a program with bound names, each assignment that is closed under
 /// all that they ask and free of conflict, read at the nodes of the program's trees, is closed under all

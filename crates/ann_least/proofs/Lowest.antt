@@ -42,7 +42,7 @@ use Rattle.ann_lifted.specs.Lifted.{ReadOwn, HasNoOthers, IsLifted}
 use Rattle.ann_lifted.proofs.Whole.{lifted, lifted_formed, is_lifted}
 use Rattle.ann_filled.specs.Filled.{filled}
 use Rattle.ann_filled.proofs.Filling.{is_lift}
-use Rattle.ann_flow.specs.Sound.{AreSound}
+use Rattle.ann_read.specs.Sound.{AreSound}
 use Rattle.ann_flow.proofs.Flowing.{closed_flow}
 use Rattle.ann_shown.proofs.Names.{declared_distinct}
 use Rattle.ann_shown.proofs.Standing.{attribute_is}

@@ -17,7 +17,7 @@ ghost use Rattle.ann_places.specs.Spots.{spots, start};
 ghost use Rattle.ann_grown.specs.Partial.{NoneFree};
 ghost use Rattle.ann_tree.specs.Annotation.{Annotation};
 ghost use Rattle.ann_read.specs.Reading.{reading};
-ghost use Rattle.ann_flow.specs.Sound.{AreSound};
+ghost use Rattle.ann_read.specs.Sound.{AreSound};
 ghost use Rattle.ann_least.specs.Least.{IsAnnotation, IsLeast};
 
 /// Of graphs that `flow_space` makes of a program with bound names, the least assignment that is closed

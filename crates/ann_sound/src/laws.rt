@@ -11,7 +11,7 @@ ghost use Rattle.ann_rules.specs.Program.{Callee};
 ghost use Rattle.ann_needs.specs.View.{whole};
 ghost use Rattle.ann_layout.specs.Layout.{plan};
 ghost use Rattle.ann_read.specs.Plain.{AllReturnPlainly};
-ghost use Rattle.ann_flow.specs.Sound.{AreSound};
+ghost use Rattle.ann_read.specs.Sound.{AreSound};
 
 /// The callees of a program are the functions of the trees that are made of it: each has as many
 /// parameters with their defaults, and takes more where its function does.

@@ -24,14 +24,14 @@ use Rattle.ann_needs.specs.View.{whole, assignment}
 use Rattle.ann_needs.specs.declared.state.State.{State}
 use Rattle.ann_layout.specs.Layout.{plan, planned}
 use Rattle.ann_places.specs.Spots.{spots, start}
-use Rattle.ann_planned.proofs.Planning.{premises}
-use Rattle.ann_flow.specs.Sound.{AreSound}
+use Rattle.ann_least.proofs.Passed.{premises}
+use Rattle.ann_read.specs.Sound.{AreSound}
 use Rattle.ann_read.specs.Reading.{In, ops_of, gives, first_giving, element_of, element_in, reading, AreApart}
 use Rattle.ann_read.proofs.Readings.{is_reading, are_apart, first_is}
 use Rattle.ann_read.proofs.Whole as whole_of
 use Rattle.ann_read.proofs.Whole.{Premises, in_left, in_right}
-use Rattle.ann_settled.specs.Nodes.{is_unreached, is_augmented, gives_value, first_reached, result, op_results, ops_results, blocks_results, graphs_results}
-use Rattle.ann_settled.specs.Read.{element_at}
+use Rattle.typing_laws.specs.Settled.{is_unreached, is_augmented, gives_value, first_reached, result, op_results, ops_results, blocks_results, graphs_results}
+use Rattle.typing_laws.specs.Settled.{element_at}
 use Rattle.ann_sound.proofs.Callees.{callee_of_function}
 use Rattle.ann_sound.proofs.Nodes.{own_nodes}
 use Rattle.ann_sound.proofs.Returns.{returns_plainly}

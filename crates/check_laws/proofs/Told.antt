@@ -11,7 +11,7 @@ use Rattle.ann_needs.specs.declared.state.State.{State}
 use Rattle.ann_layout.specs.Layout.{plan, planned}
 use Rattle.ann_places.specs.Spots.{start}
 use Rattle.ann_read.specs.Reading.{reading}
-use Rattle.ann_settled.specs.Settled.{IsRead}
+use Rattle.typing_laws.specs.Settled.{IsRead}
 use Rattle.rtyper_core.specs.Fault.{told, shown_as}
 use Rattle.rtyper_core.specs.Typing.{least_fault, Tells}
 use Rattle.rtyper_core.specs.declared.fault.Fault.{Fault}

@@ -20,8 +20,8 @@ use Rattle.ann_layout.specs.Layout.{plan, planned}
 use Rattle.ann_places.specs.Spots.{start}
 use Rattle.ann_tree.specs.Annotation.{Annotation}
 use Rattle.ann_read.specs.Reading.{In, ops_of, reading}
-use Rattle.ann_settled.specs.Nodes.{is_augmented}
-use Rattle.ann_settled.specs.Read.{element_at}
+use Rattle.typing_laws.specs.Settled.{is_augmented}
+use Rattle.typing_laws.specs.Settled.{element_at}
 use Rattle.ann_least.specs.Least.{IsAnnotation, IsLeast}
 use Rattle.rtyper_core.specs.declared.fault.FaultKind.{FaultKind}
 use Rattle.rtyper_core.specs.declared.fault.FaultKind.TheVariants as kind

@@ -1,3 +1,4 @@
 pub mod Faults
 pub mod Least
 pub mod Rows
+pub mod Settled
