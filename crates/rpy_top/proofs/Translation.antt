@@ -14,9 +14,8 @@ use Rattle.rpy_first.specs.Gives.{Gives}
 use Rattle.rpy_names.specs.Resolve.{prog}
 use Rattle.rpy_tree.specs.declared.program.Program.{Program}
 use Rattle.ll_code.specs.declared.program.LlProgram.{LlProgram}
-use Rattle.rpy_checked.specs.Settles.{IsRefused}
-use Rattle.rpy_checked.specs.declared.fault.CheckFault.{CheckFault}
-use Rattle.rpy_checked.specs.declared.fault.CheckFault.TheVariants as check
+use Rattle.rpy_compiled.specs.Checks as check
+use Rattle.rpy_compiled.specs.Checks.{CheckFault, IsRefused}
 use Rattle.first_lower.specs.Lower.{text_of}
 use Rattle.rpy_top.specs.Answer.{IsCheck, IsChecked, check_fault, LowersProgram, LowersModules, LowersTo, WritesProgram, only_body, WritesModules, WritesTo}
 use Rattle.rpy_words.specs.declared.job.Task.{Task}

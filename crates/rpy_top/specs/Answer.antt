@@ -7,15 +7,12 @@ use Rattle.rpy_first.specs.Gives.{Gives}
 use Rattle.rpy_first.specs.Program.{program_of}
 use Rattle.first_lower.specs.Lower.{text_of}
 use Rattle.first_lower.specs.Built.{Built}
-use Rattle.ll_file.specs.File.{IsOfSome}
 use Rattle.csub_tree.specs.declared.tree.CFile.{CFile}
 use Rattle.ll_code.specs.declared.program.LlProgram.{LlProgram}
 use Rattle.rpy_first.specs.declared.fault.TranslateFault.{TranslateFault as FrontFault}
 use Rattle.rpy_first.specs.declared.fault.TranslateFault.TheVariants as front
-use Rattle.rpy_checked.specs.Settles.{HasTypes, HasConflict, HasFault}
-use Rattle.rpy_checked.specs.declared.fault.CheckFault.{CheckFault}
-use Rattle.rpy_checked.specs.declared.fault.CheckFault.TheVariants as check
-use Rattle.rpy_checked.specs.Words.{words_of as type_words}
+use Rattle.rpy_compiled.specs.Checks as check
+use Rattle.rpy_compiled.specs.Checks.{CheckFault, HasTypes, HasConflict, HasFault, IsOfSome, words_of as type_words}
 use Rattle.ann_text.specs.AnnotationText.{annotation_text}
 use Rattle.ann_element.specs.declared.annotation.Annotation.{Annotation}
 use Rattle.rpy_top.specs.declared.fault.TranslateFault.{TranslateFault}

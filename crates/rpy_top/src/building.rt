@@ -1,7 +1,7 @@
 // The work on files: what is written of their program, or what stops it.
 ghost use Rattle.std.specs.Prelude.{◌≡◌, ◌≤◌, ◌<◌, ◌++◌, length, nat_le, true, codes, IfOk};
 ghost use Rattle.rpy_first.specs.Source.{line_at};
-ghost use Rattle.rpy_checked.specs.Words.{words_of};
+ghost use Rattle.rpy_compiled.specs.Checks.{words_of};
 ghost use Rattle.rpy_words.specs.Command.{are_sources};
 ghost use Rattle.rpy_front.specs.Modules.{are_short};
 ghost use Rattle.rpy_top.specs.Answer as spec;
@@ -12,7 +12,7 @@ use crate::fault::TranslateFault;
 use crate::sources::{lower_sources, names_of, write_sources};
 use ll_code::LlProgram;
 use rpy_base::{Files, NoMem, Seq, Sink, Text};
-use rpy_checked::{TypeKind, type_words};
+use rpy_compiled::{TypeKind, type_words};
 use rpy_edge::{Status, joined, load, put, say, say_text};
 use rpy_first::{NameKind, SourceKind, line_at, refusal};
 use rpy_front::{LIMIT, name_refusal};

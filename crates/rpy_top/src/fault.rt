@@ -3,7 +3,7 @@ ghost use Rattle.std.specs.Prelude.{◌≡◌};
 ghost use Rattle.rpy_top.specs.Answer as spec;
 
 use rpy_base::{NoMem, Text};
-use rpy_checked::{CheckFault, TypeKind};
+use rpy_compiled::{CheckFault, TypeKind};
 use rpy_first::{NameKind, SourceKind};
 use thiserror::Error;
 

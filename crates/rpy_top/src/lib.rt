@@ -11,7 +11,7 @@ mod top;
 
 pub use building::MOST_FILES;
 pub use fault::TranslateFault;
-pub use rpy_checked::TypeKind;
+pub use rpy_compiled::TypeKind;
 pub use rpy_crun::C_LIMIT;
 pub use rpy_first::{NameKind, SourceKind};
 pub use rpy_front::{LIMIT, are_short};

@@ -1,5 +1,5 @@
 use Rattle.std.proofs.Common.{subst, codes, ◌++◌}
-use Rattle.rpy_checked.specs.Words.{words_of}
+use Rattle.rpy_compiled.specs.Checks.{words_of}
 use Rattle.rpy_first.specs.Source.{refusal, line_at}
 use Rattle.rpy_front.specs.Names.{name_refusal}
 use Rattle.rpy_edge.specs.Edge.{Says, sunk}
