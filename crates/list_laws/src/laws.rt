@@ -1,6 +1,8 @@
 // Laws of operations on lists as they are lowered.
 ghost use Rattle.std.specs.Prelude.{ℕ, Option, codes};
+ghost use Rattle.rpy_tree.specs.declared.syntax.CmpOp.TheVariants as compared;
 ghost use Rattle.rpy_meaning.specs.declared.row.RowOp.TheVariants as row;
+ghost use Rattle.list_laws.specs.Presence.{ListsAreBesideNone, ListsAreCompared, ListsAreMissing, ListsAreThere, ListsCountAsTrue};
 ghost use Rattle.list_laws.specs.Lists.{EmptyListsAreMade, ItemsAreAppended, ItemsAreRead, ItemsAreStored, LengthsAreRead, ListsAreMade, WalksBegin, WalksGive, WalksGoOn};
 
 /// The length of a list; where the list may be missing, `None` fails, or raises.
@@ -41,4 +43,25 @@ pub fn walks_are_done()
 /// A list of so many items, by a display, at its cost.
 pub fn lists_are_made()
     ensures { ListsAreMade }
+{}
+
+/// A list that has items counts as true, and one that has none or is missing as false.
+pub fn lists_count_as_true()
+    ensures truth { ListsCountAsTrue row.Truth }
+    ensures opposite { ListsCountAsTrue row.Not }
+{}
+
+/// Whether two lists are the same, and whether one is `None`.
+pub fn lists_are_compared()
+    ensures is { ListsAreCompared compared.Is }
+    ensures is_not { ListsAreCompared compared.IsNot }
+    ensures none { ListsAreBesideNone compared.Is }
+    ensures not_none { ListsAreBesideNone compared.IsNot }
+{}
+
+/// Of a list that is there, and of one that is `None`, it is known that it is.
+pub fn lists_are_narrowed()
+    ensures there { ListsAreThere }
+    ensures only_none { ListsAreMissing row.OnlyNone }
+    ensures false_none { ListsAreMissing row.FalseNone }
 {}
