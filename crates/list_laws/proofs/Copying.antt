@@ -83,7 +83,7 @@ module _ {p : LlProgram} {args : List (List ℕ)} {ops : List LlOp} {e : LlExit}
       at_most_one (Ptr m) = omega arith
       at_most_one _ = omega arith
 
-read_mid : (pre : List Value) (x : Value) (post : List Value) (i : ℕ) → i ≡ length pre → read (pre ++ x ∷ post) i ≡ x
+pub read_mid : (pre : List Value) (x : Value) (post : List Value) (i : ℕ) → i ≡ length pre → read (pre ++ x ∷ post) i ≡ x
 read_mid [] x post zero e = refl
 read_mid [] x post (suc i) e = absurd (omega (arith, e))
 read_mid (y ∷ pre) x post zero e = absurd (omega (arith, e))
@@ -96,7 +96,7 @@ abbrev pub AllSet : List Value → Type 0
 AllSet [] = Unit {0}
 AllSet (x ∷ xs) = (is_unset x ≡ false) × AllSet xs
 
-more_than : (n : ℕ) → binary_of Gt (Word (pos (suc n))) (Word (pos 0)) ≡ Ok (Flag true)
+pub more_than : (n : ℕ) → binary_of Gt (Word (pos (suc n))) (Word (pos 0)) ≡ Ok (Flag true)
 more_than n = let e : int_lt (pos 0) (pos (suc n)) ≡ true = grind (arith, nat_tests) in ap (λ b. Ok (Flag b)) e
 
 abbrev raw : List Value → List Value

@@ -10,9 +10,11 @@ pub mod Itemed
 pub mod Lengths
 pub mod Lowered
 pub mod Making
+pub mod Moving
 pub mod Narrowed
 pub mod Nothings
 pub mod Places
+pub mod Removing
 pub mod Roomed
 pub mod Stored
 pub mod There

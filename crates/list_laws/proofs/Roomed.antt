@@ -76,7 +76,7 @@ found_same g bs more statics (Ptr n) u same h = index_same bs more n (let l = be
 found_same g bs more statics (Static s) u same h = refl
 found_same g bs more statics _ u same h = absurd (cc)
 
-all_set : {layout : Layout} {known : Known} {g : Ghost} {heap : Heap} {left : ℕ} {blocks : List (Option Block)} {statics : List Block} {seen : Option Element} {xs : List Value} {vs : List Meant} → Represents layout known g heap left blocks statics → EachHolds layout known g seen xs vs → AllSet xs
+pub all_set : {layout : Layout} {known : Known} {g : Ghost} {heap : Heap} {left : ℕ} {blocks : List (Option Block)} {statics : List Block} {seen : Option Element} {xs : List Value} {vs : List Meant} → Represents layout known g heap left blocks statics → EachHolds layout known g seen xs vs → AllSet xs
 all_set r Empty = tt
 all_set r (More held each) = (held_set r held, all_set r each)
 

@@ -2,3 +2,4 @@ pub mod Asked
 pub mod Done
 pub mod Lists
 pub mod Presence
+pub mod Taken
