@@ -2,6 +2,7 @@ pub mod Appended
 pub mod Appending
 pub mod Appends
 pub mod Copying
+pub mod Deleting
 pub mod Displayed
 pub mod Fetched
 pub mod Identity
@@ -17,6 +18,7 @@ pub mod Places
 pub mod Removing
 pub mod Roomed
 pub mod Stored
+pub mod Taking
 pub mod There
 pub mod Told
 pub mod Truths

@@ -79,7 +79,7 @@ use Rattle.object_laws.proofs.Writing.{Written, writes_item}
 
 -- ---- kinds
 
-not_none : (k : Kind) → of_list k ≡ true → of_none k ≡ false
+pub not_none : (k : Kind) → of_list k ≡ true → of_none k ≡ false
 not_none kind.List h = refl
 not_none kind.MaybeList h = refl
 not_none _ h = absurd (cc)
