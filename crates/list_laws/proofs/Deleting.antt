@@ -34,20 +34,20 @@ use Rattle.rtyper_data.specs.Converting.{by_small, default_operand, nothing_to}
 use Rattle.rtyper_data.specs.Finding.{small_number}
 use Rattle.rtyper_op.specs.Lowering.{never_comes}
 use Rattle.rtyper_op.specs.Placing.{says_nothing}
-use Rattle.rtyper_data.specs.Seen.{Around, Operand, Place, kind_of, type_of, with_op, Writing, writing}
+use Rattle.rtyper_data.specs.Seen.{Around, Operand, Place, kind_of, type_of, Writing, writing}
 use Rattle.list_shape.specs.Shapes.{taking}
 use Rattle.rtyper_list.specs.Items.{delete, placed}
 use Rattle.rtyper_list.specs.Lowering.{lowered, lowered_unless, of_some, first_of_two, lower_list_op}
 use Rattle.rtyper_list.specs.Operands.{of_list, list_of, pointed, done_by}
 use Rattle.lower_laws.specs.Asked.{Ask, Make, all_asked}
-use Rattle.lower_laws.specs.Values.{IsBelow, AllBelow}
+use Rattle.lower_laws.specs.Values.{AllBelow}
 use Rattle.lower_laws.proofs.Doing.{after}
 use Rattle.lower_laws.proofs.Typing.{place_of_none}
 use Rattle.list_laws.specs.Asked.{HasList, HasAll as HasOthers}
 use Rattle.list_laws.specs.Lists.{there_asks}
 use Rattle.list_laws.specs.Taken.{HasRemove, HasAll, IsTaken, take_asks, ItemsAreDeleted}
 use Rattle.list_laws.proofs.Indexed.{asked_both, there_covers, three_behind, place_inside}
-use Rattle.list_laws.proofs.Lengths.{HeadFound, count_fits}
+use Rattle.list_laws.proofs.Lengths.{count_fits}
 use Rattle.list_laws.proofs.Lowered.{list_comes, two_come, first_of_two_is_list}
 use Rattle.list_laws.proofs.Places.{PlaceGoes, place_is}
 use Rattle.list_laws.proofs.Stored.{not_none}

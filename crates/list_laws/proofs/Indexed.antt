@@ -107,7 +107,7 @@ three_behind xs ys a b c = append_assoc ((xs ++ ys) ++ a ∷ []) (b ∷ []) (c �
 pub four_behind : {A : Type 0} (xs ys : List A) (a b c d : A) → ((((xs ++ ys) ++ a ∷ []) ++ b ∷ []) ++ c ∷ []) ++ d ∷ [] ≡ xs ++ (ys ++ a ∷ b ∷ c ∷ d ∷ [])
 four_behind xs ys a b c d = append_assoc (((xs ++ ys) ++ a ∷ []) ++ b ∷ []) (c ∷ []) (d ∷ []) ∙ append_assoc ((xs ++ ys) ++ a ∷ []) (b ∷ []) (c ∷ d ∷ []) ∙ append_assoc (xs ++ ys) (a ∷ []) (b ∷ c ∷ d ∷ []) ∙ append_assoc xs ys (a ∷ b ∷ c ∷ d ∷ [])
 
-inside_some : {A : Type 0} (xs : List A) (k : ℕ) → k < length xs → slice_get xs k ≡ None → ⊥
+pub inside_some : {A : Type 0} (xs : List A) (k : ℕ) → k < length xs → slice_get xs k ≡ None → ⊥
 inside_some [] k h e = omega (arith, h)
 inside_some (x ∷ xs) zero h e = absurd (cc)
 inside_some (x ∷ xs) (suc k) h e = inside_some xs k (omega (arith, h)) e

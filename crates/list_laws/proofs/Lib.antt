@@ -15,6 +15,7 @@ pub mod Moving
 pub mod Narrowed
 pub mod Nothings
 pub mod Places
+pub mod Popping
 pub mod Removing
 pub mod Roomed
 pub mod Stored

@@ -1,13 +1,12 @@
 -- The loop that copies items of an array one place down in the same array.
-use Rattle.std.proofs.Common.{◌≡◌, ◌<◌, ◌≤◌, ℕ, suc, ◌+◌, ◌^◌, ◌||◌, Bool, true, false, List, [], ◌∷◌, ◌++◌, length, Option, Some, None, Ok, pos, refl, sym, ap, ◌∙◌, subst, arith, append_assoc, length-append}
+use Rattle.std.proofs.Common.{◌≡◌, ◌<◌, ◌≤◌, ℕ, suc, ◌+◌, ◌^◌, ◌||◌, Bool, true, false, List, [], ◌∷◌, ◌++◌, length, Option, Some, None, pos, refl, sym, ap, ◌∙◌, subst, arith, append_assoc, length-append}
 use Rattle.std.specs.Prelude.{cond, nat_lt, slice_get}
 use Rattle.std.proofs.lemmas.Bool.Decides.{nat_tests}
 use Rattle.csub_tree.specs.State.{Value, Unset, Word, Flag, Ptr, Static, Block, Core, Stuck}
 use Rattle.csub_tree.specs.Layout.{shape_at, shape_over}
-use Rattle.csub_tree.specs.Operation.{is_unset, binary_of, word_of}
+use Rattle.csub_tree.specs.Operation.{is_unset, word_of}
 use Rattle.csub_tree.specs.Statement.{read, operand, on, on_block, reached, put_item, set_item, stored as stores}
 use Rattle.csub_tree.specs.declared.stuck.StuckReason.TheVariants.{Outside, Unset as IsUnset}
-use Rattle.csub_tree.specs.declared.tree.CBinary.TheVariants.{Gt}
 use Rattle.csub_tree.specs.declared.tree.COperand.{COperand}
 use Rattle.csub_tree.specs.declared.tree.COperand.TheVariants.{Var}
 use Rattle.ll_code.specs.State.{Frame, State, Calling, At, Goes}

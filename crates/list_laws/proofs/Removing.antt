@@ -1,5 +1,5 @@
 -- The graph that takes the item at a place out of a list.
-use Rattle.std.proofs.Common.{◌≡◌, ◌<◌, ◌≤◌, ℕ, zero, suc, ◌+◌, ◌-◌, ◌^◌, ◌||◌, true, false, List, [], ◌∷◌, ◌++◌, length, Option, Some, None, pos, refl, sym, ap, ◌∙◌, subst, arith, append_assoc, length-append}
+use Rattle.std.proofs.Common.{◌≡◌, ◌<◌, ℕ, zero, suc, ◌+◌, ◌^◌, ◌||◌, true, false, List, [], ◌∷◌, ◌++◌, length, Option, Some, None, pos, refl, sym, ap, ◌∙◌, subst, arith, append_assoc, length-append}
 use Rattle.std.specs.Prelude.{slice_get, slice_set, remove}
 use Rattle.ann_element.specs.declared.element.Element.{Element}
 use Rattle.csub_tree.specs.State.{Value, Unset, Word, Block, Core}
@@ -19,7 +19,6 @@ use Rattle.ll_leads.specs.Memory.{forgotten}
 use Rattle.ll_leads.specs.Path.{Leads}
 use Rattle.ll_leads.proofs.Joined.{leads_then, leads_more}
 use Rattle.ll_leads.proofs.Ways.{many, enter, gives}
-use Rattle.ll_build.specs.Build.{word as word_operand}
 use Rattle.ll_texts.specs.Texts.{found}
 use Rattle.ll_texts.proofs.Numbers.{adds, subs}
 use Rattle.ll_texts.proofs.Writing.{put_mid}
@@ -40,7 +39,7 @@ use Rattle.list_laws.proofs.Roomed.{all_set}
 use Rattle.object_laws.specs.Known.{Known}
 use Rattle.object_laws.specs.Done.{HasLayout}
 use Rattle.object_laws.specs.Ghost.{Ghost, Use, Head, Array, use_of, ListOf}
-use Rattle.object_laws.specs.Represents.{Represents, ListAt, HasRoom, AreEmpty, head_block, array_block}
+use Rattle.object_laws.specs.Represents.{Represents, ListAt, HasRoom, head_block}
 use Rattle.object_laws.specs.Values.{EachHolds, Empty, More}
 use Rattle.object_laws.proofs.Blocks.{found_set, reads_field}
 use Rattle.object_laws.proofs.Calling.{Returns, calls_back}

@@ -5,7 +5,7 @@ use Rattle.std.proofs.lemmas.List.{append-nil, length-set}
 use Rattle.rpy_base.specs.declared.outcome.FailName.TheVariants as fail
 use Rattle.csub_tree.specs.State.{Value, Unset, Word, Core}
 use Rattle.csub_tree.specs.Operation.{is_unset}
-use Rattle.csub_tree.specs.Statement.{read, operand, operands, any_unset}
+use Rattle.csub_tree.specs.Statement.{operand, operands, any_unset}
 use Rattle.csub_tree.specs.declared.tree.COperand.{COperand}
 use Rattle.rpy_tree.specs.Value.{Value as Meant, Listed}
 use Rattle.rpy_meaning.specs.declared.row.Covers.{Covers}
@@ -30,7 +30,7 @@ use Rattle.list_laws.specs.Lists.{if_missing, there_asks}
 use Rattle.list_laws.specs.Taken.{HasRemove, HasAll}
 use Rattle.list_laws.proofs.Removing.{removed}
 use Rattle.object_laws.specs.Known.{Known}
-use Rattle.object_laws.specs.Done.{AllAsked, Follows, HasLayout}
+use Rattle.object_laws.specs.Done.{Follows, HasLayout}
 use Rattle.object_laws.specs.Ghost.{Ghost, ListOf}
 use Rattle.object_laws.specs.Represents.{Represents, ListAt}
 use Rattle.object_laws.specs.Values.{Holds}

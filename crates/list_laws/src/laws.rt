@@ -3,6 +3,7 @@ ghost use Rattle.std.specs.Prelude.{ℕ, Option, codes};
 ghost use Rattle.rpy_tree.specs.declared.syntax.CmpOp.TheVariants as compared;
 ghost use Rattle.rpy_meaning.specs.declared.row.RowOp.TheVariants as row;
 ghost use Rattle.list_laws.specs.Presence.{ListsAreBesideNone, ListsAreCompared, ListsAreMissing, ListsAreThere, ListsCountAsTrue};
+ghost use Rattle.list_laws.specs.Taken.{ItemsAreDeleted, ItemsArePopped, LastItemsArePopped};
 ghost use Rattle.list_laws.specs.Lists.{EmptyListsAreMade, ItemsAreAppended, ItemsAreRead, ItemsAreStored, LengthsAreRead, ListsAreMade, WalksBegin, WalksGive, WalksGoOn};
 
 /// The length of a list; where the list may be missing, `None` fails, or raises.
@@ -64,4 +65,15 @@ pub fn lists_are_narrowed()
     ensures there { ListsAreThere }
     ensures only_none { ListsAreMissing row.OnlyNone }
     ensures false_none { ListsAreMissing row.FalseNone }
+{}
+
+/// An item that is deleted, by its index; the later ones move down, and outside it fails, or raises.
+pub fn items_are_deleted()
+    ensures { ItemsAreDeleted }
+{}
+
+/// The last item, or that at an index, is given, and taken out.
+pub fn items_are_popped()
+    ensures last { LastItemsArePopped }
+    ensures at { ItemsArePopped }
 {}
