@@ -46,7 +46,7 @@ use Rattle.list_laws.proofs.Roomed.{Roomed, makes_room}
 use Rattle.object_laws.proofs.Valued.{each_long, held_set}
 use Rattle.object_laws.proofs.Writing.{Written, with_item, other_field, writes_item, writes_field}
 
-each_more : {layout : Layout} {known : Known} {g : Ghost} {seen : Option Element} {xs : List Value} {vs : List Meant} (x : Value) (v : Meant) → EachHolds layout known g seen xs vs → Holds layout known g seen x v → EachHolds layout known g seen (xs ++ x ∷ []) (vs ++ v ∷ [])
+pub each_more : {layout : Layout} {known : Known} {g : Ghost} {seen : Option Element} {xs : List Value} {vs : List Meant} (x : Value) (v : Meant) → EachHolds layout known g seen xs vs → Holds layout known g seen x v → EachHolds layout known g seen (xs ++ x ∷ []) (vs ++ v ∷ [])
 each_more x v Empty held = More held Empty
 each_more x v (More other each) held = More other (each_more x v each held)
 

@@ -17,11 +17,13 @@ pub mod Nothings
 pub mod Places
 pub mod Popping
 pub mod Removing
+pub mod Reversing
 pub mod Roomed
 pub mod Stored
 pub mod Taking
 pub mod There
 pub mod Told
 pub mod Truths
+pub mod Turning
 pub mod Walked
 pub mod Walking

@@ -69,7 +69,7 @@ pub record Moved (p : LlProgram) (args : List (List ℕ)) (most : ℕ) (s : List
   pub wrote : Wrote core.blocks core.statics target (array_with a fields (pre ++ (xs ++ last ∷ post))) blocks statics
   pub returns : (waits : List Frame) → Returns p args most (s waits) Unset waits (record core { blocks = blocks; statics = statics })
 
-both_wrote : {bs bs1 bs2 : List (Option Block)} {ss ss1 ss2 : List Block} {at : Value} {b1 b2 : Block} → Wrote bs ss at b1 bs1 ss1 → Wrote bs1 ss1 at b2 bs2 ss2 → Wrote bs ss at b2 bs2 ss2
+pub both_wrote : {bs bs1 bs2 : List (Option Block)} {ss ss1 ss2 : List Block} {at : Value} {b1 b2 : Block} → Wrote bs ss at b1 bs1 ss1 → Wrote bs1 ss1 at b2 bs2 ss2 → Wrote bs ss at b2 bs2 ss2
 both_wrote w1 w2 = record { there = w2.there; others = λ x h. w2.others x h ∙ w1.others x h; made = w2.made ∙ w1.made; fixed = w2.fixed ∙ w1.fixed }
 
 module _ (p : LlProgram) (args : List (List ℕ)) (a f : ℕ) (t : LlType) (shape : shape_at (shapes_of p.structs) a ≡ shape_over a 1 None) (graph : slice_get p.graphs f ≡ Some (the_copy a t)) (target : Value) (fields : List Value) where

@@ -3,3 +3,4 @@ pub mod Done
 pub mod Lists
 pub mod Presence
 pub mod Taken
+pub mod Turned

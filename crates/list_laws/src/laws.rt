@@ -4,6 +4,7 @@ ghost use Rattle.rpy_tree.specs.declared.syntax.CmpOp.TheVariants as compared;
 ghost use Rattle.rpy_meaning.specs.declared.row.RowOp.TheVariants as row;
 ghost use Rattle.list_laws.specs.Presence.{ListsAreBesideNone, ListsAreCompared, ListsAreMissing, ListsAreThere, ListsCountAsTrue};
 ghost use Rattle.list_laws.specs.Taken.{ItemsAreDeleted, ItemsArePopped, LastItemsArePopped};
+ghost use Rattle.list_laws.specs.Turned.{ListsAreReversed};
 ghost use Rattle.list_laws.specs.Lists.{EmptyListsAreMade, ItemsAreAppended, ItemsAreRead, ItemsAreStored, LengthsAreRead, ListsAreMade, WalksBegin, WalksGive, WalksGoOn};
 
 /// The length of a list; where the list may be missing, `None` fails, or raises.
@@ -76,4 +77,9 @@ pub fn items_are_deleted()
 pub fn items_are_popped()
     ensures last { LastItemsArePopped }
     ensures at { ItemsArePopped }
+{}
+
+/// A list is turned around.
+pub fn lists_are_reversed()
+    ensures { ListsAreReversed }
 {}

@@ -7,5 +7,5 @@ mod laws;
 pub use laws::{
     empty_lists_are_made, items_are_appended, items_are_deleted, items_are_popped, items_are_read,
     items_are_stored, lengths_are_read, lists_are_compared, lists_are_made, lists_are_narrowed,
-    lists_count_as_true, walks_are_done,
+    lists_are_reversed, lists_count_as_true, walks_are_done,
 };
