@@ -53,10 +53,10 @@ use Rattle.object_laws.proofs.Valued.{Listing, Absent, list_or_none}
 
 -- ---- values that name blocks
 
-same_itself : (n : ℕ) → (n == n) ≡ true
+pub same_itself : (n : ℕ) → (n == n) ≡ true
 same_itself n = grind (arith, nat_tests)
 
-not_same : (m n : ℕ) → (m ≡ n → ⊥) → (m == n) ≡ false
+pub not_same : (m n : ℕ) → (m ≡ n → ⊥) → (m == n) ≡ false
 not_same m n h = grind (arith, nat_tests, h)
 
 names_itself : (g : Ghost) (x : Value) (u : Use) → use_of g x ≡ Some u → compared x x ≡ Ok (Flag true)
@@ -175,7 +175,7 @@ module _ (around : Around) (known : Known) (place : Place) (a b : Operand) (w : 
 
 -- ---- two lists
 
-by_pointers : (k l : Kind) → of_list k ≡ true → of_list l ≡ true → (around : Around) (a b : Operand) (body : Body) → identical_by k l around a b body ≡ same_pointer_of (type_of around a) (type_of around b) a.x b.x body
+pub by_pointers : (k l : Kind) → of_list k ≡ true → of_list l ≡ true → (around : Around) (a b : Operand) (body : Body) → identical_by k l around a b body ≡ same_pointer_of (type_of around a) (type_of around b) a.x b.x body
 by_pointers kind.List kind.List h k around a b body = refl
 by_pointers kind.List kind.MaybeList h k around a b body = refl
 by_pointers kind.MaybeList kind.List h k around a b body = refl

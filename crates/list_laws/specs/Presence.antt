@@ -40,6 +40,12 @@ ListsAreCompared o = (known : Known) (around : Around) (place : Place) (a b : Op
     → of_list (kind_of a) ≡ true → of_list (kind_of b) ≡ true → type_of around a ≡ type.Ptr n → type_of around b ≡ type.Ptr n → kind_seen place.element ≡ kind.Flag
     → IsTold known around (row.Compare o) covers [] place (a ∷ b ∷ []) w
 
+-- two of different structs are the same where both are missing
+abbrev pub ListsAreApart : CmpOp → Type 0
+ListsAreApart o = (known : Known) (around : Around) (place : Place) (a b : Operand) (w : Writing) (covers : Covers) (m n : ℕ) → m ≢ n
+    → of_list (kind_of a) ≡ true → of_list (kind_of b) ≡ true → type_of around a ≡ type.Ptr m → type_of around b ≡ type.Ptr n → kind_seen place.element ≡ kind.Flag
+    → IsTold known around (row.Compare o) covers [] place (a ∷ b ∷ []) w
+
 -- a list beside `None`
 abbrev pub ListsAreBesideNone : CmpOp → Type 0
 ListsAreBesideNone o = (known : Known) (around : Around) (place : Place) (a b : Operand) (w : Writing) (covers : Covers) (n : ℕ) → kind_seen place.element ≡ kind.Flag

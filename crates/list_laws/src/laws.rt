@@ -2,7 +2,7 @@
 ghost use Rattle.std.specs.Prelude.{ℕ, Option, codes};
 ghost use Rattle.rpy_tree.specs.declared.syntax.CmpOp.TheVariants as compared;
 ghost use Rattle.rpy_meaning.specs.declared.row.RowOp.TheVariants as row;
-ghost use Rattle.list_laws.specs.Presence.{ListsAreBesideNone, ListsAreCompared, ListsAreMissing, ListsAreThere, ListsCountAsTrue};
+ghost use Rattle.list_laws.specs.Presence.{ListsAreApart, ListsAreBesideNone, ListsAreCompared, ListsAreMissing, ListsAreThere, ListsCountAsTrue};
 ghost use Rattle.list_laws.specs.Taken.{ItemsAreDeleted, ItemsArePopped, LastItemsArePopped};
 ghost use Rattle.list_laws.specs.Turned.{ListsAreReversed};
 ghost use Rattle.list_laws.specs.Lists.{EmptyListsAreMade, ItemsAreAppended, ItemsAreRead, ItemsAreStored, LengthsAreRead, ListsAreMade, WalksBegin, WalksGive, WalksGoOn};
@@ -59,6 +59,8 @@ pub fn lists_are_compared()
     ensures is_not { ListsAreCompared compared.IsNot }
     ensures none { ListsAreBesideNone compared.Is }
     ensures not_none { ListsAreBesideNone compared.IsNot }
+    ensures apart { ListsAreApart compared.Is }
+    ensures not_apart { ListsAreApart compared.IsNot }
 {}
 
 /// Of a list that is there, and of one that is `None`, it is known that it is.
