@@ -13,6 +13,7 @@ use Rattle.ann_layout.specs.Callees.{callees}
 use Rattle.ann_layout.specs.Literals.{literals}
 use Rattle.ann_layout.specs.declared.layout.Layout.{Layout}
 use Rattle.ann_layout.specs.declared.layout.Planned.{Planned}
+use Rattle.ann_layout.specs.declared.layout.Parts.{Parts}
 
 -- so many numbers from n on
 abbrev pub numbers : ℕ → ℕ → List ℕ
@@ -127,6 +128,14 @@ module _ (params variables blocks : List ℕ) (functions classes sites nodes : �
   abbrev pub layout : Layout
   layout = record { places = places; cells = cell_count; marks = mark_count }
 
+-- with no part at all
+abbrev pub empty : Layout
+empty = record {
+  places = record { variables = []; params = []; results = []; attributes = []; items = []; keys = []; blocks = []; reached = []; made = []; loaded = []; loose = []; unbound = [] };
+  cells = 0;
+  marks = 0;
+}
+
 abbrev pub laid_out : Program → Graphs → Tables → List Callee → Layout
 laid_out p gs t cs = layout (map param_count cs) (map variable_count gs.graphs) (map block_count gs.graphs) (length cs) (length t.classes) (length p.sites) (length p.uses) t
 
@@ -144,3 +153,14 @@ plan p gs t = record {
 
 abbrev pub planned : Program → Graphs → Tables → Planned
 planned p gs t = record { plan = plan p gs t; cells = (laid_out p gs t (callees p)).cells; marks = (laid_out p gs t (callees p)).marks }
+
+-- what a plan has beside its graphs and its classes
+abbrev pub parts : Program → Graphs → Tables → Parts
+parts p gs t = record { callees = callees p; sites = p.sites; literals = literals (length p.uses) gs.graphs; layout = laid_out p gs t (callees p) }
+
+abbrev pub planned_with : Graphs → Tables → ℕ → Parts → Planned
+planned_with gs t entry ps = record {
+  plan = record { classes = t; callees = ps.callees; sites = ps.sites; graphs = gs; entry = entry; literals = ps.literals; places = ps.layout.places };
+  cells = ps.layout.cells;
+  marks = ps.layout.marks;
+}

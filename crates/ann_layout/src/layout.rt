@@ -11,7 +11,7 @@ use class_desc::Classes;
 use flow_graph::{Block, Graph, Graphs, Op, VarId};
 use rpy_base::{NoMem, Seq, Text};
 use rpy_copies::copy_pairs;
-use rpy_tree::{ClassId, Const, Program, Site};
+use rpy_tree::{ClassId, Const, FunId, Program, Site};
 use std::alloc::Global;
 
 // ---- numbers
@@ -199,6 +199,61 @@ pub struct Counts {
     pub nodes: usize,
 }
 
+// Nothing has a place.
+fn empty_layout(alloc: Global) -> Layout
+    ensures { result ≡ spec.empty }
+{
+    Layout {
+        places: Places {
+            variables: Seq::new(alloc),
+            params: Seq::new(alloc),
+            results: Seq::new(alloc),
+            attributes: Seq::new(alloc),
+            items: Seq::new(alloc),
+            keys: Seq::new(alloc),
+            blocks: Seq::new(alloc),
+            reached: Seq::new(alloc),
+            made: Seq::new(alloc),
+            loaded: Seq::new(alloc),
+            loose: Seq::new(alloc),
+            unbound: Seq::new(alloc),
+        },
+        cells: 0,
+        marks: 0,
+    }
+}
+
+// Puts in all places, and how many there are.
+fn lay_out(
+    alloc: Global,
+    classes: &Classes,
+    params: &[usize],
+    variables: &[usize],
+    blocks: &[usize],
+    counts: Counts,
+    layout: &mut Layout,
+) -> Result<(), NoMem>
+    ensures { OnOk result (layout.new ≡ spec.layout params.now variables.now blocks.now counts.functions (length classes.now.classes) counts.sites counts.nodes classes.now) }
+{
+    let mut cells = 0;
+    layout.places.params = rows(alloc, &mut cells, params)?;
+    layout.places.results = numbers(alloc, &mut cells, counts.functions)?;
+    layout.places.attributes = named_rows(alloc, classes, &mut cells)?;
+    layout.places.items = numbers(alloc, &mut cells, counts.sites)?;
+    layout.places.keys = numbers(alloc, &mut cells, counts.sites)?;
+    layout.places.variables = rows(alloc, &mut cells, variables)?;
+    let mut marks = 0;
+    layout.places.reached = numbers(alloc, &mut marks, counts.functions)?;
+    layout.places.made = numbers(alloc, &mut marks, classes.len())?;
+    layout.places.loaded = numbers(alloc, &mut marks, counts.sites)?;
+    layout.places.blocks = rows(alloc, &mut marks, blocks)?;
+    layout.places.loose = rows(alloc, &mut marks, variables)?;
+    layout.places.unbound = numbers(alloc, &mut marks, counts.nodes)?;
+    layout.cells = cells;
+    layout.marks = marks;
+    Ok(())
+}
+
 fn layout_of(
     alloc: Global,
     classes: &Classes,
@@ -209,38 +264,19 @@ fn layout_of(
 ) -> Result<Layout, NoMem>
     ensures { IfOk result (λ layout. layout ≡ spec.layout params.now variables.now blocks.now counts.functions (length classes.now.classes) counts.sites counts.nodes classes.now) }
 {
-    let mut cells = 0;
-    let param_rows = rows(alloc, &mut cells, params)?;
-    let results = numbers(alloc, &mut cells, counts.functions)?;
-    let attributes = named_rows(alloc, classes, &mut cells)?;
-    let items = numbers(alloc, &mut cells, counts.sites)?;
-    let keys = numbers(alloc, &mut cells, counts.sites)?;
-    let variable_rows = rows(alloc, &mut cells, variables)?;
-    let mut marks = 0;
-    let reached = numbers(alloc, &mut marks, counts.functions)?;
-    let made = numbers(alloc, &mut marks, classes.len())?;
-    let loaded = numbers(alloc, &mut marks, counts.sites)?;
-    let block_rows = rows(alloc, &mut marks, blocks)?;
-    let loose = rows(alloc, &mut marks, variables)?;
-    let unbound = numbers(alloc, &mut marks, counts.nodes)?;
-    Ok(Layout {
-        places: Places {
-            variables: variable_rows,
-            params: param_rows,
-            results,
-            attributes,
-            items,
-            keys,
-            blocks: block_rows,
-            reached,
-            made,
-            loaded,
-            loose,
-            unbound,
-        },
-        cells,
-        marks,
-    })
+    let mut layout = empty_layout(alloc);
+    match lay_out(
+        alloc,
+        classes,
+        params,
+        variables,
+        blocks,
+        counts,
+        &mut layout,
+    ) {
+        Ok(()) => Ok(layout),
+        Err(fault) => Err(fault),
+    }
 }
 
 fn copy_contents(
@@ -304,6 +340,60 @@ fn laid_out(
     )
 }
 
+// What the plan of a program has beside its graphs and its classes, and where it all stands.
+#[derive(Drop)]
+pub struct Parts {
+    pub callees: Seq<Callee>,
+    pub sites: Seq<Site>,
+    pub literals: Seq<bool>,
+    pub layout: Layout,
+}
+
+fn parts_of(
+    alloc: Global,
+    program: &Program,
+    graphs: &Graphs,
+    classes: &Classes,
+) -> Result<Parts, NoMem>
+    ensures { IfOk result (λ parts. parts ≡ spec.parts program.now graphs.now classes.now) }
+{
+    let callees = callees_of(alloc, program)?;
+    let sites = copy_sites(alloc, program.sites.as_slice())?;
+    let literals = literals_of(alloc, program.uses.len(), graphs.graphs.as_slice())?;
+    let layout = laid_out(alloc, program, graphs, classes, callees.as_slice())?;
+    Ok(Parts {
+        callees,
+        sites,
+        literals,
+        layout,
+    })
+}
+
+fn put_together(graphs: Graphs, classes: Classes, entry: FunId, parts: Parts) -> Planned
+    ensures plan { result ≡ spec.planned_with graphs classes entry parts }
+    ensures cells { result.cells ≤ nowhere }
+    ensures marks { result.marks ≤ nowhere }
+{
+    let Layout {
+        places,
+        cells,
+        marks,
+    } = parts.layout;
+    Planned {
+        plan: Plan {
+            classes,
+            callees: parts.callees,
+            sites: parts.sites,
+            graphs,
+            entry,
+            literals: parts.literals,
+            places,
+        },
+        cells,
+        marks,
+    }
+}
+
 /// The plan of a program with its graphs and its classes. It has no cell and no mark with the number of
 /// what does not exist.
 pub fn plan_of(
@@ -316,26 +406,8 @@ pub fn plan_of(
     ensures cells { IfOk result (λ planned. planned.cells ≤ nowhere) }
     ensures marks { IfOk result (λ planned. planned.marks ≤ nowhere) }
 {
-    let callees = callees_of(alloc, program)?;
-    let layout = laid_out(alloc, program, &graphs, &classes, callees.as_slice())?;
-    let literals = literals_of(alloc, program.uses.len(), graphs.graphs.as_slice())?;
-    let sites = copy_sites(alloc, program.sites.as_slice())?;
-    let Layout {
-        places,
-        cells,
-        marks,
-    } = layout;
-    Ok(Planned {
-        plan: Plan {
-            classes,
-            callees,
-            sites,
-            graphs,
-            entry: program.entry,
-            literals,
-            places,
-        },
-        cells,
-        marks,
-    })
+    match parts_of(alloc, program, &graphs, &classes) {
+        Ok(parts) => Ok(put_together(graphs, classes, program.entry, parts)),
+        Err(fault) => Err(fault),
+    }
 }
