@@ -97,6 +97,19 @@ bind_bases l d s = bind_named l d s (class_bases s d.classes l.units)
 abbrev pub bind_declared : Listing → Declared → Bound
 bind_declared l d = bind_bases l d (with_bases d.bindings d.members [])
 
+-- the same where the bases and their faults are put in
+abbrev pub with_named : Listing → Entries → Entries → Bound → List (Option ℕ) → Bound
+with_named l attributes methods b named = record {
+  scopes = rebased b.scopes named;
+  functions = b.functions;
+  classes = b.classes;
+  constants = b.constants;
+  fault = bound_fault l (rebased b.scopes named) named b.classes attributes methods b.fault;
+}
+
+abbrev pub filled : Listing → Entries → Entries → Bound → Bound
+filled l attributes methods b = with_named l attributes methods b (class_bases b.scopes b.classes l.units)
+
 abbrev pub bind : Listing → Bound
 bind l = bind_declared l (declared l.modules l.units)
 

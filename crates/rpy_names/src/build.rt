@@ -143,22 +143,6 @@ fn without_bases(alloc: Global, bindings: Table, members: Table) -> Scopes
     }
 }
 
-fn with_bases(alloc: Global, scopes: Scopes, named: &[Option<usize>]) -> Result<Scopes, NoMem>
-    ensures { IfOk result (λ all. all ≡ spec.rebased scopes named.now) }
-{
-    let Scopes {
-        bindings,
-        members,
-        bases: _,
-    } = scopes;
-    let bases = without_rings(alloc, named)?;
-    Ok(Scopes {
-        bindings,
-        members,
-        bases,
-    })
-}
-
 // The least fault of a binding, an import, a base or a clash.
 fn bound_fault(
     alloc: Global,
@@ -181,6 +165,32 @@ fn bound_fault(
     Ok(lesser(lesser(lesser(fault, imports), wrong), twice))
 }
 
+// Puts in the bases of the classes, and the least fault with those of the bases.
+fn fill_bases(
+    alloc: Global,
+    listing: &Listing,
+    attributes: &Table,
+    methods: &Table,
+    bound: &mut Bound,
+) -> Result<(), NoMem>
+    ensures { OnOk result (bound.new ≡ spec.filled listing.now attributes.now methods.now bound.old) }
+{
+    let classes = bound.classes.as_slice();
+    let named = class_bases(alloc, &bound.scopes, classes, listing.units.as_slice())?;
+    bound.scopes.bases = without_rings(alloc, named.as_slice())?;
+    bound.fault = bound_fault(
+        alloc,
+        listing,
+        &bound.scopes,
+        named.as_slice(),
+        bound.classes.as_slice(),
+        attributes,
+        methods,
+        bound.fault,
+    )?;
+    Ok(())
+}
+
 fn bind_declared(alloc: Global, listing: &Listing, declared: Declared) -> Result<Bound, NoMem>
     ensures { IfOk result (λ bound. bound ≡ spec.bind_declared listing.now declared) }
 {
@@ -194,26 +204,20 @@ fn bind_declared(alloc: Global, listing: &Listing, declared: Declared) -> Result
         methods,
         fault,
     } = declared;
-    let scopes = without_bases(alloc, bindings, members);
-    let named = class_bases(alloc, &scopes, classes.as_slice(), listing.units.as_slice())?;
-    let scopes = with_bases(alloc, scopes, named.as_slice())?;
-    let fault = bound_fault(
-        alloc,
-        listing,
-        &scopes,
-        named.as_slice(),
-        classes.as_slice(),
-        &attributes,
-        &methods,
-        fault,
-    )?;
-    Ok(Bound {
-        scopes,
+    let mut bound = Bound {
+        scopes: without_bases(alloc, bindings, members),
         functions,
         classes,
         constants,
         fault,
-    })
+    };
+    let filled = fill_bases(alloc, listing, &attributes, &methods, &mut bound);
+    drop(attributes);
+    drop(methods);
+    match filled {
+        Ok(()) => Ok(bound),
+        Err(fault) => Err(fault),
+    }
 }
 
 fn bind(alloc: Global, listing: &Listing) -> Result<Bound, NoMem>
@@ -302,6 +306,33 @@ fn judge(fault: Option<Fault>, entry: Option<Entry>) -> Result<Entry, NameFault>
     }
 }
 
+fn build_checked(
+    alloc: Global,
+    listing: &Listing,
+    bound: &Bound,
+    entry: Option<Entry>,
+    found: &[Found],
+    finder: &Finder,
+    values: &Values,
+    checked: &Checked,
+) -> Result<Parts, NameFault>
+    ensures { Gives (spec.build_checked listing.now bound.now entry (found.now, finder.now) values.now checked.now) result }
+{
+    match judge(lesser(finder.fault, checked.fault), entry) {
+        Err(fault) => Err(fault),
+        Ok(entry) => Ok(parts_of(
+            alloc,
+            listing,
+            bound,
+            found,
+            finder.sites.as_slice(),
+            values,
+            checked,
+            entry,
+        )?),
+    }
+}
+
 fn build_found(
     alloc: Global,
     listing: &Listing,
@@ -312,40 +343,34 @@ fn build_found(
 ) -> Result<Parts, NameFault>
     ensures { Gives (spec.build_found listing.now bound.now entry (found.now, finder.now)) result }
 {
+    let names = &listing.names;
     let constants = bound.constants.as_slice();
-    let values = constant_values(alloc, &listing.names, found, constants)?;
-    let checked = bad_constants(
-        alloc,
-        &listing.names,
-        values.constants.as_slice(),
-        found,
-        constants,
-    )?;
-    match judge(lesser(finder.fault, checked.fault), entry) {
-        Err(fault) => Err(fault),
-        Ok(entry) => Ok(parts_of(
-            alloc,
-            listing,
-            bound,
-            found,
-            finder.sites.as_slice(),
-            &values,
-            &checked,
-            entry,
-        )?),
-    }
+    let values = constant_values(alloc, names, found, constants)?;
+    let checked = bad_constants(alloc, names, values.constants.as_slice(), found, constants)?;
+    build_checked(
+        alloc, listing, bound, entry, found, finder, &values, &checked,
+    )
+}
+
+fn build_bound(
+    alloc: Global,
+    listing: &Listing,
+    entry: Option<Entry>,
+    bound: &Bound,
+) -> Result<Parts, NameFault>
+    ensures { Gives (spec.build_bound listing.now entry bound.now) result }
+{
+    let mut finder = Finder::new(alloc, entry_site(entry))?;
+    finder.add_fault(bound.fault);
+    let found = find_units(alloc, &mut finder, &bound.scopes, listing.units.as_slice())?;
+    build_found(alloc, listing, bound, entry, found.as_slice(), &finder)
 }
 
 fn build_listing(alloc: Global, listing: &Listing) -> Result<Parts, NameFault>
     ensures { Gives (spec.build_listing listing.now) result }
 {
     let bound = bind(alloc, listing)?;
-    let units = listing.units.as_slice();
-    let entry = entry_of(units);
-    let mut finder = Finder::new(alloc, entry_site(entry))?;
-    finder.add_fault(bound.fault);
-    let found = find_units(alloc, &mut finder, &bound.scopes, units)?;
-    build_found(alloc, listing, &bound, entry, found.as_slice(), &finder)
+    build_bound(alloc, listing, entry_of(listing.units.as_slice()), &bound)
 }
 
 /// The parts of a program, or the fault of a name.
