@@ -6,6 +6,8 @@ use Rattle.ann_element.specs.declared.element.Element.TheVariants as element
 use Rattle.ann_element.specs.declared.annotation.Annotation.{Annotation}
 use Rattle.ann_needs.specs.declared.plan.Places.{Places}
 use Rattle.ann_needs.specs.declared.state.State.{State}
+use Rattle.ann_settled.specs.declared.read.Filled.{Filled}
+use Rattle.ann_settled.specs.declared.read.Marked.{Marked}
 
 abbrev pub element_at : List Element → ℕ → Element
 element_at cells place = unwrap_or (slice_get cells place) element.Unreached
@@ -59,4 +61,34 @@ module _ (s : State) where
     same = s.same;
     vars = map cells p.variables;
     blocks = map marks p.blocks;
+  }
+
+  -- its lists that have elements, and those that have marks
+  abbrev pub filled : Tables → Places → Filled
+  filled t p = record {
+    params = map cells p.params;
+    results = cells p.results;
+    attributes = attributes t 0 p.attributes;
+    items = cells p.items;
+    keys = cells p.keys;
+    vars = map cells p.variables;
+  }
+
+  abbrev pub marked : Places → Marked
+  marked p = record { unbound = marks p.unbound; reached = marks p.reached; made = marks p.made; blocks = map marks p.blocks }
+
+  abbrev pub with_lists : List Element → Marked → Filled → Annotation
+  with_lists nodes marked filled = record {
+    nodes = nodes;
+    unbound = marked.unbound;
+    params = filled.params;
+    results = filled.results;
+    reached = marked.reached;
+    attributes = filled.attributes;
+    items = filled.items;
+    keys = filled.keys;
+    made = marked.made;
+    same = s.same;
+    vars = filled.vars;
+    blocks = marked.blocks;
   }

@@ -137,6 +137,97 @@ fn read_attributes(
     Ok(list)
 }
 
+/// The lists of an annotation that have elements, but those of nodes.
+#[derive(Drop)]
+pub struct Filled {
+    pub params: Seq<Seq<Element>>,
+    pub results: Seq<Element>,
+    pub attributes: Seq<(ClassId, Text, Element)>,
+    pub items: Seq<Element>,
+    pub keys: Seq<Element>,
+    pub vars: Seq<Seq<Element>>,
+}
+
+/// The lists of an annotation that have marks.
+#[derive(Drop)]
+pub struct Marked {
+    pub unbound: Seq<bool>,
+    pub reached: Seq<bool>,
+    pub made: Seq<bool>,
+    pub blocks: Seq<Seq<bool>>,
+}
+
+fn read_filled(
+    alloc: Global,
+    s: &State,
+    classes: &Classes,
+    places: &Places,
+) -> Result<Filled, NoMem>
+    ensures { IfOk result (λ filled. filled ≡ spec.filled s.now classes.now places.now) }
+{
+    let params = read_cell_rows(alloc, s, places.params.as_slice())?;
+    let results = read_cells(alloc, s, places.results.as_slice())?;
+    let attributes = read_attributes(alloc, s, classes, places.attributes.as_slice())?;
+    let items = read_cells(alloc, s, places.items.as_slice())?;
+    let keys = read_cells(alloc, s, places.keys.as_slice())?;
+    let vars = read_cell_rows(alloc, s, places.variables.as_slice())?;
+    Ok(Filled {
+        params,
+        results,
+        attributes,
+        items,
+        keys,
+        vars,
+    })
+}
+
+fn read_marked(alloc: Global, s: &State, places: &Places) -> Result<Marked, NoMem>
+    ensures { IfOk result (λ marked. marked ≡ spec.marked s.now places.now) }
+{
+    let unbound = read_marks(alloc, s, places.unbound.as_slice())?;
+    let reached = read_marks(alloc, s, places.reached.as_slice())?;
+    let made = read_marks(alloc, s, places.made.as_slice())?;
+    let blocks = read_mark_rows(alloc, s, places.blocks.as_slice())?;
+    Ok(Marked {
+        unbound,
+        reached,
+        made,
+        blocks,
+    })
+}
+
+fn read_lists(
+    alloc: Global,
+    s: &State,
+    classes: &Classes,
+    places: &Places,
+) -> Result<(Marked, Filled), NoMem>
+    ensures { IfOk result (λ lists. lists ≡ (spec.marked s.now places.now, spec.filled s.now classes.now places.now)) }
+{
+    let marked = read_marked(alloc, s, places)?;
+    let filled = read_filled(alloc, s, classes, places)?;
+    Ok((marked, filled))
+}
+
+fn with_lists(s: State, nodes: Seq<Element>, marked: Marked, filled: Filled) -> Annotation
+    ensures { result ≡ spec.with_lists s nodes marked filled }
+{
+    Annotation {
+        nodes,
+        unbound: marked.unbound,
+        params: filled.params,
+        results: filled.results,
+        reached: marked.reached,
+        attributes: filled.attributes,
+        items: filled.items,
+        keys: filled.keys,
+        made: marked.made,
+        same: s.same,
+        vars: filled.vars,
+        blocks: marked.blocks,
+    }
+}
+
 /// The annotation that stands in the cells and marks, with the elements that nodes have.
 pub fn read(
     alloc: Global,
@@ -147,33 +238,8 @@ pub fn read(
 ) -> Result<Annotation, NoMem>
     ensures { IfOk result (λ annotation. annotation ≡ spec.annotation s classes.now nodes places.now) }
 {
-    let unbound = read_marks(alloc, &s, places.unbound.as_slice())?;
-    let params = read_cell_rows(alloc, &s, places.params.as_slice())?;
-    let results = read_cells(alloc, &s, places.results.as_slice())?;
-    let reached = read_marks(alloc, &s, places.reached.as_slice())?;
-    let attributes = read_attributes(alloc, &s, classes, places.attributes.as_slice())?;
-    let items = read_cells(alloc, &s, places.items.as_slice())?;
-    let keys = read_cells(alloc, &s, places.keys.as_slice())?;
-    let made = read_marks(alloc, &s, places.made.as_slice())?;
-    let vars = read_cell_rows(alloc, &s, places.variables.as_slice())?;
-    let blocks = read_mark_rows(alloc, &s, places.blocks.as_slice())?;
-    let State {
-        cells: _,
-        marks: _,
-        same,
-    } = s;
-    Ok(Annotation {
-        nodes,
-        unbound,
-        params,
-        results,
-        reached,
-        attributes,
-        items,
-        keys,
-        made,
-        same,
-        vars,
-        blocks,
-    })
+    match read_lists(alloc, &s, classes, places) {
+        Ok((marked, filled)) => Ok(with_lists(s, nodes, marked, filled)),
+        Err(fault) => Err(fault),
+    }
 }

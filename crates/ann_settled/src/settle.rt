@@ -75,7 +75,7 @@ fn is_settled(alloc: Global, planned: &Planned, s: &mut State) -> Result<bool, N
 
 // Steps until all that is asked holds, or to the first conflict.
 #[tactic(auto, using(crate::proofs::Ending::settles_by))]
-fn grow(
+fn grow_by(
     alloc: Global,
     planned: &Planned,
     spots: &Seq<bool>,
@@ -95,6 +95,14 @@ fn grow(
         wake_all(work, plan)?;
     }
     Err(Stop::NoMem)
+}
+
+fn grow(alloc: Global, planned: &Planned, spots: &Seq<bool>, s: &mut State) -> Result<(), Stop>
+    ensures settled { OnOk result (spec.Settles planned.now (spots_in spots.now) (assignment s.old) s.new) }
+    ensures first { IfErr result (Stopped (whole planned.now.plan) (spots_in spots.now) (assignment s.old) (assignment s.new)) }
+{
+    let mut work = Work::new(alloc, &planned.plan, planned.cells, planned.marks)?;
+    grow_by(alloc, planned, spots, s, &mut work)
 }
 
 // Why growing stopped, as it is told.
@@ -125,9 +133,8 @@ fn settle(alloc: Global, program: &Program, planned: &Planned) -> Result<State, 
 {
     let cells = planned.cells;
     let spots = spots_of(alloc, &planned.plan, cells)?;
-    let mut work = Work::new(alloc, &planned.plan, cells, planned.marks)?;
     let mut s = nothing_reached(alloc, program, cells, planned.marks)?;
-    match grow(alloc, planned, &spots, &mut s, &mut work) {
+    match grow(alloc, planned, &spots, &mut s) {
         Ok(()) => Ok(s),
         Err(stop) => Err(why_stopped(alloc, program, planned, &s, stop)),
     }
