@@ -43,15 +43,16 @@ use Rattle.lower_laws.specs.Asked.{Ask, Make, all_asked}
 use Rattle.lower_laws.specs.Values.{AllBelow}
 use Rattle.lower_laws.proofs.Doing.{after}
 use Rattle.lower_laws.proofs.Typing.{place_of_none}
-use Rattle.list_laws.specs.Asked.{HasList, HasAll as HasOthers}
+use Rattle.list_laws.specs.Asked.{HasList, HasRemove, HasAll}
 use Rattle.list_laws.specs.Lists.{there_asks}
-use Rattle.list_laws.specs.Taken.{HasRemove, HasAll, IsTaken, take_asks, ItemsAreDeleted}
-use Rattle.list_laws.proofs.Indexed.{asked_both, there_covers, three_behind, place_inside}
+use Rattle.list_laws.specs.Presence.{IsTold}
+use Rattle.list_laws.specs.Taken.{take_asks, ItemsAreDeleted}
+use Rattle.list_laws.proofs.Indexed.{asked_both, has_first, has_more, there_covers, three_behind, place_inside}
 use Rattle.list_laws.proofs.Lengths.{count_fits}
 use Rattle.list_laws.proofs.Lowered.{list_comes, two_come, first_of_two_is_list}
 use Rattle.list_laws.proofs.Places.{PlaceGoes, place_is}
 use Rattle.list_laws.proofs.Stored.{not_none}
-use Rattle.list_laws.proofs.Taking.{has_first, has_more, has_there, no_block, takes}
+use Rattle.list_laws.proofs.Taking.{no_block, takes}
 use Rattle.list_laws.proofs.There.{Entered, entered}
 use Rattle.object_laws.specs.Known.{Known}
 use Rattle.object_laws.specs.Done.{Follows, HasLayout, items_in, references}
@@ -204,8 +205,8 @@ module _ (known : Known) (around : Around) (place : Place) (a b : Operand) (w : 
     abbrev Done : ℕ → Answer → Type 0
     Done most answer = Follows 0 known around place p arguments (At (ent.ops ++ (calls ∷ takes_out ∷ puts ∷ rest)) e frames core) rest e frames core g raised most (length w.body.types) world answer
 
-    first_has : HasOthers p around.layout numbers raised core (there_asks around a w.found.covered) w.found
-    first_has = has_there p around numbers raised core a w.found.covered w.found (has_first p around numbers raised core (there_asks around a w.found.covered) (Make outside ∷ Make taking_out ∷ []) w.found has)
+    first_has : HasAll p around.layout numbers raised core (there_asks around a w.found.covered) w.found
+    first_has = has_first p around numbers raised core (there_asks around a w.found.covered) (Make outside ∷ Make taking_out ∷ []) w.found has
 
     more_has : HasAll p around.layout numbers raised core (Make outside ∷ Make taking_out ∷ []) first
     more_has = has_more p around numbers raised core (there_asks around a w.found.covered) (Make outside ∷ Make taking_out ∷ []) w.found has
@@ -288,7 +289,7 @@ module _ (known : Known) (around : Around) (place : Place) (a b : Operand) (w : 
         (either v u y.number y.low y.high y.fits (list_or_none lists given.0))
     follow (v ∷ u ∷ s ∷ vs) given = absurd given.1.1
 
-  pub delete_done : IsTaken known around row.DeleteIndex w.found.covered asks place (a ∷ b ∷ []) w
+  pub delete_done : IsTold known around row.DeleteIndex w.found.covered asks place (a ∷ b ∷ []) w
   delete_done = record {
     ops = ent.ops ++ (calls ∷ takes_out ∷ puts ∷ []);
     new = ent.new ++ (type.Signed ∷ []);

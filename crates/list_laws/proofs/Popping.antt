@@ -50,15 +50,16 @@ use Rattle.lower_laws.specs.Values.{IsBelow, AllBelow}
 use Rattle.lower_laws.proofs.Doing.{after}
 use Rattle.lower_laws.proofs.Items.{gives_same}
 use Rattle.lower_laws.proofs.Stayed.{field_is}
-use Rattle.list_laws.specs.Asked.{HasList, HasAll as HasOthers}
+use Rattle.list_laws.specs.Asked.{HasList, HasRemove, HasAll}
 use Rattle.list_laws.specs.Lists.{IsList, there_asks}
-use Rattle.list_laws.specs.Taken.{HasRemove, HasAll, IsTaken, take_asks, LastItemsArePopped, ItemsArePopped}
+use Rattle.list_laws.specs.Presence.{IsTold}
+use Rattle.list_laws.specs.Taken.{take_asks, LastItemsArePopped, ItemsArePopped}
 use Rattle.list_laws.proofs.Fetched.{fetched}
-use Rattle.list_laws.proofs.Indexed.{asked_both, there_covers, three_behind, four_behind, inside_some, place_inside}
+use Rattle.list_laws.proofs.Indexed.{asked_both, has_first, has_more, there_covers, three_behind, four_behind, inside_some, place_inside}
 use Rattle.list_laws.proofs.Lengths.{count_fits}
 use Rattle.list_laws.proofs.Lowered.{list_comes, one_comes, two_come}
 use Rattle.list_laws.proofs.Places.{PlaceGoes, place_is}
-use Rattle.list_laws.proofs.Taking.{has_first, has_more, has_there, no_block, takes}
+use Rattle.list_laws.proofs.Taking.{no_block, takes}
 use Rattle.list_laws.proofs.There.{Entered, entered}
 use Rattle.object_laws.specs.Known.{Known}
 use Rattle.object_laws.specs.Done.{Follows, HasLayout, items_in, references}
@@ -279,8 +280,8 @@ module _ (o : RowOp) (known : Known) (around : Around) (place : Place) (a : Oper
     abbrev Done : ℕ → Answer → Type 0
     Done most answer = Follows 0 known around place p arguments (At (ent.ops ++ (calls ∷ gets_array ∷ gets_item ∷ takes_out ∷ puts ∷ rest)) e frames core) rest e frames core g raised most (length w.body.types) world answer
 
-    first_has : HasOthers p around.layout numbers raised core (there_asks around a w.found.covered) w.found
-    first_has = has_there p around numbers raised core a w.found.covered w.found (has_first p around numbers raised core (there_asks around a w.found.covered) (Make outside ∷ Make taking_out ∷ []) w.found has)
+    first_has : HasAll p around.layout numbers raised core (there_asks around a w.found.covered) w.found
+    first_has = has_first p around numbers raised core (there_asks around a w.found.covered) (Make outside ∷ Make taking_out ∷ []) w.found has
 
     more_has : HasAll p around.layout numbers raised core (Make outside ∷ Make taking_out ∷ []) first
     more_has = has_more p around numbers raised core (there_asks around a w.found.covered) (Make outside ∷ Make taking_out ∷ []) w.found has
@@ -352,7 +353,7 @@ module _ (o : RowOp) (known : Known) (around : Around) (place : Place) (a : Oper
         subst (λ l. Follows 0 known around place p arguments (At l e frames core) rest e frames core g raised (references world.heap vs) (length w.body.types) world (meant_op known.program w.found.covered o vs world)) (sym (append_assoc ent.ops (calls ∷ gets_array ∷ gets_item ∷ takes_out ∷ puts ∷ []) rest))
         (either vs m (list_or_none of.is m.held))
 
-  pop_done : IsTaken known around o w.found.covered asks place args w
+  pop_done : IsTold known around o w.found.covered asks place args w
   pop_done = record {
     ops = ent.ops ++ (calls ∷ gets_array ∷ gets_item ∷ takes_out ∷ puts ∷ []);
     new = ent.new ++ (type.Signed ∷ type.Ptr (word (n + 1)) ∷ kept_type ∷ []);

@@ -32,7 +32,7 @@ use Rattle.rtyper_data.specs.Converting.{default_operand}
 use Rattle.rtyper_data.specs.Finding.{small_number}
 use Rattle.list_shape.specs.Shapes.{item_of}
 use Rattle.list_loops.specs.Changing.{remove as removes, remove_graph, remove_done, remove_types}
-use Rattle.list_laws.specs.Taken.{HasRemove}
+use Rattle.list_laws.specs.Asked.{HasRemove}
 use Rattle.list_laws.proofs.Copying.{AllSet, array_with, the_copy, copy_is}
 use Rattle.list_laws.proofs.Moving.{Moved, moved, puts_item}
 use Rattle.list_laws.proofs.Roomed.{all_set}
@@ -113,7 +113,7 @@ module _ (p : LlProgram) (args : List (List ℕ)) (layout : Layout) (known : Kno
   copies = (small_number (small.Listed (Copy a a)) has.made).0
 
   copy_graph_is : slice_get p.graphs copies ≡ Some (the_copy a t)
-  copy_graph_is = has.copies.graph ∙ ap Some (copy_is layout a has.copies.made)
+  copy_graph_is = has.moves.graph ∙ ap Some (copy_is layout a has.moves.made)
 
   part : Parted layout known g (known.items n) l.values l.items k
   part = parted k l.each within

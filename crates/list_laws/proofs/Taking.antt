@@ -8,26 +8,19 @@ use Rattle.csub_tree.specs.Operation.{is_unset}
 use Rattle.csub_tree.specs.Statement.{operand, operands, any_unset}
 use Rattle.csub_tree.specs.declared.tree.COperand.{COperand}
 use Rattle.rpy_tree.specs.Value.{Value as Meant, Listed}
-use Rattle.rpy_meaning.specs.declared.row.Covers.{Covers}
 use Rattle.rpy_meaning.specs.World.{World, Gives, failure}
 use Rattle.ll_code.specs.State.{Frame, State, At}
 use Rattle.ll_code.specs.declared.program.LlOp.{LlOp}
 use Rattle.ll_code.specs.declared.program.LlOp.TheVariants as op
 use Rattle.ll_code.specs.declared.program.LlExit.{LlExit}
 use Rattle.ll_code.specs.declared.program.LlProgram.{LlProgram}
-use Rattle.ll_build.specs.declared.needs.Numbers.{Numbers}
 use Rattle.ll_leads.specs.Path.{Leads}
 use Rattle.ll_leads.proofs.Joined.{leads_then, leads_more}
 use Rattle.rtyper_layout.specs.Layout.{is_list}
-use Rattle.rtyper_data.specs.declared.found.Found.{Found}
-use Rattle.rtyper_data.specs.Seen.{Around, Operand, Place, kind_of, type_of}
-use Rattle.rtyper_list.specs.Operands.{of_list_or_none}
-use Rattle.lower_laws.specs.Asked.{Ask, all_asked, number_of}
+use Rattle.rtyper_data.specs.Seen.{Around, Place}
 use Rattle.lower_laws.proofs.Doing.{after}
 use Rattle.lower_laws.proofs.Single.{sets}
-use Rattle.list_laws.specs.Asked.{HasAll as HasOthers}
-use Rattle.list_laws.specs.Lists.{if_missing, there_asks}
-use Rattle.list_laws.specs.Taken.{HasRemove, HasAll}
+use Rattle.list_laws.specs.Asked.{HasRemove}
 use Rattle.list_laws.proofs.Removing.{removed}
 use Rattle.object_laws.specs.Known.{Known}
 use Rattle.object_laws.specs.Done.{Follows, HasLayout}
@@ -38,24 +31,6 @@ use Rattle.object_laws.proofs.Blocks.{found_set}
 use Rattle.object_laws.proofs.Calling.{back, calls_back}
 use Rattle.object_laws.proofs.Growing.{grown_none}
 use Rattle.object_laws.proofs.Passing.{is_set_at, is_kept_at}
-
--- ---- what is asked for
-
-module _ (p : LlProgram) (around : Around) (numbers : Numbers) (raised : ℕ → Value) (core : Core) where
-  pub has_first : (asks more : List Ask) (found : Found) → HasAll p around.layout numbers raised core (asks ++ more) found → HasAll p around.layout numbers raised core asks found
-  has_first [] more found h = tt
-  has_first (a ∷ asks) more found h = (h.0, has_first asks more (number_of a found).1 h.1)
-
-  pub has_more : (asks more : List Ask) (found : Found) → HasAll p around.layout numbers raised core (asks ++ more) found → HasAll p around.layout numbers raised core more (all_asked asks found)
-  has_more [] more found h = h
-  has_more (a ∷ asks) more found h = has_more asks more (number_of a found).1 h.1
-
-  pub has_there : (a : Operand) (c : Covers) (found : Found) → HasAll p around.layout numbers raised core (there_asks around a c) found → HasOthers p around.layout numbers raised core (there_asks around a c) found
-  has_there a c found = by (of_list_or_none (kind_of a))
-    where
-      by : (r : Bool) → HasAll p around.layout numbers raised core (if_missing r (type_of around a) c) found → HasOthers p around.layout numbers raised core (if_missing r (type_of around a) c) found
-      by true h = (h.0, tt)
-      by false h = tt
 
 -- a failure makes no block
 module _ (known : Known) (around : Around) (place : Place) (p : LlProgram) (args : List (List ℕ)) (s : State) (rest : List LlOp) (e : LlExit) (frames : List Frame) (core : Core) (g : Ghost) (raised : ℕ → Value) (most below : ℕ) (w : World) where

@@ -7,7 +7,7 @@ use Rattle.rtyper_layout.specs.declared.layout.Layout.{Layout}
 use Rattle.rtyper_layout.specs.Types.{word}
 use Rattle.rtyper_data.specs.declared.found.Found.{Found}
 use Rattle.rtyper_data.specs.declared.small.Listed.{Listed}
-use Rattle.rtyper_data.specs.declared.small.Listed.TheVariants.{Place, Room, Append, Copy}
+use Rattle.rtyper_data.specs.declared.small.Listed.TheVariants.{Place, Room, Append, Remove, Copy}
 use Rattle.rtyper_data.specs.declared.small.Small.TheVariants as small
 use Rattle.rtyper_data.specs.Finding.{small_number}
 use Rattle.list_helpers.specs.Listing.{list_graph}
@@ -25,11 +25,15 @@ pub record HasList (p : LlProgram) (layout : Layout) (raised : ℕ → Value) (l
   pub graph : slice_get p.graphs f ≡ Some (list_graph layout listed made).0
   pub raises : AllRaise p raised (raised_by listed) made
 
+-- the graph that copies items from one array to another, for those that call it
+abbrev pub HasCopy : LlProgram → Layout → (ℕ → Value) → ℕ → Found → Type 0
+HasCopy p layout raised n made = HasList p layout raised (Copy (word (n + 1)) (word (n + 1))) (small_number (small.Listed (Copy (word (n + 1)) (word (n + 1)))) made).0
+
 -- the graph that makes room, and what it copies items by
 pub record MakesRoom (p : LlProgram) (layout : Layout) (raised : ℕ → Value) (n f : ℕ) : Type 0 where
   pub made : Found
   pub graph : slice_get p.graphs f ≡ Some (list_graph layout (Room n) made).0
-  pub copies : HasList p layout raised (Copy (word (n + 1)) (word (n + 1))) (small_number (small.Listed (Copy (word (n + 1)) (word (n + 1)))) made).0
+  pub copies : HasCopy p layout raised n made
 
 -- the graph that appends, and what it makes room by
 pub record HasAppend (p : LlProgram) (layout : Layout) (raised : ℕ → Value) (n f : ℕ) : Type 0 where
@@ -37,8 +41,15 @@ pub record HasAppend (p : LlProgram) (layout : Layout) (raised : ℕ → Value) 
   pub graph : slice_get p.graphs f ≡ Some (list_graph layout (Append n) made).0
   pub room : MakesRoom p layout raised n (small_number (small.Listed (Room n)) made).0
 
+-- the graph that takes an item out, and what it moves the later ones by
+pub record HasRemove (p : LlProgram) (layout : Layout) (raised : ℕ → Value) (n f : ℕ) : Type 0 where
+  pub made : Found
+  pub graph : slice_get p.graphs f ≡ Some (list_graph layout (Remove n) made).0
+  pub moves : HasCopy p layout raised n made
+
 abbrev pub Has : LlProgram → Layout → Numbers → (ℕ → Value) → Core → Ask → Found → Type 0
 Has p layout numbers raised core (Make (small.Listed (Append n))) found = HasAppend p layout raised n (small_number (small.Listed (Append n)) found).0
+Has p layout numbers raised core (Make (small.Listed (Remove n))) found = HasRemove p layout raised n (small_number (small.Listed (Remove n)) found).0
 Has p layout numbers raised core (Make (small.Listed graph)) found = HasList p layout raised graph (small_number (small.Listed graph) found).0
 Has p layout numbers raised core ask found = HasOther p layout numbers raised core ask found
 
