@@ -1,5 +1,5 @@
 -- Whether two instances are the same, and whether one is `None`.
-use Rattle.std.proofs.Common.{◌≡◌, ◌<◌, ◌≤◌, ℕ, ◌+◌, ◌==◌, ◌⊎◌, inl, inr, Bool, true, false, List, [], ◌∷◌, ◌++◌, length, Some, None, Ok, refl, sym, ap, ◌∙◌, subst, arith, append_assoc, length-append}
+use Rattle.std.proofs.Common.{◌≡◌, ◌<◌, ◌≤◌, ℕ, ◌+◌, ◌==◌, ◌⊎◌, inl, inr, Bool, true, false, List, [], ◌∷◌, ◌++◌, length, Some, Ok, refl, sym, ap, ◌∙◌, subst, arith, append_assoc, length-append}
 use Rattle.std.specs.Prelude.{slice_get, not, if◌then◌else◌}
 use Rattle.std.proofs.lemmas.Bool.{cases_eq}
 use Rattle.std.proofs.lemmas.Bool.Decides.{nat_tests}
@@ -49,7 +49,7 @@ use Rattle.object_laws.specs.Values.{Plain, Stands, flag, Given}
 use Rattle.object_laws.proofs.Blocks.{found_there}
 use Rattle.object_laws.proofs.Passing.{Passed, none_passed, sets_more, sets_last, is_set_at}
 use Rattle.object_laws.proofs.Valued.{Instancing, Gone, instance_or_none, missing_instance}
-use Rattle.class_laws.proofs.Nothings.{nothing_held}
+use Rattle.object_laws.proofs.Nothings.{nothing_held}
 use Rattle.class_laws.specs.Done.{IsDone}
 use Rattle.class_laws.specs.Instances.{IsIdentity, IsBesideNone}
 use Rattle.class_laws.proofs.Copied.{instance_comes}

@@ -6,7 +6,6 @@ pub mod Fields
 pub mod Lowered
 pub mod Making
 pub mod Naming
-pub mod Nothings
 pub mod Presence
 pub mod Reading
 pub mod Rows

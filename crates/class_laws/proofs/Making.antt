@@ -14,9 +14,10 @@ use Rattle.csub_tree.specs.declared.tree.COperand.TheVariants.{Const}
 use Rattle.rpy_tree.specs.Value.{Value as Meant, Ref, Instance}
 use Rattle.rpy_meaning.specs.declared.row.Covers.{Covers}
 use Rattle.rpy_meaning.specs.declared.row.RowOp.TheVariants as row
-use Rattle.rpy_meaning.specs.Classes.{is_below, named, first_attributes}
+use Rattle.rpy_meaning.specs.Classes.{is_below, method_of, named, first_attributes}
 use Rattle.rpy_meaning.specs.Operations.{op as meant_op, builtin_classes, new_instance, initialised}
 use Rattle.rpy_meaning.specs.World.{World as MeantWorld, Answer, Gives, Lacks, paying as paying_op}
+use Rattle.class_desc.specs.Line.{init}
 use Rattle.class_desc.specs.Tables.{initial}
 use Rattle.ll_code.specs.State.{Frame, State, Calling, At, Returning, Goes, Sticks}
 use Rattle.ll_code.specs.Machine.{shapes_of, waiting}
@@ -224,7 +225,7 @@ module _ (world : World) (known : Known) (of : IsOf world known) (out : IsLaidOu
 -- ---- the operation
 
 module _ (world : World) (known : Known) (of : IsOf world known) (out : IsLaidOut world known) (place : Place) (w : Writing) (class d : ℕ) (r : Bool) (l : Laid) (covers : Covers)
-    (mine : builtin_classes ≤ class) (laid_as : laid world class ≡ Some l) (begin : Starts world known class) (hp : place.element ≡ Some (element.Instance d r)) (below : is_below known.program.classes class d ≡ true) (goes : type_at world.around place ≡ type.Ptr l.root) where
+    (mine : builtin_classes ≤ class) (laid_as : laid world class ≡ Some l) (begin : Starts world known class) (alone : init world.classes.classes class ≡ None) (meant_alone : method_of known.program.classes class (codes "__init__") ≡ None) (hp : place.element ≡ Some (element.Instance d r)) (below : is_below known.program.classes class d ≡ true) (goes : type_at world.around place ≡ type.Ptr l.root) where
   abbrev graph : Small
   graph = small.New class
 
@@ -244,7 +245,7 @@ module _ (world : World) (known : Known) (of : IsOf world known) (out : IsLaidOu
       ∙ ap (λ b. if b then give world.around place (builtin_instance world class) (type.Ptr l.root) w else new_of world place class [] (type.Ptr l.root) w) no_builtin
       ∙ ap (λ t. new_into world place class [] (small_number graph w.found) (if same_type t (type.Ptr l.root) then (place.variable, w.body) else fresh (type.Ptr l.root) w.body)) goes
       ∙ ap (λ b. new_into world place class [] (small_number graph w.found) (if b then (place.variable, w.body) else fresh (type.Ptr l.root) w.body)) (same_type_is (type.Ptr l.root))
-      ∙ ap (λ o. init_if world.around place.variable place o [] (writing (small_number graph w.found).1 (with_op calls w.body))) begin.alone
+      ∙ ap (λ o. init_if world.around place.variable place o [] (writing (small_number graph w.found).1 (with_op calls w.body))) alone
 
   module _ (p : LlProgram) (raised : ℕ → Value) (arguments : List (List ℕ)) (rest : List LlOp) (e : LlExit) (frames : List Frame) (core : Core) (g : Ghost) (meant : MeantWorld)
       (structs : HasLayout p world.around.layout) (has : HasClass p world raised graph number)
@@ -311,7 +312,7 @@ module _ (world : World) (known : Known) (of : IsOf world known) (out : IsLaidOu
             ∙ ap (λ x. Some (record { sort = InstanceOf class; head = x })) (sym (get_or-set_same core.vars place.variable (Ptr newest_at) Unset inside))
 
     above : meant_op known.program covers (row.New class) [] meant ≡ (if nat_lt meant.left 1 then Lacks else Gives (Ref (length meant.heap)) meant2)
-    above = ap (λ b. (if b then (λ (w : MeantWorld). Gives (Ref class) w) else paying_op 1 (new_instance known.program covers class [])) meant) no_builtin ∙ ap (λ o. if nat_lt meant.left 1 then Lacks else initialised known.program covers o (Ref (length meant.heap)) [] meant2) begin.meant_alone
+    above = ap (λ b. (if b then (λ (w : MeantWorld). Gives (Ref class) w) else paying_op 1 (new_instance known.program covers class [])) meant) no_builtin ∙ ap (λ o. if nat_lt meant.left 1 then Lacks else initialised known.program covers o (Ref (length meant.heap)) [] meant2) meant_alone
 
     either : (c : Bool) → nat_lt meant.left 1 ≡ c → Done (if c then Lacks else Gives (Ref (length meant.heap)) meant2)
     either true h = lacking (too_few meant.left h)
@@ -332,7 +333,7 @@ module _ (world : World) (known : Known) (of : IsOf world known) (out : IsLaidOu
   }
 
 pub instances_are_made : InstancesAreMade
-instances_are_made world known of out place w class d r l covers mine laid_as begin hp below goes = new_done world known of out place w class d r l covers mine laid_as begin hp below goes
+instances_are_made world known of out place w class d r l covers mine laid_as begin alone meant_alone hp below goes = new_done world known of out place w class d r l covers mine laid_as begin alone meant_alone hp below goes
 
 -- ---- the one instance of a builtin exception class
 

@@ -1,16 +1,17 @@
 -- What is done with instances, where no value is converted on the way.
-use Rattle.std.specs.Prelude.{◌≡◌, ◌≢◌, ◌<◌, ◌≤◌, ◌⊎◌, ℕ, Bool, true, false, List, [], ◌∷◌, ◌++◌, length, slice_get, Option, Some, None}
+use Rattle.std.specs.Prelude.{◌≡◌, ◌≢◌, ◌<◌, ◌≤◌, ◌⊎◌, ℕ, Bool, true, List, [], ◌∷◌, ◌++◌, length, slice_get, Option, Some, None, codes}
 use Rattle.ann_element.specs.declared.element.Element.{Element}
 use Rattle.ann_element.specs.declared.element.Element.TheVariants as element
 use Rattle.ll_code.specs.declared.program.LlType.TheVariants as type
 use Rattle.rpy_tree.specs.Value.{Value as Meant, Nothing, Ref, Object, Instance}
-use Rattle.rpy_meaning.specs.Classes.{is_below}
+use Rattle.rpy_meaning.specs.Classes.{is_below, method_of}
 use Rattle.rpy_meaning.specs.World.{World as MeantWorld}
 use Rattle.rpy_tree.specs.declared.syntax.CmpOp.{CmpOp}
 use Rattle.rpy_meaning.specs.declared.row.Covers.{Covers}
 use Rattle.rpy_meaning.specs.declared.row.RowOp.{RowOp}
 use Rattle.rpy_meaning.specs.declared.row.RowOp.TheVariants as row
 use Rattle.rpy_meaning.specs.Operations.{builtin_classes}
+use Rattle.class_desc.specs.Line.{init}
 use Rattle.class_desc.specs.Range.{range}
 use Rattle.rtyper_layout.specs.declared.classes.Laid.{Laid}
 use Rattle.rtyper_layout.specs.declared.kind.Kind.TheVariants as kind
@@ -38,10 +39,10 @@ present_asks world a or_none c = if_missing or_none (type_of world.around a) c
 
 -- ---- new instances
 
--- a new instance, in one block, at its cost
+-- a new instance of a class without `__init__`, in one block, at its cost
 abbrev pub InstancesAreMade : Type 0
 InstancesAreMade = (world : World) (known : Known) → IsOf world known → IsLaidOut world known → (place : Place) (w : Writing) (class d : ℕ) (r : Bool) (l : Laid) (covers : Covers)
-    → builtin_classes ≤ class → laid world class ≡ Some l → Starts world known class → place.element ≡ Some (element.Instance d r) → is_below known.program.classes class d ≡ true → type_at world.around place ≡ type.Ptr l.root
+    → builtin_classes ≤ class → laid world class ≡ Some l → Starts world known class → init world.classes.classes class ≡ None → method_of known.program.classes class (codes "__init__") ≡ None → place.element ≡ Some (element.Instance d r) → is_below known.program.classes class d ≡ true → type_at world.around place ≡ type.Ptr l.root
     → IsDone 1 world known (row.New class) covers (Make (small.New class) ∷ []) place [] w
 
 -- the one instance of a builtin exception class is a static

@@ -1,13 +1,13 @@
 -- What a new instance starts with.
-use Rattle.std.specs.Prelude.{◌≡◌, ℕ, ◌+◌, ◌==◌, Bool, true, false, if◌then◌else◌, List, [], ◌∷◌, Option, Some, None, codes}
+use Rattle.std.specs.Prelude.{◌≡◌, ℕ, ◌+◌, ◌==◌, Bool, true, false, if◌then◌else◌, List, [], ◌∷◌, Option, Some, None}
 use Rattle.ann_element.specs.declared.element.Element.{Element}
 use Rattle.csub_tree.specs.Layout.{constant}
 use Rattle.csub_tree.specs.Operation.{is_unset}
 use Rattle.ll_held.specs.Held.{is_reference}
 use Rattle.rpy_tree.specs.Value.{Value as Meant}
-use Rattle.rpy_meaning.specs.Classes.{named, first_attributes, method_of}
+use Rattle.rpy_meaning.specs.Classes.{named, first_attributes}
 use Rattle.class_desc.specs.declared.classes.Initial.{Initial}
-use Rattle.class_desc.specs.Line.{base, init, is_below}
+use Rattle.class_desc.specs.Line.{base, is_below}
 use Rattle.class_desc.specs.Tables.{initial}
 use Rattle.rtyper_layout.specs.declared.classes.Laid.{Laid}
 use Rattle.rtyper_layout.specs.Types.{word, field_type, type_of}
@@ -40,11 +40,9 @@ StartsAs world known e (Some v) (Some i) = (found : Found) → IsConstant world 
 StartsAs world known e v i = ⊥
 
 -- The instances of a class start alike: its bases have structs where it has; what it and its bases declare is known at its place, and starts
--- with a constant that is no block, or with nothing; and nothing is called with a new instance.
+-- with a constant that is no block, or with nothing.
 pub record Starts (world : World) (known : Known) (class : ℕ) : Type 0 where
   pub bases : (c b : ℕ) (l : Laid) → laid world c ≡ Some l → base world.classes.classes c ≡ Some b → (m : Laid) × (laid world b ≡ Some m)
   pub listed : (home : ℕ) (l : Laid) → is_below world.classes.classes class home ≡ true → laid world home ≡ Some l → AreKnown known class home l.own 0 world.attributes
   pub values : (home : ℕ) (l : Laid) (name : List ℕ) (s : Standing) → is_below world.classes.classes class home ≡ true → laid world home ≡ Some l → known.attribute class name ≡ Some s → s.own ≡ l.own
       → StartsAs world known s.element (named name (first_attributes known.program.classes class)) (initial_of (initial world.classes class) home name)
-  pub alone : init world.classes.classes class ≡ None
-  pub meant_alone : method_of known.program.classes class (codes "__init__") ≡ None

@@ -20,7 +20,7 @@ use Rattle.rtyper_layout.specs.Layout.{layout_of}
 use Rattle.rtyper_layout.specs.Types.{word, laid_in}
 use Rattle.rtyper_class.specs.Seen.{World, laid}
 use Rattle.rtyper_class.specs.Vtables.{vtable, vtables, exceptions, vtable_at}
-use Rattle.object_laws.specs.Ghost.{Use, Stays, Whole, ListOf, InstanceOf, Unseen, Home, Ghost, use_of}
+use Rattle.object_laws.specs.Ghost.{Use, Stays, Whole, ListOf, InstanceOf, DictOf, Unseen, Home, Ghost, use_of}
 use Rattle.object_laws.specs.Known.{Known, Standing, vtable_block}
 use Rattle.object_laws.specs.Represents.{Represents, InstanceAt, shapes, is_settled}
 use Rattle.layout_laws.specs.Beginning.{class_if, exception_of, use_for, uses_from, unseen, home_for, homes_from, first_ghost, AreBuiltin, AreStatics, MemoryBegins}
@@ -120,13 +120,13 @@ not_whole h = cc
 
 -- ---- the whole
 
-module _ (program : Resolved) (annotation : Annotation) (raises : Bool) (world : World) (reached : List Bool) (p : LlProgram) (meant : Program) (items : ℕ → Option Element) (static : ℕ → Option Block) (others : Heap) (left : ℕ)
+module _ (program : Resolved) (annotation : Annotation) (raises : Bool) (world : World) (reached : List Bool) (p : LlProgram) (meant : Program) (items keys : ℕ → Option Element) (static : ℕ → Option Block) (others : Heap) (left : ℕ)
     (made : IsWorldOf program annotation raises world) (counted : IsNumbered world) (small : length world.around.layout.structs < 2 ^ 64) (has : HasStatics world program reached p) (are : AreBuiltin world) (statics_are : AreStatics world p static) (few : left < 2 ^ 62) where
   abbrev layout : Layout
   layout = world.around.layout
 
   abbrev known : Known
-  known = known_of world program reached meant items static
+  known = known_of world program reached meant items keys static
 
   abbrev ghost : Ghost
   ghost = first_ghost world p (length others)
@@ -262,6 +262,13 @@ module _ (program : Resolved) (annotation : Annotation) (raises : Bool) (world :
       by (inl h) = (let f : Unseen ≡ ListOf n = ap (λ (x : Home). x.sort) h in cc)
       by (inr s) = (let f : InstanceOf i ≡ ListOf n = ap (λ (x : Home). x.sort) s.home in cc)
 
+  no_dict : (n i : ℕ) (head : Value) → slice_get ghost.homes i ≡ Some (record { sort = DictOf n; head = head }) → ⊥
+  no_dict n i head e = by (seen i _ e)
+    where
+      by : (unseen ≡ record { sort = DictOf n; head = head }) ⊎ Seen i (record { sort = DictOf n; head = head }) → ⊥
+      by (inl h) = (let f : Unseen ≡ DictOf n = ap (λ (x : Home). x.sort) h in cc)
+      by (inr s) = (let f : InstanceOf i ≡ DictOf n = ap (λ (x : Home). x.sort) s.home in cc)
+
   -- no attribute is known of them
   no_attribute : (class : ℕ) (name : List ℕ) (s : Standing) (l : Laid) → class < builtin_classes → laid world class ≡ Some l → known.attribute class name ≡ Some s → ⊥
   no_attribute class name s l lt h k =
@@ -312,8 +319,9 @@ module _ (program : Resolved) (annotation : Annotation) (raises : Bool) (world :
     exceptions = λ class l lt h. home_at class lt ∙ ap (λ o. Some (home_for world class o)) h;
     lists = λ n i head h e. absurd (no_list n i head h);
     instances = instance_at;
+    dicts = λ n i head m h e. absurd (no_dict n i head h);
   }
 
 pub memory_begins : MemoryBegins
-memory_begins program annotation raises world reached p meant items static others left is counted small has are statics_are few =
-    begins program annotation raises world reached p meant items static others left is counted small has are statics_are few
+memory_begins program annotation raises world reached p meant items keys static others left is counted small has are statics_are few =
+    begins program annotation raises world reached p meant items keys static others left is counted small has are statics_are few

@@ -63,4 +63,4 @@ statics = record {
 
 pub exceptions_begin : ExceptionsBegin
 exceptions_begin =
-    memory_begins resolved bare true raising [] raised meant (λ n. None) (λ s. None) [] 1000 (record { layout = refl; attributes = refl }) numbered (omega arith) statics are_builtin (λ s block h. absurd (no_some h)) (omega arith)
+    memory_begins resolved bare true raising [] raised meant (λ n. None) (λ n. None) (λ s. None) [] 1000 (record { layout = refl; attributes = refl }) numbered (omega arith) statics are_builtin (λ s block h. absurd (no_some h)) (omega arith)

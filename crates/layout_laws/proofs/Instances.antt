@@ -58,10 +58,8 @@ module _ (world : World) (known : Known) (value : Const → Meant) (class : ℕ)
       starts_as home name s k (constant name) (meant_starts name) (initial_is world.classes class home name at)
 
 pub instances_start : InstancesStart
-instances_start program annotation raises world known value class is counted knows declared are constants stand alone meant_alone = record {
+instances_start program annotation raises world known value class is counted knows declared are constants stand = record {
   bases = λ c b l h e. bases_are_laid program annotation raises world is counted c b l h e;
   listed = λ home l below h. attributes_are_known world known counted knows declared class home l below h;
   values = λ home l name s below h k own. starts_with world known value class counted knows (of_world program annotation raises world is counted) are constants stand home l name s h k own;
-  alone = alone;
-  meant_alone = meant_alone;
 }

@@ -1,4 +1,4 @@
--- Lists, strings, tuples and classes have the structs of these numbers.
+-- Lists, dicts, strings, tuples and classes have the structs of these numbers.
 use Rattle.std.proofs.Common.{◌≡◌, ◌<◌, ◌≤◌, ◌⊎◌, inl, inr, ℕ, zero, suc, ◌+◌, ◌-◌, Bool, true, false, List, [], ◌∷◌, ◌++◌, length, Option, Some, None, refl, sym, ap, ◌∙◌, subst, arith, length-append}
 use Rattle.std.specs.Prelude.{◌^◌, ◌*◌, ◌/◌, ◌%◌, ◌==◌, ◌&&◌, ◌||◌, not, nat_lt, nat_le, slice_get, slice_set, replicate, if◌then◌else◌}
 use Rattle.std.proofs.lemmas.Bool.{ltb-true, ltb-false, leb-true, cases_eq}
@@ -15,12 +15,12 @@ use Rattle.class_desc.specs.Line.{base}
 use Rattle.rtyper_layout.specs.declared.classes.Laid.{Laid}
 use Rattle.rtyper_layout.specs.declared.dicts.Mapping.{Mapping}
 use Rattle.rtyper_layout.specs.declared.layout.Layout.{Layout}
-use Rattle.rtyper_layout.specs.Dicts.{type_in}
+use Rattle.rtyper_layout.specs.Dicts.{type_in, first, second, dict_structs}
 use Rattle.rtyper_layout.specs.Families.{one_more, tops, under, laid_of, set_laid, lay_from}
-use Rattle.rtyper_layout.specs.Layout.{layout_of, list_structs, all_lists, all_dicts, all_tuples, tuple_struct, before_lists, mappings_from, vtables, is_list, is_tuple, fields_in}
+use Rattle.rtyper_layout.specs.Layout.{layout_of, list_structs, all_lists, all_dicts, all_tuples, tuple_struct, before_lists, mappings_from, mapping_at, vtables, is_list, is_tuple, fields_in}
 use Rattle.rtyper_layout.specs.Sites.{all_shapes}
 use Rattle.rtyper_layout.specs.Types.{word, laid_in}
-use Rattle.object_laws.specs.Done.{HasLayout}
+use Rattle.object_laws.specs.Done.{HasLayout, HasDict}
 use Rattle.object_laws.specs.Represents.{shapes, is_settled}
 use Rattle.layout_laws.specs.Layouts.{LayoutsAreHad}
 use Rattle.layout_laws.proofs.Places.{is_same, same_some, no_some, not_true, get_right, laid_here, laid_there, none_laid}
@@ -49,6 +49,49 @@ module _ (layout : Layout) (a : Annotation) where
   length_mappings : (n : ℕ) (sites : List ℕ) → length (mappings_from layout a n sites) ≡ length sites
   length_mappings n [] = refl
   length_mappings n (site ∷ sites) = ap suc (length_mappings (word (n + 3)) sites)
+
+  -- each has the number that is three more than that of the one before
+  number_of : (n : ℕ) (sites : List ℕ) (i : ℕ) (m : Mapping) → n + 3 * length sites < 2 ^ 64 → slice_get (mappings_from layout a n sites) i ≡ Some m → (m.dict ≡ n + 3 * i) × (i < length sites)
+  number_of n [] i m few h = absurd (no_some h)
+  number_of n (site ∷ sites) zero m few h = (ap (λ (m : Mapping). m.dict) (sym (same_some h)) ∙ (let z : n ≡ n + 3 * 0 = omega arith in z), omega arith)
+  number_of n (site ∷ sites) (suc i) m few h =
+      let next : word (n + 3) ≡ n + 3 = word_same (n + 3) (omega (arith, few)) in
+      let it = number_of (word (n + 3)) sites i m (omega (arith, few, next)) h in
+      (omega (arith, it.0, next), omega (arith, it.1))
+
+-- a mapping that is found has a place
+record Placed (ms : List Mapping) (m : Mapping) : Type 0 where
+  place : ℕ
+  is : slice_get ms place ≡ Some m
+
+placed : (ms : List Mapping) (n : ℕ) (m : Mapping) → mapping_at ms n ≡ Some m → Placed ms m
+placed [] n m h = absurd (no_some h)
+placed (k ∷ ms) n m h = by (k.dict == n) (placed ms n m) h
+  where
+    by : (b : Bool) → (mapping_at ms n ≡ Some m → Placed ms m) → (if b then Some k else mapping_at ms n) ≡ Some m → Placed (k ∷ ms) m
+    by true rest h = record { place = 0; is = h }
+    by false rest h = (let it = rest h in record { place = suc it.place; is = it.is })
+
+-- its three structs
+record HasThree (structs : List LlStruct) (n : ℕ) : Type 0 where
+  head : Plain structs n 4
+  one : Plain structs (n + 1) 1
+  two : Plain structs (n + 2) 1
+
+three_right : (xs ys : List LlStruct) (n i : ℕ) → n ≡ length xs + i → HasThree ys i → HasThree (xs ++ ys) n
+three_right xs ys n i e t = record { head = plain_right xs ys n i 4 e t.head; one = plain_right xs ys (n + 1) (i + 1) 1 (omega (arith, e)) t.one; two = plain_right xs ys (n + 2) (i + 2) 1 (omega (arith, e)) t.two }
+
+three_left : (xs ys : List LlStruct) (n : ℕ) → HasThree xs n → HasThree (xs ++ ys) n
+three_left xs ys n t = record { head = plain_left xs ys n 4 t.head; one = plain_left xs ys (n + 1) 1 t.one; two = plain_left xs ys (n + 2) 1 t.two }
+
+three_at : (ms : List Mapping) (i : ℕ) → i < length ms → HasThree (all_dicts ms) (3 * i)
+three_at [] i lt = absurd (omega (arith, lt))
+three_at (m ∷ ms) zero lt = record {
+  head = record { struct = _; is = refl; base = refl; count = refl };
+  one = record { struct = _; is = refl; base = refl; count = refl };
+  two = record { struct = _; is = refl; base = refl; count = refl };
+}
+three_at (m ∷ ms) (suc i) lt = three_right (dict_structs m) (all_dicts ms) (3 * suc i) (3 * i) (omega arith) (three_at ms i (omega (arith, lt)))
 
 pub length_dicts : (ms : List Mapping) → length (all_dicts ms) ≡ 3 * length ms
 length_dicts [] = omega arith
@@ -217,6 +260,33 @@ module _ (program : Resolved) (infos : List ClassInfo) (a : Annotation) (raises 
       plain_right before (listed ++ (dicts ++ tuples)) (all.first_list + 2 * i + 1) (2 * i + 1) 1 (omega (arith, first_list_is))
       (plain_left listed (dicts ++ tuples) (2 * i + 1) 1 (array_at given a (length before) i given.lists lt))
 
+  three_is : (i : ℕ) → i < length all.dicts → HasThree all.structs (all.first_dict + 3 * i)
+  three_is i lt =
+      three_right before (listed ++ (dicts ++ tuples)) (all.first_dict + 3 * i) (2 * length all.lists + 3 * i) (omega (arith, first_dict_is))
+      (three_right listed (dicts ++ tuples) (2 * length all.lists + 3 * i) (3 * i) (let z = length_lists given a (length before) given.lists in omega (arith, z))
+      (three_left dicts tuples (3 * i) (three_at given.mappings i (omega (arith, lt, count_mappings)))))
+
+  -- the number of a dict that is found
+  record OfDict (m : Mapping) : Type 0 where
+    place : ℕ
+    within : place < length all.dicts
+    is : m.dict ≡ all.first_dict + 3 * place
+    one : first m ≡ m.dict + 1
+    two : second m ≡ m.dict + 2
+
+  of_dict : (n : ℕ) (m : Mapping) → mapping_at all.mappings n ≡ Some m → OfDict m
+  of_dict n m h =
+      let at = placed given.mappings n m h in
+      let few : all.first_dict + 3 * length all.dicts < 2 ^ 64 = omega (arith, first_dict_is, count_all, small) in
+      let number = number_of (all_shapes (started program infos a raises) a) a (all_shapes (started program infos a raises) a).first_dict (all_shapes (started program infos a raises) a).dicts at.place m few at.is in
+      record {
+        place = at.place;
+        within = number.1;
+        is = number.0;
+        one = word_same (m.dict + 1) (omega (arith, number.0, number.1, few));
+        two = word_same (m.dict + 2) (omega (arith, number.0, number.1, few));
+      }
+
   text_is : Plain all.structs 0 1
   text_is = record { struct = _; is = refl; base = refl; count = refl }
 
@@ -271,13 +341,31 @@ module _ (program : Resolved) (infos : List ClassInfo) (a : Annotation) (raises 
       unsettled all (word (n + 1)) (omega (arith, next_is n o)) (omega (arith, next_is n o, o.is, o.within, first_list_is, first_tuple_is)),
     )
 
+    has_dict : (m : Mapping) → OfDict m → HasDict p m
+    has_dict m o =
+        let three = three_is o.place o.within in
+        record {
+          head = subst (λ k. shape_at (shapes_of p.structs) k ≡ shape_over k 4 None) (sym o.is) (shape_had (all.first_dict + 3 * o.place) 4 three.head);
+          first = subst (λ k. shape_at (shapes_of p.structs) k ≡ shape_over k 1 None) (sym (o.one ∙ ap (λ k. k + 1) o.is)) (shape_had (all.first_dict + 3 * o.place + 1) 1 three.one);
+          second = subst (λ k. shape_at (shapes_of p.structs) k ≡ shape_over k 1 None) (sym (o.two ∙ ap (λ k. k + 2) o.is)) (shape_had (all.first_dict + 3 * o.place + 2) 1 three.two);
+        }
+
+    dicts_unsettled : (m : Mapping) → OfDict m → (is_settled all m.dict ≡ false) × (is_settled all (first m) ≡ false) × (is_settled all (second m) ≡ false)
+    dicts_unsettled m o = (
+      unsettled all m.dict (omega (arith, o.is, first_dict_is, count_before)) (omega (arith, o.is, o.within, first_dict_is, first_tuple_is)),
+      unsettled all (first m) (omega (arith, o.one)) (omega (arith, o.one, o.is, o.within, first_dict_is, first_tuple_is)),
+      unsettled all (second m) (omega (arith, o.two)) (omega (arith, o.two, o.is, o.within, first_dict_is, first_tuple_is)),
+    )
+
     has_layout : HasLayout p all
     has_layout = record {
       plain = record { text = shape_had 0 1 text_is; tuples = tuple_had };
       heads = λ n e. head_had n (of_list all n e);
       arrays = λ n e. array_had n (of_list all n e);
+      dicts = λ n m e. has_dict m (of_dict n m e);
       shapes = λ n lt. ap (λ ss. shape_at (shapes_of ss) n) had ∙ shape_kept all.structs more n lt;
       lists_apart = λ n e. lists_unsettled n (of_list all n e);
+      dicts_apart = λ n m e. dicts_unsettled m (of_dict n m e);
       classes_apart = λ class l h. (let own = own_numbers class l h in unsettled all l.own own.0 own.1);
     }
 

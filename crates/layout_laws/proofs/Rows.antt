@@ -105,7 +105,7 @@ same_bases (suc (suc c)) = refl
 pub is_known : IsKnown
 is_known = (
   layouts_lay_out_classes program annotation false world known (record { layout = refl; attributes = refl }) numbered (λ class name. refl),
-  classes_are_known world program annotation.reached meant (λ n. None) (λ s. None) forest (record { count = refl; bases = same_bases }),
+  classes_are_known world program annotation.reached meant (λ n. None) (λ n. None) (λ s. None) forest (record { count = refl; bases = same_bases }),
 )
 
 -- ---- new instances
@@ -138,4 +138,4 @@ no_constants (suc (suc c)) = refl
 pub is_started : IsStarted
 is_started =
     instances_start program annotation false world known (λ c. Nothing) 1 (record { layout = refl; attributes = refl }) numbered (λ class name. refl) (record { at_home = at_home; once = once })
-    (record { count = refl; bases = same_bases }) no_constants (λ home name s i found h k. absurd (no_some k)) refl refl
+    (record { count = refl; bases = same_bases }) no_constants (λ home name s i found h k. absurd (no_some k))

@@ -66,6 +66,6 @@ AreStatics world p static = (s : ℕ) (block : Block) → static s ≡ Some bloc
 
 -- before anything is made, memory represents the builtin exceptions, whatever other objects there are
 abbrev pub MemoryBegins : Type 0
-MemoryBegins = (program : Resolved) (annotation : Annotation) (raises : Bool) (world : World) (reached : List Bool) (p : LlProgram) (meant : Program) (items : ℕ → Option Element) (static : ℕ → Option Block) (others : Heap) (left : ℕ)
+MemoryBegins = (program : Resolved) (annotation : Annotation) (raises : Bool) (world : World) (reached : List Bool) (p : LlProgram) (meant : Program) (items keys : ℕ → Option Element) (static : ℕ → Option Block) (others : Heap) (left : ℕ)
     → IsWorldOf program annotation raises world → IsNumbered world → length world.around.layout.structs < 2 ^ 64 → HasStatics world program reached p → AreBuiltin world → AreStatics world p static → left < 2 ^ 62
-    → Represents world.around.layout (known_of world program reached meant items static) (first_ghost world p (length others)) (exceptions_from 0 builtin_classes ++ others) left [] (statics_of p)
+    → Represents world.around.layout (known_of world program reached meant items keys static) (first_ghost world p (length others)) (exceptions_from 0 builtin_classes ++ others) left [] (statics_of p)

@@ -41,11 +41,13 @@ abbrev pub graph_if : Option Bool → Option ℕ → Option ℕ
 graph_if (Some true) number = number
 graph_if reached number = None
 
--- The program as its meaning sees it, what is known of the items of lists, and the statics that stay, are given.
-abbrev pub known_of : World → Resolved → List Bool → Program → (ℕ → Option Element) → (ℕ → Option Block) → Known
-known_of world program reached meant items static = record {
+-- The program as its meaning sees it, what is known of the items of lists and of the values and keys of dicts, and the statics that stay,
+-- are given.
+abbrev pub known_of : World → Resolved → List Bool → Program → (ℕ → Option Element) → (ℕ → Option Element) → (ℕ → Option Block) → Known
+known_of world program reached meant items keys static = record {
   program = meant;
   items = items;
+  keys = keys;
   attribute = λ class name. option_map standing_of (place_in world class name);
   vtable = vtable_known world program reached;
   exception = λ class. Static (word (world.first_exception + class));
@@ -59,8 +61,8 @@ pub record AreClasses (meant : List Class) (infos : List ClassInfo) : Type 0 whe
   pub bases : (class : ℕ) → base_of (slice_get meant class) ≡ base infos class
 
 abbrev pub ClassesAreKnown : Type 0
-ClassesAreKnown = (world : World) (program : Resolved) (reached : List Bool) (meant : Program) (items : ℕ → Option Element) (static : ℕ → Option Block)
-    → IsForest world.classes.classes → AreClasses meant.classes world.classes.classes → IsOf world (known_of world program reached meant items static)
+ClassesAreKnown = (world : World) (program : Resolved) (reached : List Bool) (meant : Program) (items keys : ℕ → Option Element) (static : ℕ → Option Block)
+    → IsForest world.classes.classes → AreClasses meant.classes world.classes.classes → IsOf world (known_of world program reached meant items keys static)
 
 -- the program that the meaning makes of a program has the classes of that, where each of them has a name
 abbrev pub ProgramsHaveTheirClasses : Type 0

@@ -1,8 +1,8 @@
 -- What the laws of new instances take of the layout of a program.
-use Rattle.std.specs.Prelude.{◌≡◌, ◌≤◌, ℕ, Bool, true, List, ◌++◌, length, map, slice_get, Some, None, codes}
+use Rattle.std.specs.Prelude.{◌≡◌, ◌≤◌, ℕ, Bool, true, List, ◌++◌, length, map, slice_get, Some}
 use Rattle.ann_element.specs.declared.annotation.Annotation.{Annotation}
 use Rattle.ann_element.specs.declared.element.Element.{Element}
-use Rattle.rpy_meaning.specs.Classes.{constants_of, method_of}
+use Rattle.rpy_meaning.specs.Classes.{constants_of}
 use Rattle.rpy_meaning.specs.Resolved.{Further, builtin_names, class_names_from, program_of, value_in}
 use Rattle.rpy_meaning.specs.Tree.{Class}
 use Rattle.rpy_resolved.specs.declared.tree.Resolved.{Resolved}
@@ -11,7 +11,7 @@ use Rattle.rpy_tree.specs.declared.program.ClassInfo.{ClassInfo}
 use Rattle.rpy_tree.specs.declared.program.Const.{Const}
 use Rattle.rpy_tree.specs.declared.program.Program as tree
 use Rattle.class_desc.specs.declared.classes.Initial.{Initial}
-use Rattle.class_desc.specs.Line.{base, constants_in, init, is_below}
+use Rattle.class_desc.specs.Line.{base, constants_in, is_below}
 use Rattle.class_desc.specs.Tables.{home, initial}
 use Rattle.rtyper_layout.specs.declared.classes.Laid.{Laid}
 use Rattle.rtyper_data.specs.declared.found.Found.{Found}
@@ -46,12 +46,12 @@ abbrev pub AttributesAreKnown : Type 0
 AttributesAreKnown = (world : World) (known : Known) → IsNumbered world → KnowsAttributes world known → AreDeclared world
     → (class home : ℕ) (l : Laid) → is_below world.classes.classes class home ≡ true → laid world home ≡ Some l → AreKnown known class home l.own 0 world.attributes
 
--- what the law of new instances takes, of a class for which nothing is called
+-- what the laws of new instances take
 abbrev pub InstancesStart : Type 0
 InstancesStart = (program : Resolved) (annotation : Annotation) (raises : Bool) (world : World) (known : Known) (value : Const → Meant) (class : ℕ)
     → IsWorldOf program annotation raises world → IsNumbered world → KnowsAttributes world known → AreDeclared world
     → AreClasses known.program.classes world.classes.classes → AreConstants value known.program.classes world.classes.classes → ConstantsStand world known value class
-    → init world.classes.classes class ≡ None → method_of known.program.classes class (codes "__init__") ≡ None → Starts world known class
+    → Starts world known class
 
 -- those of the program that the meaning makes are so, where each class has a name
 abbrev pub ProgramsHaveTheirConstants : Type 0

@@ -40,7 +40,7 @@ use Rattle.lower_laws.proofs.Single.{sets, gives_flag}
 use Rattle.lower_laws.proofs.Typing.{place_of_flags}
 use Rattle.list_laws.specs.Presence.{IsTold, ListsAreCompared, ListsAreBesideNone}
 use Rattle.list_laws.proofs.Lowered.{list_comes}
-use Rattle.list_laws.proofs.Nothings.{nothing_held}
+use Rattle.object_laws.proofs.Nothings.{nothing_held}
 use Rattle.list_laws.proofs.Told.{two_plain, gives_flags}
 use Rattle.object_laws.specs.Done.{Follows, references}
 use Rattle.object_laws.specs.Ghost.{Ghost, Home, Use, Head, use_of}

@@ -14,7 +14,6 @@ pub mod Lowered
 pub mod Making
 pub mod Moving
 pub mod Narrowed
-pub mod Nothings
 pub mod Places
 pub mod Popping
 pub mod Removing

@@ -33,8 +33,8 @@ use Rattle.list_laws.specs.Asked.{MakesRoom}
 use Rattle.object_laws.specs.Known.{Known}
 use Rattle.object_laws.specs.Done.{HasLayout}
 use Rattle.object_laws.specs.Ghost.{Ghost, Grown, Use, Stays, Head, Array, use_of, ListOf}
-use Rattle.object_laws.specs.Represents.{Represents, ListAt, AreEmpty, head_block, array_block, Settled}
-use Rattle.object_laws.specs.Values.{EachHolds, Empty, More}
+use Rattle.object_laws.specs.Represents.{Represents, ListAt, head_block, array_block, Settled}
+use Rattle.object_laws.specs.Values.{EachHolds, Empty, More, AreEmpty}
 use Rattle.object_laws.proofs.Blocks.{found_set, reads_field}
 use Rattle.object_laws.proofs.Calling.{Returns, calls_back}
 use Rattle.object_laws.proofs.Changing.{IsOf, Wrote, put_block, put_static, wrote_at, list_changes, settled_wrote, get_set_here, uses_apart}

@@ -1,5 +1,5 @@
 -- The call that takes an item out of a list, and what the place takes then.
-use Rattle.std.proofs.Common.{◌≡◌, ◌<◌, ◌≤◌, ℕ, ◌+◌, Bool, true, false, ◌||◌, List, [], ◌∷◌, ◌++◌, length, pos, refl, sym, ap, ◌∙◌, subst, arith, Some}
+use Rattle.std.proofs.Common.{◌≡◌, ◌<◌, ◌≤◌, ℕ, ◌+◌, Bool, true, false, ◌||◌, List, [], ◌∷◌, length, pos, refl, sym, ap, ◌∙◌, subst, arith, Some}
 use Rattle.std.specs.Prelude.{None, slice_get, slice_set, remove}
 use Rattle.std.proofs.lemmas.List.{append-nil, length-set}
 use Rattle.rpy_base.specs.declared.outcome.FailName.TheVariants as fail

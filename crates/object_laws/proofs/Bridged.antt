@@ -33,11 +33,11 @@ use Rattle.object_laws.specs.Ghost.{Ghost, Grown, Stays, use_of}
 use Rattle.object_laws.specs.Known.{Known}
 use Rattle.object_laws.specs.Represents.{Represents}
 use Rattle.object_laws.specs.Values as high
-use Rattle.object_laws.specs.Values.{Stands, Holds, Plain, Alone, Items, Listed, Made, Function, Missing, Given}
-use Rattle.object_laws.proofs.Changing.{list_kept, instance_kept}
+use Rattle.object_laws.specs.Values.{Stands, Holds, Plain, Alone, Items, Listed, Mapped, Made, Function, Missing, Given}
+use Rattle.object_laws.proofs.Changing.{list_kept, instance_kept, dict_kept}
 use Rattle.object_laws.proofs.Growing.{grown_none, use_grows}
 use Rattle.object_laws.proofs.Made.{found_more, settled_more, last_one}
-use Rattle.object_laws.proofs.Valued.{not_simple_made, not_simple_called, simple_is_no_list, simple_is_there}
+use Rattle.object_laws.proofs.Valued.{not_simple_made, not_simple_called, simple_is_no_list, simple_is_no_dict, simple_is_there}
 
 map_long : (bs : List Block) → length (map Some bs) ≡ length bs
 map_long [] = refl
@@ -66,6 +66,7 @@ module _ {layout : Layout} {known : Known} {g : Ghost} {heap : Heap} {left : ℕ
   held_low simple (Alone k e f) = LowAlone k e f
   held_low {seen = seen} simple (Items parts n xs vs e f t is all) = absurd (simple_apart (kind_seen seen) simple (ap kind_seen e))
   held_low {seen = seen} simple (Listed n i h f t s home) = absurd (simple_is_no_list (kind_seen seen) h simple)
+  held_low {seen = seen} simple (Mapped n i m h f t s home) = absurd (simple_is_no_dict (kind_seen seen) h simple)
   held_low {seen = seen} simple (Made class or_none c i e f b home) = absurd (not_simple_made seen class or_none e simple)
   held_low {seen = seen} simple (Function fs or_none f n e k b l y) = absurd (not_simple_called seen fs or_none e simple)
   held_low {seen = seen} simple (Missing h e f) = absurd (simple_is_there (kind_seen seen) h simple)
@@ -113,6 +114,7 @@ module _ {layout : Layout} {known : Known} {g : Ghost} {heap : Heap} {left fewer
     exceptions = r.exceptions;
     lists = λ n i head h struct. list_kept grown_none i head (λ o k. k) (λ x u b k of is. is) n less (r.lists n i head h struct);
     instances = r.instances;
+    dicts = r.dicts;
   }
 
   more : (b : Block) → Represents layout known (with_block g b) heap fewer (blocks ++ Some b ∷ []) statics
@@ -128,6 +130,7 @@ module _ {layout : Layout} {known : Known} {g : Ghost} {heap : Heap} {left fewer
     exceptions = r.exceptions;
     lists = λ n i head h struct. list_kept (block_grown g b) i head (λ o k. k) (λ x u c k of is. found_more blocks (Some b ∷ []) statics x c is) n less (r.lists n i head h struct);
     instances = λ class i head h. instance_kept (block_grown g b) i head (λ o k. k) (λ x u c k of is. found_more blocks (Some b ∷ []) statics x c is) class (r.instances class i head h);
+    dicts = λ n i head m h is. dict_kept (block_grown g b) i head (λ o k. k) (λ x u c k of is. found_more blocks (Some b ∷ []) statics x c is) m (r.dicts n i head m h is);
   }
     where
       stays : (x : Value) (block : Block) → use_of (with_block g b) x ≡ Some (Stays block) → found (blocks ++ Some b ∷ []) statics x ≡ Some block

@@ -1,4 +1,4 @@
--- One list changes, and all else is what it was.
+-- One object changes, and all else is what it was.
 use Rattle.std.proofs.Common.{◌≡◌, ◌≤◌, ◌⊎◌, inl, inr, ℕ, zero, suc, true, false, List, [], ◌∷◌, length, Option, Some, None, refl, sym, ap, ◌∙◌, subst, arith}
 use Rattle.std.specs.Prelude.{slice_get, slice_set, slice_index_or}
 use Rattle.std.proofs.lemmas.Bool.{cases_eq}
@@ -6,12 +6,14 @@ use Rattle.std.proofs.lemmas.List.{get_or-set_other, length-set}
 use Rattle.csub_tree.specs.State.{Value, Ptr, Static, Block}
 use Rattle.csub_tree.specs.Statement.{read}
 use Rattle.ll_texts.specs.Texts.{found}
-use Rattle.rpy_tree.specs.Value.{Value as Meant, Object, Listed, Instance, Heap}
+use Rattle.rpy_tree.specs.Value.{Value as Meant, Object, Listed, Mapped, Instance, Heap}
 use Rattle.rpy_meaning.specs.Classes.{named}
 use Rattle.rtyper_layout.specs.declared.layout.Layout.{Layout}
-use Rattle.rtyper_layout.specs.Layout.{is_list}
+use Rattle.rtyper_layout.specs.declared.dicts.Mapping.{Mapping}
+use Rattle.rtyper_layout.specs.Layout.{is_list, mapping_at}
+use Rattle.object_laws.specs.Dicts.{DictAt, Arrays, Lacks}
 use Rattle.object_laws.specs.Known.{Known}
-use Rattle.object_laws.specs.Ghost.{Ghost, Grown, Home, Sort, ListOf, InstanceOf, Use, Stays, Head, Array, Whole, use_of}
+use Rattle.object_laws.specs.Ghost.{Ghost, Grown, Home, Sort, ListOf, InstanceOf, DictOf, Use, Stays, Head, Array, Whole, Table, First, Second, use_of}
 use Rattle.object_laws.specs.Represents.{Represents, ListAt, InstanceAt, HasRoom, Settled, is_settled, value_at, set_at}
 use Rattle.object_laws.proofs.Growing.{use_grows, each_grows, shows_grows, grown_none}
 
@@ -111,6 +113,9 @@ abbrev pub IsOf : ℕ → Use → Type 0
 IsOf i (Head j) = j ≡ i
 IsOf i (Array j) = j ≡ i
 IsOf i (Whole j) = j ≡ i
+IsOf i (Table j) = j ≡ i
+IsOf i (First j) = j ≡ i
+IsOf i (Second j) = j ≡ i
 IsOf i _ = ⊥
 
 pub less_room : (count left fewer : ℕ) → fewer ≤ left → HasRoom count left → HasRoom count fewer
@@ -153,6 +158,41 @@ module _ {layout : Layout} {known : Known} {g ghost : Ghost} {heap heap2 : Heap}
     shows = λ name s h. shows_grows grown layout known s.element (named name l.attributes) (read l.fields (value_at layout s)) (read l.fields (set_at layout s)) (l.shows name s h);
   }
 
+  pub dict_kept : (m : Mapping) → DictAt layout known g heap blocks statics m j other → DictAt layout known ghost heap2 blocks2 statics2 m j other
+  dict_kept m l = record {
+    pairs = l.pairs;
+    object = object (Mapped l.pairs) l.object;
+    places = l.places;
+    one = l.one;
+    two = l.two;
+    head_use = use_grows grown other _ l.head_use;
+    head_is = others other (Table j) _ l.head_use refl l.head_is;
+    arrays = arrays l.arrays;
+    apart = l.apart;
+    few = l.few;
+  }
+    where
+      arrays : Lacks layout known g blocks statics m j l.pairs l.places l.one l.two ⊎ Arrays layout known g blocks statics m j l.pairs l.places l.one l.two → Lacks layout known ghost blocks2 statics2 m j l.pairs l.places l.one l.two ⊎ Arrays layout known ghost blocks2 statics2 m j l.pairs l.places l.one l.two
+      arrays (inl a) = inl (record { empty = a.empty; no_places = a.no_places; first_null = a.first_null; second_null = a.second_null })
+      arrays (inr a) = inr (record {
+        keys = a.keys;
+        values = a.values;
+        spare_keys = a.spare_keys;
+        spare_values = a.spare_values;
+        index = a.index;
+        first_use = use_grows grown l.one _ a.first_use;
+        second_use = use_grows grown l.two _ a.second_use;
+        first_is = others l.one (First j) _ a.first_use refl a.first_is;
+        second_is = others l.two (Second j) _ a.second_use refl a.second_is;
+        each_key = each_grows grown a.each_key;
+        each_value = each_grows grown a.each_value;
+        no_keys = a.no_keys;
+        no_values = a.no_values;
+        key_places = a.key_places;
+        value_places = a.value_places;
+        indexed = a.indexed;
+      })
+
 -- One object is another; blocks may be made for it. What is for something else is found as before.
 pub object_changes : {layout : Layout} {known : Known} {g ghost : Ghost} {heap : Heap} {left fewer : ℕ} {blocks blocks2 : List (Option Block)} {statics statics2 : List Block} (i : ℕ) (object : Object)
     → Represents layout known g heap left blocks statics → Grown g ghost → ghost.homes ≡ g.homes → fewer ≤ left
@@ -162,8 +202,9 @@ pub object_changes : {layout : Layout} {known : Known} {g ghost : Ghost} {heap :
     → Settled layout ghost blocks2 statics2
     → ((n : ℕ) (head : Value) → slice_get g.homes i ≡ Some (record { sort = ListOf n; head = head }) → is_list layout n ≡ true → ListAt layout known ghost (slice_set heap i object) fewer blocks2 statics2 n i head)
     → ((class : ℕ) (head : Value) → slice_get g.homes i ≡ Some (record { sort = InstanceOf class; head = head }) → InstanceAt layout known ghost (slice_set heap i object) blocks2 statics2 class i head)
+    → ((n : ℕ) (head : Value) (m : Mapping) → slice_get g.homes i ≡ Some (record { sort = DictOf n; head = head }) → mapping_at layout.mappings n ≡ Some m → DictAt layout known ghost (slice_set heap i object) blocks2 statics2 m i head)
     → Represents layout known ghost (slice_set heap i object) fewer blocks2 statics2
-object_changes {layout = layout} {known = known} {g = g} {ghost = ghost} {heap = heap} {left = left} {fewer = fewer} {blocks = blocks} {blocks2 = blocks2} {statics = statics} {statics2 = statics2} i object r grown same less made fixed stays others settled list_here instance_here = record {
+object_changes {layout = layout} {known = known} {g = g} {ghost = ghost} {heap = heap} {left = left} {fewer = fewer} {blocks = blocks} {blocks2 = blocks2} {statics = statics} {statics2 = statics2} i object r grown same less made fixed stays others settled list_here instance_here dict_here = record {
   made = made;
   fixed = ap length grown.statics ∙ r.fixed ∙ sym fixed;
   few = (let f = r.few in omega (arith, f, less));
@@ -175,6 +216,7 @@ object_changes {layout = layout} {known = known} {g = g} {ghost = ghost} {heap =
   exceptions = λ class l h k. ap (λ hs. slice_get hs class) same ∙ r.exceptions class l h k;
   lists = λ m j other h struct. list_at m j other (ap (λ hs. slice_get hs j) (sym same) ∙ h) struct (cases_eq j i);
   instances = λ class j other h. instance_at class j other (ap (λ hs. slice_get hs j) (sym same) ∙ h) (cases_eq j i);
+  dicts = λ n j other m h is. dict_at n j other m (ap (λ hs. slice_get hs j) (sym same) ∙ h) is (cases_eq j i);
 }
   where
     object_is : (j : ℕ) → (j ≡ i → ⊥) → (o : Object) → slice_get heap j ≡ Some o → slice_get (slice_set heap i object) j ≡ Some o
@@ -184,6 +226,9 @@ object_changes {layout = layout} {known = known} {g = g} {ghost = ghost} {heap =
     of_other j apart (Head k) h e = apart (sym h ∙ e)
     of_other j apart (Array k) h e = apart (sym h ∙ e)
     of_other j apart (Whole k) h e = apart (sym h ∙ e)
+    of_other j apart (Table k) h e = apart (sym h ∙ e)
+    of_other j apart (First k) h e = apart (sym h ∙ e)
+    of_other j apart (Second k) h e = apart (sym h ∙ e)
     of_other j apart _ h e = e
 
     found_is : (j : ℕ) → (j ≡ i → ⊥) → (x : Value) (u : Use) (b : Block) → use_of g x ≡ Some u → IsOf j u → found blocks statics x ≡ Some b → found blocks2 statics2 x ≡ Some b
@@ -197,6 +242,10 @@ object_changes {layout = layout} {known = known} {g = g} {ghost = ghost} {heap =
     instance_at class j other h (inl e) = subst (λ k. InstanceAt layout known ghost (slice_set heap i object) blocks2 statics2 class k other) (sym e) (instance_here class other (ap (λ k. slice_get g.homes k) (sym e) ∙ h))
     instance_at class j other h (inr apart) = instance_kept grown j other (object_is j apart) (found_is j apart) class (r.instances class j other h)
 
+    dict_at : (n j : ℕ) (other : Value) (m : Mapping) → slice_get g.homes j ≡ Some (record { sort = DictOf n; head = other }) → mapping_at layout.mappings n ≡ Some m → (j ≡ i) ⊎ (j ≡ i → ⊥) → DictAt layout known ghost (slice_set heap i object) blocks2 statics2 m j other
+    dict_at n j other m h is (inl e) = subst (λ k. DictAt layout known ghost (slice_set heap i object) blocks2 statics2 m k other) (sym e) (dict_here n other m (ap (λ k. slice_get g.homes k) (sym e) ∙ h) is)
+    dict_at n j other m h is (inr apart) = dict_kept grown j other (object_is j apart) (found_is j apart) m (r.dicts n j other m h is)
+
 -- ---- a list is another
 
 abbrev list_in : Sort → ℕ
@@ -205,6 +254,12 @@ list_in other = 0
 
 no_instance : {n class : ℕ} {x y : Value} {o : Option Home} → o ≡ Some (record { sort = ListOf n; head = x }) → o ≡ Some (record { sort = InstanceOf class; head = y }) → ⊥
 no_instance {n = n} {class = class} h k = (let q : ListOf n ≡ InstanceOf class = ap (λ (x : Home). x.sort) (one_home (sym h ∙ k)) in absurd (cc))
+
+no_dict : {n m : ℕ} {x y : Value} {o : Option Home} → o ≡ Some (record { sort = ListOf n; head = x }) → o ≡ Some (record { sort = DictOf m; head = y }) → ⊥
+no_dict {n = n} {m = m} h k = (let q : ListOf n ≡ DictOf m = ap (λ (x : Home). x.sort) (one_home (sym h ∙ k)) in absurd (cc))
+
+no_dict_made : {class m : ℕ} {x y : Value} {o : Option Home} → o ≡ Some (record { sort = InstanceOf class; head = x }) → o ≡ Some (record { sort = DictOf m; head = y }) → ⊥
+no_dict_made {class = class} {m = m} h k = (let q : InstanceOf class ≡ DictOf m = ap (λ (x : Home). x.sort) (one_home (sym h ∙ k)) in absurd (cc))
 
 -- The list of one object is another.
 pub list_changes : {layout : Layout} {known : Known} {g ghost : Ghost} {heap : Heap} {left fewer : ℕ} {blocks blocks2 : List (Option Block)} {statics statics2 : List Block} (n i : ℕ) (head : Value) (items : List Meant)
@@ -216,7 +271,7 @@ pub list_changes : {layout : Layout} {known : Known} {g ghost : Ghost} {heap : H
     → ListAt layout known ghost (slice_set heap i (Listed items)) fewer blocks2 statics2 n i head
     → Represents layout known ghost (slice_set heap i (Listed items)) fewer blocks2 statics2
 list_changes {layout = layout} {known = known} {g = g} {ghost = ghost} {heap = heap} {fewer = fewer} {blocks2 = blocks2} {statics2 = statics2} n i head items r grown same less home made fixed stays others settled changed =
-    object_changes i (Listed items) r grown same less made fixed stays others settled here (λ class other h. absurd (no_instance home h))
+    object_changes i (Listed items) r grown same less made fixed stays others settled here (λ class other h. absurd (no_instance home h)) (λ k other m h is. absurd (no_dict home h))
   where
     here : (m : ℕ) (other : Value) → slice_get g.homes i ≡ Some (record { sort = ListOf m; head = other }) → is_list layout m ≡ true → ListAt layout known ghost (slice_set heap i (Listed items)) fewer blocks2 statics2 m i other
     here m other h struct =
@@ -240,7 +295,7 @@ pub instance_changes : {layout : Layout} {known : Known} {g : Ghost} {heap : Hea
     → InstanceAt layout known g (slice_set heap i (Instance class attributes)) blocks2 statics2 class i head
     → Represents layout known g (slice_set heap i (Instance class attributes)) left blocks2 statics2
 instance_changes {layout = layout} {known = known} {g = g} {heap = heap} {blocks2 = blocks2} {statics2 = statics2} class i head attributes r home made fixed others settled changed =
-    object_changes i (Instance class attributes) r grown_none refl (omega arith) (r.made ∙ sym made) fixed (λ x block h. h) others settled (λ m other h struct. absurd (no_instance h home)) here
+    object_changes i (Instance class attributes) r grown_none refl (omega arith) (r.made ∙ sym made) fixed (λ x block h. h) others settled (λ m other h struct. absurd (no_instance h home)) here (λ k other m h is. absurd (no_dict_made home h))
   where
     here : (c : ℕ) (other : Value) → slice_get g.homes i ≡ Some (record { sort = InstanceOf c; head = other }) → InstanceAt layout known g (slice_set heap i (Instance class attributes)) blocks2 statics2 c i other
     here c other h =
@@ -248,6 +303,35 @@ instance_changes {layout = layout} {known = known} {g = g} {heap = heap} {blocks
         let number : c ≡ class = ap (λ (x : Home). class_of x.sort) q in
         subst (λ y. InstanceAt layout known g (slice_set heap i (Instance class attributes)) blocks2 statics2 c i y) (sym (ap (λ (x : Home). x.head) q))
         (subst (λ l. InstanceAt layout known g (slice_set heap i (Instance class attributes)) blocks2 statics2 l i head) (sym number) changed)
+
+-- ---- a dict is another
+
+abbrev dict_in : Sort → ℕ
+dict_in (DictOf n) = n
+dict_in other = 0
+
+one_mapping : {a b : Mapping} → Some a ≡ Some b → a ≡ b
+one_mapping h = cc
+
+-- The dict of one object is another.
+pub dict_changes : {layout : Layout} {known : Known} {g ghost : Ghost} {heap : Heap} {left fewer : ℕ} {blocks blocks2 : List (Option Block)} {statics statics2 : List Block} (n i : ℕ) (head : Value) (m : Mapping) (pairs : List (Meant × Meant))
+    → Represents layout known g heap left blocks statics → Grown g ghost → ghost.homes ≡ g.homes → fewer ≤ left → slice_get g.homes i ≡ Some (record { sort = DictOf n; head = head }) → mapping_at layout.mappings n ≡ Some m
+    → length ghost.blocks ≡ length blocks2 → length statics2 ≡ length statics
+    → ((x : Value) (block : Block) → use_of ghost x ≡ Some (Stays block) → use_of g x ≡ Some (Stays block))
+    → ((x : Value) (u : Use) → use_of g x ≡ Some u → (IsOf i u → ⊥) → found blocks2 statics2 x ≡ found blocks statics x)
+    → Settled layout ghost blocks2 statics2
+    → DictAt layout known ghost (slice_set heap i (Mapped pairs)) blocks2 statics2 m i head
+    → Represents layout known ghost (slice_set heap i (Mapped pairs)) fewer blocks2 statics2
+dict_changes {layout = layout} {known = known} {g = g} {ghost = ghost} {heap = heap} {blocks2 = blocks2} {statics2 = statics2} n i head m pairs r grown same less home is made fixed stays others settled changed =
+    object_changes i (Mapped pairs) r grown same less made fixed stays others settled (λ k other h struct. absurd (no_dict h home)) (λ class other h. absurd (no_dict_made h home)) here
+  where
+    here : (k : ℕ) (other : Value) (o : Mapping) → slice_get g.homes i ≡ Some (record { sort = DictOf k; head = other }) → mapping_at layout.mappings k ≡ Some o → DictAt layout known ghost (slice_set heap i (Mapped pairs)) blocks2 statics2 o i other
+    here k other o h found_so =
+        let q = one_home (sym h ∙ home) in
+        let number : k ≡ n = ap (λ (x : Home). dict_in x.sort) q in
+        let same_mapping : o ≡ m = one_mapping (sym found_so ∙ ap (mapping_at layout.mappings) number ∙ is) in
+        subst (λ y. DictAt layout known ghost (slice_set heap i (Mapped pairs)) blocks2 statics2 o i y) (sym (ap (λ (x : Home). x.head) q))
+        (subst (λ l. DictAt layout known ghost (slice_set heap i (Mapped pairs)) blocks2 statics2 l i head) (sym same_mapping) changed)
 
 -- ---- what is apart
 

@@ -10,7 +10,7 @@ use Rattle.rtyper_layout.specs.declared.layout.Layout.{Layout}
 use Rattle.object_laws.specs.Ghost.{Ghost, Grown, Home, Use, use_of}
 use Rattle.object_laws.specs.Known.{Known}
 use Rattle.object_laws.specs.Represents.{Shows}
-use Rattle.object_laws.specs.Values.{Stands, word, flag, byte, text, missing, Holds, Plain, Alone, Items, Listed, Made, Function, Missing, AllHold, End, Next, EachHolds, Empty, More}
+use Rattle.object_laws.specs.Values.{Stands, word, flag, byte, text, missing, Holds, Plain, Alone, Items, Listed, Mapped, Made, Function, Missing, AllHold, End, Next, EachHolds, Empty, More}
 
 pub get_more : {A : Type 0} (xs more : List A) (i : ℕ) (x : A) → slice_get xs i ≡ Some x → slice_get (xs ++ more) i ≡ Some x
 get_more [] more i x h = absurd (cc)
@@ -42,6 +42,7 @@ module _ {old new : Ghost} (grown : Grown old new) where
     holds_grows (Alone k e f) = Alone k e f
     holds_grows {x = x} (Items parts n xs vs e f t is all) = Items parts n xs vs e f t (use_grows x _ is) (all_grow all)
     holds_grows (Listed n i k f t s home) = Listed n i k f t s (home_grows i _ home)
+    holds_grows (Mapped n i m k f t s home) = Mapped n i m k f t s (home_grows i _ home)
     holds_grows (Made class or_none c i e f b home) = Made class or_none c i e f b (home_grows i _ home)
     holds_grows (Function fs or_none f n e h b k l) = Function fs or_none f n e h b k l
     holds_grows (Missing k e f) = Missing k e f

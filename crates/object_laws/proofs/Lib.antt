@@ -2,9 +2,11 @@ pub mod Blocks
 pub mod Bridged
 pub mod Calling
 pub mod Changing
+pub mod Entries
 pub mod Growing
 pub mod Held
 pub mod Made
+pub mod Nothings
 pub mod Parts
 pub mod Passing
 pub mod Present

@@ -1,22 +1,24 @@
--- A list is made, in two blocks, or an instance, in one, and all else is what it was.
+-- A list is made, in two blocks, or an instance or a dict without entries, in one, and all else is what it was.
 use Rattle.std.proofs.Common.{◌≡◌, ◌<◌, ◌≤◌, ◌⊎◌, inl, inr, ℕ, zero, suc, ◌+◌, ◌^◌, true, false, List, [], ◌∷◌, ◌++◌, length, Option, Some, None, refl, sym, ap, ◌∙◌, subst, arith, append_assoc, length-append}
 use Rattle.std.specs.Prelude.{slice_get, slice_index_or}
 use Rattle.std.proofs.lemmas.List.{append-nil}
-use Rattle.csub_tree.specs.State.{Value, Ptr, Static, Block}
+use Rattle.csub_tree.specs.State.{Value, Ptr, Static, Null, Block}
 use Rattle.csub_tree.specs.Layout.{shape_at}
 use Rattle.csub_tree.specs.Statement.{read}
 use Rattle.ll_texts.specs.Texts.{found}
-use Rattle.rpy_tree.specs.Value.{Value as Meant, Object, Listed, Instance, Heap}
+use Rattle.rpy_tree.specs.Value.{Value as Meant, Object, Listed, Mapped, Instance, Heap}
 use Rattle.rpy_meaning.specs.Classes.{named}
 use Rattle.rtyper_layout.specs.declared.classes.Laid.{Laid}
 use Rattle.rtyper_layout.specs.declared.layout.Layout.{Layout}
 use Rattle.rtyper_layout.specs.Types.{word, laid_in}
-use Rattle.rtyper_layout.specs.Layout.{is_list}
+use Rattle.rtyper_layout.specs.declared.dicts.Mapping.{Mapping}
+use Rattle.rtyper_layout.specs.Layout.{is_list, mapping_at}
+use Rattle.object_laws.specs.Dicts.{DictAt, dict_block}
 use Rattle.object_laws.specs.Known.{Known, Standing}
-use Rattle.object_laws.specs.Ghost.{Ghost, Grown, Home, Sort, ListOf, InstanceOf, Use, Stays, Head, Array, Whole, use_of}
+use Rattle.object_laws.specs.Ghost.{Ghost, Grown, Home, Sort, ListOf, InstanceOf, DictOf, Use, Stays, Head, Array, Whole, Table, use_of}
 use Rattle.object_laws.specs.Represents.{Represents, ListAt, InstanceAt, Shows, HasRoom, Settled, is_settled, head_block, array_block, shapes, value_at, set_at}
 use Rattle.object_laws.specs.Values.{EachHolds}
-use Rattle.object_laws.proofs.Changing.{list_kept, instance_kept}
+use Rattle.object_laws.proofs.Changing.{list_kept, instance_kept, dict_kept}
 use Rattle.object_laws.proofs.Growing.{get_more, use_grows, home_grows, each_grows, shows_grows}
 
 -- ---- lists with more behind
@@ -123,8 +125,9 @@ pub object_made : {layout : Layout} {known : Known} {g : Ghost} {heap : Heap} {l
     → Settled layout (with_object g uses home) (blocks ++ more) statics
     → ((n : ℕ) (head : Value) → home ≡ record { sort = ListOf n; head = head } → is_list layout n ≡ true → ListAt layout known (with_object g uses home) (heap ++ object ∷ []) fewer (blocks ++ more) statics n (length heap) head)
     → ((class : ℕ) (head : Value) → home ≡ record { sort = InstanceOf class; head = head } → InstanceAt layout known (with_object g uses home) (heap ++ object ∷ []) (blocks ++ more) statics class (length heap) head)
+    → ((n : ℕ) (head : Value) (m : Mapping) → home ≡ record { sort = DictOf n; head = head } → mapping_at layout.mappings n ≡ Some m → DictAt layout known (with_object g uses home) (heap ++ object ∷ []) (blocks ++ more) statics m (length heap) head)
     → Represents layout known (with_object g uses home) (heap ++ object ∷ []) fewer (blocks ++ more) statics
-object_made {layout = layout} {known = known} {g = g} {heap = heap} {left = left} {fewer = fewer} {blocks = blocks} {statics = statics} object uses home more r less same stays settled list_here instance_here = record {
+object_made {layout = layout} {known = known} {g = g} {heap = heap} {left = left} {fewer = fewer} {blocks = blocks} {statics = statics} object uses home more r less same stays settled list_here instance_here dict_here = record {
   made = length-append g.blocks uses ∙ ap (λ k. k + length uses) r.made ∙ ap (λ k. length blocks + k) same ∙ sym (length-append blocks more);
   fixed = r.fixed;
   homes = length-append g.homes (home ∷ []) ∙ ap (λ k. k + 1) r.homes ∙ sym (length-append heap (object ∷ []));
@@ -136,6 +139,7 @@ object_made {layout = layout} {known = known} {g = g} {heap = heap} {left = left
   exceptions = λ class l h k. home_grows grown class _ (r.exceptions class l h k);
   lists = λ n j head h struct. list_at n j head struct (last_one g.homes home j _ h);
   instances = λ class j head h. instance_at class j head (last_one g.homes home j _ h);
+  dicts = λ n j head m h is. dict_at n j head m is (last_one g.homes home j _ h);
 }
   where
     grown : Grown g (with_object g uses home)
@@ -152,6 +156,10 @@ object_made {layout = layout} {known = known} {g = g} {heap = heap} {left = left
     instance_at class j head (inl k) = instance_kept grown j head (object_is j) (λ x u b h of is. found_more blocks more statics x b is) class (r.instances class j head k)
     instance_at class j head (inr (at, e)) = subst (λ k. InstanceAt layout known (with_object g uses home) (heap ++ object ∷ []) (blocks ++ more) statics class k head) (sym (at ∙ r.homes)) (instance_here class head (sym e))
 
+    dict_at : (n j : ℕ) (head : Value) (m : Mapping) → mapping_at layout.mappings n ≡ Some m → (slice_get g.homes j ≡ Some (record { sort = DictOf n; head = head })) ⊎ ((j ≡ length g.homes) × (record { sort = DictOf n; head = head } ≡ home)) → DictAt layout known (with_object g uses home) (heap ++ object ∷ []) (blocks ++ more) statics m j head
+    dict_at n j head m is (inl k) = dict_kept grown j head (object_is j) (λ x u b h of is. found_more blocks more statics x b is) m (r.dicts n j head m k is)
+    dict_at n j head m is (inr (at, e)) = subst (λ k. DictAt layout known (with_object g uses home) (heap ++ object ∷ []) (blocks ++ more) statics m k head) (sym (at ∙ r.homes)) (dict_here n head m (sym e) is)
+
 -- ---- a list is made
 
 abbrev list_in : Sort → ℕ
@@ -160,6 +168,12 @@ list_in other = 0
 
 no_instance : {n class : ℕ} {x y : Value} {home : Home} → home ≡ record { sort = ListOf n; head = x } → home ≡ record { sort = InstanceOf class; head = y } → ⊥
 no_instance {n = n} {class = class} h k = (let q : ListOf n ≡ InstanceOf class = ap (λ (x : Home). x.sort) (sym h ∙ k) in absurd (cc))
+
+no_dict : {n m : ℕ} {x y : Value} {home : Home} → home ≡ record { sort = ListOf n; head = x } → home ≡ record { sort = DictOf m; head = y } → ⊥
+no_dict {n = n} {m = m} h k = (let q : ListOf n ≡ DictOf m = ap (λ (x : Home). x.sort) (sym h ∙ k) in absurd (cc))
+
+no_dict_made : {class m : ℕ} {x y : Value} {home : Home} → home ≡ record { sort = InstanceOf class; head = x } → home ≡ record { sort = DictOf m; head = y } → ⊥
+no_dict_made {class = class} {m = m} h k = (let q : InstanceOf class ≡ DictOf m = ap (λ (x : Home). x.sort) (sym h ∙ k) in absurd (cc))
 
 -- an array and a head, for the next object
 abbrev pub list_home : Ghost → ℕ → Home
@@ -217,7 +231,7 @@ module _ {layout : Layout} {known : Known} {g : Ghost} {heap : Heap} {left : ℕ
       (settled_more layout g.blocks g.statics g.homes g.homes blocks statics (Array i) (array_block n xs) r.made r.settled (never_settled layout (Array i) (array_block n xs) apart.1)) (never_settled layout (Head i) (head_block n (length vs) (Ptr (length blocks))) apart.0)))
 
   pub list_made : Represents layout known ghost (heap ++ Listed vs ∷ []) fewer blocks2 statics
-  list_made = object_made (Listed vs) (Array i ∷ Head i ∷ []) (list_home g n) (Some (array_block n xs) ∷ Some (head_block n (length vs) (Ptr (length blocks))) ∷ []) r less refl kept_stays settled here (λ class head h. absurd (no_instance refl h))
+  list_made = object_made (Listed vs) (Array i ∷ Head i ∷ []) (list_home g n) (Some (array_block n xs) ∷ Some (head_block n (length vs) (Ptr (length blocks))) ∷ []) r less refl kept_stays settled here (λ class head h. absurd (no_instance refl h)) (λ k head m h is. absurd (no_dict refl h))
     where
       here : (m : ℕ) (head : Value) → list_home g n ≡ record { sort = ListOf m; head = head } → is_list layout m ≡ true → ListAt layout known ghost (heap ++ Listed vs ∷ []) fewer blocks2 statics m i head
       here m head e is =
@@ -276,9 +290,72 @@ module _ {layout : Layout} {known : Known} {g : Ghost} {heap : Heap} {left : ℕ
   }
 
   pub instance_made : Represents layout known then (heap ++ Instance class attributes ∷ []) fewer (blocks ++ Some block ∷ []) statics
-  instance_made = object_made (Instance class attributes) (Whole at ∷ []) (instance_home g class) (Some block ∷ []) r less refl instance_stays (settled_more layout g.blocks g.statics g.homes then.homes blocks statics (Whole at) block r.made r.settled (never_settled layout (Whole at) block apart)) (λ n head h struct. absurd (no_instance h refl)) here
+  instance_made = object_made (Instance class attributes) (Whole at ∷ []) (instance_home g class) (Some block ∷ []) r less refl instance_stays (settled_more layout g.blocks g.statics g.homes then.homes blocks statics (Whole at) block r.made r.settled (never_settled layout (Whole at) block apart)) (λ n head h struct. absurd (no_instance h refl)) here (λ k head m h is. absurd (no_dict_made refl h))
     where
       here : (c : ℕ) (head : Value) → instance_home g class ≡ record { sort = InstanceOf c; head = head } → InstanceAt layout known then (heap ++ Instance class attributes ∷ []) (blocks ++ Some block ∷ []) statics c at head
       here c head e =
           subst (λ y. InstanceAt layout known then (heap ++ Instance class attributes ∷ []) (blocks ++ Some block ∷ []) statics c at y) (ap (λ (x : Home). x.head) e)
           (subst (λ l. InstanceAt layout known then (heap ++ Instance class attributes ∷ []) (blocks ++ Some block ∷ []) statics l at (Ptr (length g.blocks))) (ap (λ (x : Home). class_of x.sort) e) new_instance)
+
+-- ---- a dict without entries is made
+
+-- one block, for the next object
+abbrev pub dict_home : Ghost → ℕ → Home
+dict_home g n = record { sort = DictOf n; head = Ptr (length g.blocks) }
+
+abbrev pub with_dict : Ghost → ℕ → ℕ → Ghost
+with_dict g n i = with_object g (Table i ∷ []) (dict_home g n)
+
+pub dict_grown : (g : Ghost) (n i : ℕ) → Grown g (with_dict g n i)
+dict_grown g n i = object_grown g (Table i ∷ []) (dict_home g n)
+
+abbrev dict_in : Sort → ℕ
+dict_in (DictOf n) = n
+dict_in other = 0
+
+one_mapping : {a b : Mapping} → Some a ≡ Some b → a ≡ b
+one_mapping h = cc
+
+module _ {layout : Layout} {known : Known} {g : Ghost} {heap : Heap} {left : ℕ} {blocks : List (Option Block)} {statics : List Block} (r : Represents layout known g heap left blocks statics) (n fewer : ℕ) (m : Mapping)
+    (apart : is_settled layout m.dict ≡ false) (less : fewer ≤ left) (is_mapping : mapping_at layout.mappings n ≡ Some m) where
+  abbrev place : ℕ
+  place = length heap
+
+  abbrev with_one : Ghost
+  with_one = with_dict g n place
+
+  abbrev empty_dict : Block
+  empty_dict = dict_block m.dict 0 0 Null Null
+
+  dict_stays : (x : Value) (b : Block) → use_of with_one x ≡ Some (Stays b) → use_of g x ≡ Some (Stays b)
+  dict_stays (Ptr k) b h = by (last_one g.blocks (Table place) k (Stays b) h)
+    where
+      by : (slice_get g.blocks k ≡ Some (Stays b)) ⊎ ((k ≡ length g.blocks) × (Stays b ≡ Table place)) → slice_get g.blocks k ≡ Some (Stays b)
+      by (inl h) = h
+      by (inr (h, e)) = absurd (cc)
+  dict_stays (Static s) b h = h
+  dict_stays _ b h = absurd (cc)
+
+  new_dict : DictAt layout known with_one (heap ++ Mapped [] ∷ []) (blocks ++ Some empty_dict ∷ []) statics m place (Ptr (length g.blocks))
+  new_dict = record {
+    pairs = [];
+    object = get_first heap [] (Mapped []) place refl;
+    places = 0;
+    one = Null;
+    two = Null;
+    head_use = get_first g.blocks [] (Table place) (length g.blocks) refl;
+    head_is = index_first blocks [] (Some empty_dict) (length g.blocks) r.made;
+    arrays = inl (record { empty = refl; no_places = refl; first_null = refl; second_null = refl });
+    apart = λ i j v w h k e. absurd (cc);
+    few = omega arith;
+  }
+
+  pub dict_made : Represents layout known with_one (heap ++ Mapped [] ∷ []) fewer (blocks ++ Some empty_dict ∷ []) statics
+  dict_made = object_made (Mapped []) (Table place ∷ []) (dict_home g n) (Some empty_dict ∷ []) r less refl dict_stays (settled_more layout g.blocks g.statics g.homes with_one.homes blocks statics (Table place) empty_dict r.made r.settled (never_settled layout (Table place) empty_dict apart)) (λ k head h struct. absurd (no_dict h refl)) (λ class head h. absurd (no_dict_made h refl)) here
+    where
+      here : (k : ℕ) (head : Value) (o : Mapping) → dict_home g n ≡ record { sort = DictOf k; head = head } → mapping_at layout.mappings k ≡ Some o → DictAt layout known with_one (heap ++ Mapped [] ∷ []) (blocks ++ Some empty_dict ∷ []) statics o place head
+      here k head o e is =
+          let number : n ≡ k = ap (λ (x : Home). dict_in x.sort) e in
+          let same : m ≡ o = one_mapping (sym is_mapping ∙ ap (mapping_at layout.mappings) number ∙ is) in
+          subst (λ y. DictAt layout known with_one (heap ++ Mapped [] ∷ []) (blocks ++ Some empty_dict ∷ []) statics o place y) (ap (λ (x : Home). x.head) e)
+          (subst (λ l. DictAt layout known with_one (heap ++ Mapped [] ∷ []) (blocks ++ Some empty_dict ∷ []) statics l place (Ptr (length g.blocks))) same new_dict)

@@ -15,7 +15,8 @@ use Rattle.rtyper_layout.specs.declared.kind.Kind.{Kind}
 use Rattle.rtyper_layout.specs.declared.kind.Kind.TheVariants as kind
 use Rattle.rtyper_layout.specs.declared.layout.Layout.{Layout}
 use Rattle.rtyper_layout.specs.Kinds.{kind_seen}
-use Rattle.rtyper_layout.specs.Layout.{is_list}
+use Rattle.rtyper_layout.specs.declared.dicts.Mapping.{Mapping}
+use Rattle.rtyper_layout.specs.Layout.{is_list, mapping_at}
 use Rattle.rtyper_layout.specs.Types.{type_of, type_seen, type_step, root_of, laid_in}
 use Rattle.rtyper_op.specs.Lowering.{never_comes}
 use Rattle.rtyper_list.specs.Operands.{of_list}
@@ -25,10 +26,10 @@ use Rattle.lower_laws.proofs.Doing.{WordIs}
 use Rattle.lower_laws.proofs.Stayed.{stays_comes as plainly_comes, stays_typed as plainly_typed, stays_there as plainly_there, simple_typed, simple_apart}
 use Rattle.lower_laws.proofs.Typing.{place_of_words, place_of_strings, place_of_texts}
 use Rattle.object_laws.specs.Known.{Known}
-use Rattle.object_laws.specs.Ghost.{Ghost, Use, ListOf, InstanceOf, use_of}
-use Rattle.object_laws.specs.Staying.{Stays, Plainly, AsList, AsMaybe, AsInstance, AsFunction, IsWithin, AreAmong}
+use Rattle.object_laws.specs.Ghost.{Ghost, Use, ListOf, InstanceOf, DictOf, use_of}
+use Rattle.object_laws.specs.Staying.{Stays, Plainly, AsList, AsMaybe, AsDict, AsMaybeDict, AsInstance, AsFunction, IsWithin, AreAmong}
 use Rattle.object_laws.specs.Represents.{Represents}
-use Rattle.object_laws.specs.Values.{Stands, word, flag, byte, text, missing, Holds, Plain, Alone, Items, Listed, Made, Function, Missing, EachHolds, Empty, More, may_be_missing, is_one_of}
+use Rattle.object_laws.specs.Values.{Stands, word, flag, byte, text, missing, Holds, Plain, Alone, Items, Listed, Mapped, Made, Function, Missing, EachHolds, Empty, More, may_be_missing, of_dict, is_one_of}
 
 -- ---- kinds
 
@@ -42,8 +43,19 @@ simple_is_no_list kind.List h simple = absurd (cc)
 simple_is_no_list kind.MaybeList h simple = absurd (cc)
 simple_is_no_list _ h simple = absurd (cc)
 
+pub simple_is_no_dict : (k : Kind) → of_dict k ≡ true → is_simple k ≡ true → ⊥
+simple_is_no_dict kind.Dict h simple = absurd (cc)
+simple_is_no_dict kind.MaybeDict h simple = absurd (cc)
+simple_is_no_dict _ h simple = absurd (cc)
+
+dict_is_no_list : (k : Kind) → of_dict k ≡ true → of_list k ≡ true → ⊥
+dict_is_no_list kind.Dict h l = absurd (cc)
+dict_is_no_list kind.MaybeDict h l = absurd (cc)
+dict_is_no_list _ h l = absurd (cc)
+
 pub simple_is_there : (k : Kind) → may_be_missing k ≡ true → is_simple k ≡ true → ⊥
 simple_is_there kind.MaybeList h simple = absurd (cc)
+simple_is_there kind.MaybeDict h simple = absurd (cc)
 simple_is_there kind.MaybeInstance h simple = absurd (cc)
 simple_is_there kind.MaybeFunction h simple = absurd (cc)
 simple_is_there _ h simple = absurd (cc)
@@ -56,6 +68,11 @@ missing_list : (k : Kind) → of_list k ≡ true → may_be_missing k ≡ true �
 missing_list kind.MaybeList h may = refl
 missing_list kind.List h may = absurd (cc)
 missing_list _ h may = absurd (cc)
+
+missing_dict : (k : Kind) → of_dict k ≡ true → may_be_missing k ≡ true → k ≡ kind.MaybeDict
+missing_dict kind.MaybeDict h may = refl
+missing_dict kind.Dict h may = absurd (cc)
+missing_dict _ h may = absurd (cc)
 
 not_of_list : (seen : Option Element) (k : Kind) → kind_seen seen ≡ k → of_list k ≡ false → of_list (kind_seen seen) ≡ true → ⊥
 not_of_list seen k e other h = (let q : false ≡ true = sym other ∙ ap of_list (sym e) ∙ h in absurd (cc))
@@ -114,6 +131,7 @@ module _ {layout : Layout} {known : Known} {g : Ghost} {seen : Option Element} {
   list_or_none h (Alone k e f) = absurd (not_of_list seen kind.Nothing k refl h)
   list_or_none h (Items parts n xs vs e f t is all) = absurd (not_of_list seen kind.Tuple (ap kind_seen e) refl h)
   list_or_none h (Listed n i k f t s home) = inl (record { n = n; i = i; high = f; typed = t; struct = s; home = home })
+  list_or_none h (Mapped n i m k f t s home) = absurd (dict_is_no_list (kind_seen seen) k h)
   list_or_none h (Made class r c i e f b home) = absurd (no_list_made seen class r e h)
   list_or_none h (Function fs r f n e k b l y) = absurd (no_list_called seen fs r e h)
   list_or_none h (Missing k e f) = inr (record { may = missing_list (kind_seen seen) h k; low = e; high = f })
@@ -125,6 +143,7 @@ module _ {layout : Layout} {known : Known} {g : Ghost} {seen : Option Element} {
   plain_stands plain (Alone k e f) = absurd (plain_only seen kind.Nothing k refl plain)
   plain_stands plain (Items parts n xs vs e f t is all) = absurd (plain_only seen kind.Tuple (ap kind_seen e) refl plain)
   plain_stands plain (Listed n i k f t s home) = absurd (plain_is_no_list (kind_seen seen) k plain)
+  plain_stands plain (Mapped n i m k f t s home) = absurd (simple_is_no_dict (kind_seen seen) k (plain_is_simple (kind_seen seen) plain))
   plain_stands plain (Made class r c i e f b home) = absurd (not_simple_made seen class r e (plain_is_simple (kind_seen seen) plain))
   plain_stands plain (Function fs r f n e k b l y) = absurd (not_simple_called seen fs r e (plain_is_simple (kind_seen seen) plain))
   plain_stands plain (Missing k e f) = absurd (simple_is_there (kind_seen seen) k (plain_is_simple (kind_seen seen) plain))
@@ -166,6 +185,10 @@ no_instance_listed : (r : Bool) → of_list (missing_instance r) ≡ true → �
 no_instance_listed true h = absurd (cc)
 no_instance_listed false h = absurd (cc)
 
+no_instance_dict : (r : Bool) → of_dict (missing_instance r) ≡ true → ⊥
+no_instance_dict true h = absurd (cc)
+no_instance_dict false h = absurd (cc)
+
 no_instance_plain : (r : Bool) → is_plain (missing_instance r) ≡ true → ⊥
 no_instance_plain true h = absurd (cc)
 no_instance_plain false h = absurd (cc)
@@ -186,6 +209,7 @@ module _ {layout : Layout} {known : Known} {g : Ghost} {seen : Option Element} {
   instance_or_none class r h (Alone k e f) = absurd (no_instance_nothing r (sym (ap kind_seen h ∙ instance_kind class r) ∙ k))
   instance_or_none class r h (Items parts n xs vs e f t is all) = absurd (no_instance_tuple class r parts (sym h ∙ e))
   instance_or_none class r h (Listed n i k f t s home) = absurd (no_instance_listed r (ap of_list (sym (ap kind_seen h ∙ instance_kind class r)) ∙ k))
+  instance_or_none class r h (Mapped n i m k f t s home) = absurd (no_instance_dict r (ap of_dict (sym (ap kind_seen h ∙ instance_kind class r)) ∙ k))
   instance_or_none class r h (Made other s c i e f b home) = (let q : class ≡ other = ap class_in (sym h ∙ e) in inl (record { c = c; i = i; high = f; below = subst (λ d. is_below known.program.classes c d ≡ true) (sym q) b; home = home }))
   instance_or_none class r h (Function fs s f n e k b l y) = absurd (no_instance_function class r s fs (sym h ∙ e))
   instance_or_none class r h (Missing k e f) =
@@ -222,6 +246,10 @@ no_function_listed : (r : Bool) → of_list (missing_function r) ≡ true → �
 no_function_listed true h = absurd (cc)
 no_function_listed false h = absurd (cc)
 
+no_function_dict : (r : Bool) → of_dict (missing_function r) ≡ true → ⊥
+no_function_dict true h = absurd (cc)
+no_function_dict false h = absurd (cc)
+
 no_function_plain : (r : Bool) → is_plain (missing_function r) ≡ true → ⊥
 no_function_plain true h = absurd (cc)
 no_function_plain false h = absurd (cc)
@@ -239,11 +267,38 @@ module _ {layout : Layout} {known : Known} {g : Ghost} {seen : Option Element} {
   function_or_none fs r h (Alone k e f) = absurd (no_function_nothing r (sym (ap kind_seen h ∙ function_kind fs r) ∙ k))
   function_or_none fs r h (Items parts n xs vs e f t is all) = absurd (no_function_tuple fs r parts (sym h ∙ e))
   function_or_none fs r h (Listed n i k f t s home) = absurd (no_function_listed r (ap of_list (sym (ap kind_seen h ∙ function_kind fs r)) ∙ k))
+  function_or_none fs r h (Mapped n i m k f t s home) = absurd (no_function_dict r (ap of_dict (sym (ap kind_seen h ∙ function_kind fs r)) ∙ k))
   function_or_none fs r h (Made class s c i e f b home) = absurd (no_instance_function class s r fs (sym e ∙ h))
   function_or_none fs r h (Function gs s f n e k b l y) = (let q : fs ≡ gs = ap functions_in (sym h ∙ e) in inl (record { f = f; n = n; high = k; one = subst (λ hs. is_one_of hs f ≡ true) (sym q) b; graph = l; low = y }))
   function_or_none fs r h (Missing k e f) =
       let may : r ≡ true = function_missing r (ap may_be_missing (sym (ap kind_seen h ∙ function_kind fs r)) ∙ k) in
       inr (may, record { may = ap kind_seen h ∙ function_kind fs r ∙ ap missing_function may; low = e; high = f })
+
+-- ---- dicts
+
+-- the value is a dict that is there
+pub record Dicting (layout : Layout) (known : Known) (g : Ghost) (seen : Option Element) (x : Value) (v : Meant) : Type 0 where
+  pub n : ℕ
+  pub i : ℕ
+  pub m : Mapping
+  pub high : v ≡ Ref i
+  pub typed : type_seen layout seen ≡ type.Ptr n
+  pub struct : mapping_at layout.mappings n ≡ Some m
+  pub home : slice_get g.homes i ≡ Some (record { sort = DictOf n; head = x })
+
+not_of_dict : (seen : Option Element) (k : Kind) → kind_seen seen ≡ k → of_dict k ≡ false → of_dict (kind_seen seen) ≡ true → ⊥
+not_of_dict seen k e other h = (let q : false ≡ true = sym other ∙ ap of_dict (sym e) ∙ h in absurd (cc))
+
+module _ {layout : Layout} {known : Known} {g : Ghost} {seen : Option Element} {x : Value} {v : Meant} where
+  pub dict_or_none : of_dict (kind_seen seen) ≡ true → Holds layout known g seen x v → Dicting layout known g seen x v ⊎ Gone kind.MaybeDict seen x v
+  dict_or_none h (Plain p s) = absurd (simple_is_no_dict (kind_seen seen) h (plain_is_simple (kind_seen seen) p))
+  dict_or_none h (Alone k e f) = absurd (not_of_dict seen kind.Nothing k refl h)
+  dict_or_none h (Items parts n xs vs e f t is all) = absurd (not_of_dict seen kind.Tuple (ap kind_seen e) refl h)
+  dict_or_none h (Listed n i k f t s home) = absurd (dict_is_no_list (kind_seen seen) h k)
+  dict_or_none h (Mapped n i m k f t s home) = inl (record { n = n; i = i; m = m; high = f; typed = t; struct = s; home = home })
+  dict_or_none h (Made class r c i e f b home) = absurd (no_instance_dict r (ap of_dict (sym (ap kind_seen e ∙ instance_kind class r)) ∙ h))
+  dict_or_none h (Function fs r f n e k b l y) = absurd (no_function_dict r (ap of_dict (sym (ap kind_seen e ∙ function_kind fs r)) ∙ h))
+  dict_or_none h (Missing k e f) = inr (record { may = missing_dict (kind_seen seen) h k; low = e; high = f })
 
 -- ---- types
 
@@ -260,6 +315,8 @@ module _ {layout : Layout} {known : Known} {from to : Option Element} where
   stays_typed (Plainly s) = plainly_typed s
   stays_typed (AsList n f t k l) = f ∙ sym t
   stays_typed (AsMaybe n f t k l) = f ∙ sym t
+  stays_typed (AsDict n f t k l) = f ∙ sym t
+  stays_typed (AsMaybeDict n f t k l) = f ∙ sym t
   stays_typed (AsInstance n a b r s f t k l m i) = f ∙ sym t
   stays_typed (AsFunction fs gs r s f t m i) = ap (type_seen layout) f ∙ function_type layout fs r ∙ sym (ap (type_seen layout) t ∙ function_type layout gs s)
 
@@ -267,6 +324,8 @@ module _ {layout : Layout} {known : Known} {from to : Option Element} where
   stays_there (Plainly s) h = plainly_there s h
   stays_there (AsList n f t k l) h = (let q : type.Ptr n ≡ type.Void = sym t ∙ h in absurd (cc))
   stays_there (AsMaybe n f t k l) h = (let q : type.Ptr n ≡ type.Void = sym t ∙ h in absurd (cc))
+  stays_there (AsDict n f t k l) h = (let q : type.Ptr n ≡ type.Void = sym t ∙ h in absurd (cc))
+  stays_there (AsMaybeDict n f t k l) h = (let q : type.Ptr n ≡ type.Void = sym t ∙ h in absurd (cc))
   stays_there (AsInstance n a b r s f t k l m i) h = (let q : type.Ptr n ≡ type.Void = sym t ∙ h in absurd (cc))
   stays_there (AsFunction fs gs r s f t m i) h = (let q : type.Fn ≡ type.Void = sym (ap (type_seen layout) t ∙ function_type layout gs s) ∙ h in absurd (cc))
 
@@ -282,6 +341,8 @@ pub stays_comes : {layout : Layout} {known : Known} {from to : Option Element} �
 stays_comes (Plainly s) = plainly_comes s
 stays_comes (AsList n f t k l) = ap never_comes k
 stays_comes (AsMaybe n f t k l) = ap never_comes k
+stays_comes (AsDict n f t k l) = ap never_comes k
+stays_comes (AsMaybeDict n f t k l) = ap never_comes k
 stays_comes (AsInstance n a b r s f t k l m i) = ap (λ e. never_comes (kind_seen e)) k ∙ made_comes a r
 stays_comes (AsFunction fs gs r s f t m i) = ap (λ e. never_comes (kind_seen e)) f ∙ called_comes fs r
 
@@ -291,6 +352,7 @@ module _ {layout : Layout} {known : Known} {g : Ghost} {x : Value} {v : Meant} w
   same_held k simple f t (Alone h e n) = Alone (t ∙ sym f ∙ h) e n
   same_held k simple f t (Items parts n xs vs e h r is all) = absurd (simple_apart k simple (sym f ∙ ap kind_seen e))
   same_held k simple f t (Listed n i h e r s home) = absurd (simple_is_no_list k (ap of_list (sym f) ∙ h) simple)
+  same_held k simple f t (Mapped n i m h e r s home) = absurd (simple_is_no_dict k (ap of_dict (sym f) ∙ h) simple)
   same_held {from = from} k simple f t (Made class r c i e h b home) = absurd (not_simple_made from class r e (ap is_simple f ∙ simple))
   same_held {from = from} k simple f t (Function fs r h n e l b m y) = absurd (not_simple_called from fs r e (ap is_simple f ∙ simple))
   same_held k simple f t (Missing h e n) = absurd (simple_is_there k (ap may_be_missing (sym f) ∙ h) simple)
@@ -300,6 +362,13 @@ module _ {layout : Layout} {known : Known} {g : Ghost} {x : Value} {v : Meant} w
     where
       by : Listing layout known g from x v ⊎ Absent from x v → Holds layout known g to x v
       by (inl it) = Listed it.n it.i l it.high (sym same ∙ it.typed) it.struct it.home
+      by (inr gone) = Missing (ap may_be_missing (may gone.may)) gone.low gone.high
+
+  dict_stays : {from to : Option Element} → of_dict (kind_seen from) ≡ true → of_dict (kind_seen to) ≡ true → type_seen layout from ≡ type_seen layout to → (kind_seen from ≡ kind.MaybeDict → kind_seen to ≡ kind.MaybeDict) → Holds layout known g from x v → Holds layout known g to x v
+  dict_stays {from = from} {to = to} h l same may held = by (dict_or_none h held)
+    where
+      by : Dicting layout known g from x v ⊎ Gone kind.MaybeDict from x v → Holds layout known g to x v
+      by (inl it) = Mapped it.n it.i it.m l it.high (sym same ∙ it.typed) it.struct it.home
       by (inr gone) = Missing (ap may_be_missing (may gone.may)) gone.low gone.high
 
   instance_stays : {from to : Option Element} (a b : ℕ) (r s : Bool) → from ≡ Some (element.Instance a r) → to ≡ Some (element.Instance b s) → (r ≡ true → s ≡ true) → IsWithin known a b → Holds layout known g from x v → Holds layout known g to x v
@@ -322,6 +391,8 @@ module _ {layout : Layout} {known : Known} {g : Ghost} {x : Value} {v : Meant} w
   stays_held (Plainly (Whole n e k t)) held = subst (λ seen. Holds layout known g seen x v) e held
   stays_held (AsList n f t k l) held = list_stays (ap of_list k) l (f ∙ sym t) (λ may. (let q : kind.List ≡ kind.MaybeList = sym k ∙ may in absurd (cc))) held
   stays_held (AsMaybe n f t k l) held = list_stays (ap of_list k) (ap of_list l) (f ∙ sym t) (λ may. l) held
+  stays_held (AsDict n f t k l) held = dict_stays (ap of_dict k) l (f ∙ sym t) (λ may. (let q : kind.Dict ≡ kind.MaybeDict = sym k ∙ may in absurd (cc))) held
+  stays_held (AsMaybeDict n f t k l) held = dict_stays (ap of_dict k) (ap of_dict l) (f ∙ sym t) (λ may. l) held
   stays_held (AsInstance n a b r s f t k l m within) held = instance_stays a b r s k l m within held
   stays_held (AsFunction fs gs r s f t m among) held = function_stays fs gs r s f t m among held
 
@@ -344,6 +415,7 @@ held_set r (Plain p s) = stands_set s
 held_set r (Alone k e f) = ap is_unset e
 held_set {g = g} {x = x} r (Items parts n xs vs e f t is all) = use_set g x _ is
 held_set {g = g} {x = x} r (Listed n i k f t s home) = use_set g x _ (r.lists n i x home s).head_use
+held_set {g = g} {x = x} r (Mapped n i m k f t s home) = use_set g x _ (r.dicts n i x m home s).head_use
 held_set {g = g} {x = x} r (Made class or_none c i e f b home) = use_set g x _ (r.instances c i x home).head_use
 held_set r (Function fs or_none f n e k b l y) = ap is_unset y
 held_set r (Missing k e f) = ap is_unset e

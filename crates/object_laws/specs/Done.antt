@@ -1,6 +1,6 @@
 -- When the low-level operations of an operation do what it does with a heap that blocks and statics represent.
-use Rattle.std.specs.Prelude.{◌≡◌, ◌≢◌, ◌<◌, ◌≤◌, ℕ, ◌+◌, true, false, List, [], ◌∷◌, ◌++◌, length, slice_get, Option, Some, None}
-use Rattle.rpy_tree.specs.Value.{Value as Meant, Ref, Object, Listed, Heap}
+use Rattle.std.specs.Prelude.{◌≡◌, ◌≢◌, ◌<◌, ◌≤◌, ℕ, ◌+◌, ◌*◌, true, false, List, [], ◌∷◌, ◌++◌, length, slice_get, Option, Some, None}
+use Rattle.rpy_tree.specs.Value.{Value as Meant, Ref, Object, Listed, Mapped, Heap}
 use Rattle.rpy_meaning.specs.declared.row.Covers.{Covers}
 use Rattle.rpy_meaning.specs.declared.row.RowOp.{RowOp}
 use Rattle.rpy_meaning.specs.Operations.{op}
@@ -20,7 +20,9 @@ use Rattle.ll_build.specs.declared.needs.Numbers.{Numbers}
 use Rattle.ll_texts.specs.Follows.{FailedAs}
 use Rattle.rtyper_layout.specs.declared.layout.Layout.{Layout}
 use Rattle.rtyper_layout.specs.declared.classes.Laid.{Laid}
-use Rattle.rtyper_layout.specs.Layout.{is_list}
+use Rattle.rtyper_layout.specs.declared.dicts.Mapping.{Mapping}
+use Rattle.rtyper_layout.specs.Dicts.{first, second}
+use Rattle.rtyper_layout.specs.Layout.{is_list, mapping_at}
 use Rattle.rtyper_layout.specs.Types.{word, laid_in}
 use Rattle.rtyper_data.specs.Seen.{Around, Operand, Place, Writing}
 use Rattle.rtyper_data.specs.declared.found.Found.{Found}
@@ -33,17 +35,18 @@ use Rattle.object_laws.specs.Known.{Known}
 use Rattle.object_laws.specs.Represents.{Represents, shapes, is_settled}
 use Rattle.object_laws.specs.Values.{Holds, Given}
 
--- the items of a list
+-- the items of a list; each pair of a dict counts for three
 abbrev pub items_in : Option Object → ℕ
 items_in (Some (Listed vs)) = length vs
+items_in (Some (Mapped pairs)) = 3 * length pairs
 items_in other = 0
 
 abbrev pub items_of : Heap → Meant → ℕ
 items_of heap (Ref r) = items_in (slice_get heap r)
 items_of heap other = 0
 
--- How many references may be written into blocks: one for each operand, those of the lists among them, whose arrays may be made anew, and
--- that of an array.
+-- How many references may be written into blocks: one for each operand, those of the lists and dicts among them, whose arrays may be made
+-- anew, and that of an array.
 abbrev pub references : Heap → List Meant → ℕ
 references heap [] = 1
 references heap (v ∷ vs) = 1 + (items_of heap v + references heap vs)
@@ -76,14 +79,22 @@ Follows blocks known around place p args s rest e frames core g raised most belo
 Follows blocks known around place p args s rest e frames core g raised most below w (Enters function values instead w') = ⊥
 Follows blocks known around place p args s rest e frames core g raised most below w Bad = Unit {0}
 
+pub record HasDict (p : LlProgram) (m : Mapping) : Type 0 where
+  pub head : shape_at (shapes_of p.structs) m.dict ≡ shape_over m.dict 4 None
+  pub first : shape_at (shapes_of p.structs) (first m) ≡ shape_over (first m) 1 None
+  pub second : shape_at (shapes_of p.structs) (second m) ≡ shape_over (second m) 1 None
+
 -- What a program has of a layout: the structs of strings and tuples; those of lists, without bases: a length and an array, and the array,
--- which has a length; and each struct in its shape. The structs of lists and instances are not those of strings and tuples.
+-- which has a length; those of dicts, with four fields, and their two arrays; and each struct in its shape. The structs of lists, dicts and
+-- instances are not those of strings and tuples.
 pub record HasLayout (p : LlProgram) (layout : Layout) : Type 0 where
   pub plain : HasStructs p layout
   pub heads : (n : ℕ) → is_list layout n ≡ true → shape_at (shapes_of p.structs) n ≡ shape_over n 2 None
   pub arrays : (n : ℕ) → is_list layout n ≡ true → shape_at (shapes_of p.structs) (word (n + 1)) ≡ shape_over (word (n + 1)) 1 None
+  pub dicts : (n : ℕ) (m : Mapping) → mapping_at layout.mappings n ≡ Some m → HasDict p m
   pub shapes : (n : ℕ) → n < length layout.structs → shape_at (shapes_of p.structs) n ≡ shape_at (shapes layout) n
   pub lists_apart : (n : ℕ) → is_list layout n ≡ true → (is_settled layout n ≡ false) × (is_settled layout (word (n + 1)) ≡ false)
+  pub dicts_apart : (n : ℕ) (m : Mapping) → mapping_at layout.mappings n ≡ Some m → (is_settled layout m.dict ≡ false) × (is_settled layout (first m) ≡ false) × (is_settled layout (second m) ≡ false)
   pub classes_apart : (class : ℕ) (l : Laid) → laid_in layout.classes class ≡ Some l → is_settled layout l.own ≡ false
 
 -- each is asked for in turn and stands at its number, where `Has` says when one does

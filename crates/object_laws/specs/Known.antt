@@ -20,11 +20,13 @@ pub record Vtable : Type 0 where
 abbrev pub vtable_block : ℕ → Vtable → Block
 vtable_block n v = record { kind = n; fields = Word (pos v.number) ∷ v.methods; items = v.name }
 
--- The program; what is known of the items of the lists of a struct; where the attributes of a class and of its bases stand; the vtable of
--- a class; the one instance of a builtin exception class; the graph of a function, where it has one; and the statics that are known to stay.
+-- The program; what is known of the items of the lists of a struct, or of the values of its dicts, and of the keys of these; where the
+-- attributes of a class and of its bases stand; the vtable of a class; the one instance of a builtin exception class; the graph of
+-- a function, where it has one; and the statics that are known to stay.
 pub record Known : Type 0 where
   pub program : Program
   pub items : ℕ → Option Element
+  pub keys : ℕ → Option Element
   pub attribute : ℕ → List ℕ → Option Standing
   pub vtable : ℕ → Vtable
   pub exception : ℕ → Value

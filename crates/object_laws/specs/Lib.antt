@@ -1,4 +1,5 @@
 pub mod Bridged
+pub mod Dicts
 pub mod Done
 pub mod Ghost
 pub mod Known

@@ -1,5 +1,5 @@
--- When blocks and statics are the objects of a heap: each list has a head, with its length and its array, and each instance has its class
--- and its attributes.
+-- When blocks and statics are the objects of a heap: each list has a head, with its length and its array, each dict its entries, and each
+-- instance its class and its attributes.
 use Rattle.std.specs.Prelude.{◌≡◌, ◌<◌, ◌^◌, ℕ, ◌+◌, ◌*◌, ◌==◌, ◌||◌, pos, Bool, true, false, List, [], ◌∷◌, ◌++◌, length, Option, Some, None, slice_get}
 use Rattle.ann_element.specs.declared.element.Element.{Element}
 use Rattle.csub_tree.specs.State.{Value, Word, Flag, Static, Block}
@@ -14,11 +14,13 @@ use Rattle.rpy_meaning.specs.Classes.{named}
 use Rattle.rpy_meaning.specs.Operations.{builtin_classes}
 use Rattle.rtyper_layout.specs.declared.classes.Laid.{Laid}
 use Rattle.rtyper_layout.specs.declared.layout.Layout.{Layout}
-use Rattle.rtyper_layout.specs.Layout.{is_list, is_tuple}
+use Rattle.rtyper_layout.specs.Layout.{is_list, is_tuple, mapping_at}
 use Rattle.rtyper_layout.specs.Types.{word, laid_in}
-use Rattle.object_laws.specs.Ghost.{Ghost, use_of, Stays, Head, Array, Whole, ListOf, InstanceOf}
+use Rattle.rtyper_layout.specs.declared.dicts.Mapping.{Mapping}
+use Rattle.object_laws.specs.Dicts.{DictAt}
+use Rattle.object_laws.specs.Ghost.{Ghost, use_of, Stays, Head, Array, Whole, ListOf, InstanceOf, DictOf}
 use Rattle.object_laws.specs.Known.{Known, Standing, vtable_block}
-use Rattle.object_laws.specs.Values.{Holds, EachHolds}
+use Rattle.object_laws.specs.Values.{Holds, EachHolds, AreEmpty}
 
 -- ---- lists
 
@@ -28,11 +30,6 @@ head_block n count array = record { kind = n; fields = Word (pos count) ∷ arra
 
 abbrev pub array_block : ℕ → List Value → Block
 array_block n xs = record { kind = word (n + 1); fields = Word (pos (length xs)) ∷ []; items = xs }
-
--- they refer to no block
-abbrev pub AreEmpty : List Value → Type 0
-AreEmpty [] = Unit {0}
-AreEmpty (x ∷ xs) = (is_reference x ≡ false) × AreEmpty xs
 
 -- So many items, and one more for each step that is left; with half as many spare places, and some, they are still counted by a word.
 abbrev pub HasRoom : ℕ → ℕ → Type 0
@@ -104,9 +101,9 @@ abbrev pub Settled : Layout → Ghost → List (Option Block) → List Block →
 Settled layout g blocks statics = (x : Value) (block : Block) → found blocks statics x ≡ Some block → is_settled layout block.kind ≡ true → use_of g x ≡ Some (Stays block)
 
 -- Each object has a home, and each block and static a use. What stays is what it is, as strings and tuples do; what has the home of a list
--- is one, and what has that of an instance is one. Some statics are known to stay. Each class that has structs has its vtable, and the first objects are the instances of the builtin exception
--- classes. The steps that are left are few enough for every cost to be a word. The blocks of two objects are apart, since each is for one
--- of them.
+-- is one, what has that of an instance is one, and what has that of a dict. Some statics are known to stay. Each class that has structs has
+-- its vtable, and the first objects are the instances of the builtin exception classes. The steps that are left are few enough for every
+-- cost to be a word. The blocks of two objects are apart, since each is for one of them.
 pub record Represents (layout : Layout) (known : Known) (g : Ghost) (heap : Heap) (left : ℕ) (blocks : List (Option Block)) (statics : List Block) : Type 0 where
   pub made : length g.blocks ≡ length blocks
   pub fixed : length g.statics ≡ length statics
@@ -119,3 +116,4 @@ pub record Represents (layout : Layout) (known : Known) (g : Ghost) (heap : Heap
   pub exceptions : (class : ℕ) (l : Laid) → class < builtin_classes → laid_in layout.classes class ≡ Some l → slice_get g.homes class ≡ Some (record { sort = InstanceOf class; head = known.exception class })
   pub lists : (n i : ℕ) (head : Value) → slice_get g.homes i ≡ Some (record { sort = ListOf n; head = head }) → is_list layout n ≡ true → ListAt layout known g heap left blocks statics n i head
   pub instances : (class i : ℕ) (head : Value) → slice_get g.homes i ≡ Some (record { sort = InstanceOf class; head = head }) → InstanceAt layout known g heap blocks statics class i head
+  pub dicts : (n i : ℕ) (head : Value) (m : Mapping) → slice_get g.homes i ≡ Some (record { sort = DictOf n; head = head }) → mapping_at layout.mappings n ≡ Some m → DictAt layout known g heap blocks statics m i head

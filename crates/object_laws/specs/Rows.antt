@@ -1,17 +1,21 @@
--- A heap with one list of two words, and blocks that represent it: an array with a spare place, and a head. And a heap with one instance of
--- a class that has a base, and the block that represents it: an attribute of the base that is set, and one of its own that is not.
+-- A heap with one list of two words, and blocks that represent it: an array with a spare place, and a head. A heap with one instance of
+-- a class that has a base, and the block that represents it: an attribute of the base that is set, and one of its own that is not. And
+-- a heap with one dict of words, with one entry, and blocks that represent it: an array of values with a spare place, one with an index of
+-- four words and keys, and a head.
 use Rattle.std.specs.Prelude.{ℕ, ◌==◌, pos, negsuc, true, false, List, [], ◌∷◌, Option, Some, None, if◌then◌else◌}
 use Rattle.std.specs.Str.{bytes_eq}
 use Rattle.ann_element.specs.declared.element.Element.TheVariants as element
 use Rattle.csub_tree.specs.State.{Unset, Word, Flag, Ptr, Null, Static, Block}
 use Rattle.ll_code.specs.declared.program.LlType.TheVariants as type
-use Rattle.rpy_tree.specs.Value.{Word as MeantWord, Listed, Instance, Heap}
+use Rattle.rpy_tree.specs.Value.{Word as MeantWord, Listed, Mapped, Instance, Heap}
 use Rattle.rpy_meaning.specs.Tree.{Program}
 use Rattle.rtyper_layout.specs.declared.classes.Laid.{Laid}
+use Rattle.rtyper_layout.specs.declared.dicts.Mapping.{Mapping}
 use Rattle.rtyper_layout.specs.declared.layout.Layout.{Layout}
+use Rattle.rtyper_layout.specs.Dicts.{dict_structs}
 use Rattle.rtyper_layout.specs.Families.{vtable_struct}
 use Rattle.rtyper_layout.specs.Layout.{list_structs, texts}
-use Rattle.object_laws.specs.Ghost.{Ghost, Stays, Head, Array, Whole, ListOf, InstanceOf}
+use Rattle.object_laws.specs.Ghost.{Ghost, Stays, Head, Array, Whole, Table, First, Second, ListOf, InstanceOf, DictOf}
 use Rattle.object_laws.specs.Known.{Known, Standing, Vtable, vtable_block}
 use Rattle.object_laws.specs.Represents.{Represents}
 
@@ -40,7 +44,7 @@ layout = record {
 }
 
 abbrev pub known : Known
-known = record { program = program; items = λ n. Some element.Int; attribute = λ class name. None; vtable = λ class. no_vtable; exception = λ class. Null; graph = λ f. None; static = λ s. None }
+known = record { program = program; items = λ n. Some element.Int; keys = λ n. Some element.Int; attribute = λ class name. None; vtable = λ class. no_vtable; exception = λ class. Null; graph = λ f. None; static = λ s. None }
 
 abbrev pub heap : Heap
 heap = Listed (MeantWord (pos 7) ∷ MeantWord (negsuc 1) ∷ []) ∷ []
@@ -113,3 +117,36 @@ instance_ghost = record { blocks = Whole 0 ∷ []; statics = Stays (vtable_block
 
 abbrev pub AnInstance : Type 0
 AnInstance = Represents class_layout class_known instance_ghost instance_heap 1000 instance_blocks statics
+
+-- ---- a dict
+
+-- dicts from words to words are struct 1, and their arrays the structs 2 and 3
+abbrev pub words : Mapping
+words = record { dict = 1; key = type.Signed; value = type.Signed }
+
+abbrev pub dict_layout : Layout
+dict_layout = record layout {
+  structs = texts ∷ dict_structs words;
+  first_list = 1;
+  lists = [];
+  first_dict = 1;
+  dicts = 0 ∷ [];
+  mappings = words ∷ [];
+  first_tuple = 4;
+}
+
+abbrev pub dict_heap : Heap
+dict_heap = Mapped ((MeantWord (pos 7), MeantWord (pos 70)) ∷ []) ∷ []
+
+-- the hash of 7 leads to the second word of the index
+abbrev pub dict_blocks : List (Option Block)
+dict_blocks =
+    Some (record { kind = 2; fields = Word (pos 2) ∷ []; items = Word (pos 70) ∷ Word (pos 0) ∷ [] })
+    ∷ Some (record { kind = 3; fields = Word (pos 6) ∷ []; items = Word (pos 0) ∷ Word (pos 1) ∷ Word (pos 0) ∷ Word (pos 0) ∷ Word (pos 7) ∷ Word (pos 0) ∷ [] })
+    ∷ Some (record { kind = 1; fields = Word (pos 1) ∷ Word (pos 2) ∷ Ptr 0 ∷ Ptr 1 ∷ []; items = [] }) ∷ []
+
+abbrev pub dict_ghost : Ghost
+dict_ghost = record { blocks = First 0 ∷ Second 0 ∷ Table 0 ∷ []; statics = []; homes = record { sort = DictOf 1; head = Ptr 2 } ∷ [] }
+
+abbrev pub OneEntry : Type 0
+OneEntry = Represents dict_layout known dict_ghost dict_heap 1000 dict_blocks []

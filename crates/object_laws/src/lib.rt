@@ -4,4 +4,6 @@
 
 mod laws;
 
-pub use laws::{an_instance_is_a_block, plain_operations_are_done, two_words_are_a_list};
+pub use laws::{
+    an_entry_is_in_a_dict, an_instance_is_a_block, plain_operations_are_done, two_words_are_a_list,
+};

@@ -120,7 +120,7 @@ pub fn push_call_value(
 
 /// What a method call reaches: nothing, one function, or several like this one.
 #[derive(Clone, Copy)]
-enum Reached {
+pub enum Reached {
     Nothing,
     One(FunId),
     Several(FunId),

@@ -7,7 +7,7 @@ mod instance;
 mod operation;
 mod vtable;
 
-pub use call::BUILTIN_CLASSES;
+pub use call::{BUILTIN_CLASSES, Reached};
 pub use instance::class_graph;
 pub use operation::lower_class_op;
 pub use vtable::{push_exceptions, push_vtables};

@@ -1,0 +1,5 @@
+pub mod Called
+pub mod Initialised
+pub mod Methods
+pub mod Passed
+pub mod Raising
