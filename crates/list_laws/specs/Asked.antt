@@ -7,7 +7,7 @@ use Rattle.rtyper_layout.specs.declared.layout.Layout.{Layout}
 use Rattle.rtyper_layout.specs.Types.{word}
 use Rattle.rtyper_data.specs.declared.found.Found.{Found}
 use Rattle.rtyper_data.specs.declared.small.Listed.{Listed}
-use Rattle.rtyper_data.specs.declared.small.Listed.TheVariants.{Place, Room, Append, Remove, Copy}
+use Rattle.rtyper_data.specs.declared.small.Listed.TheVariants.{Place, Room, Append, Insert, Extend, Remove, Copy, MoveUp, Make as MakeList, Concat, Repeat, Slice, ButLast}
 use Rattle.rtyper_data.specs.declared.small.Small.TheVariants as small
 use Rattle.rtyper_data.specs.Finding.{small_number}
 use Rattle.list_helpers.specs.Listing.{list_graph}
@@ -25,9 +25,16 @@ pub record HasList (p : LlProgram) (layout : Layout) (raised : ℕ → Value) (l
   pub graph : slice_get p.graphs f ≡ Some (list_graph layout listed made).0
   pub raises : AllRaise p raised (raised_by listed) made
 
--- the graph that copies items from one array to another, for those that call it
+-- the graph that copies items from an array of the one struct to one of the other, for those that call it
+abbrev pub HasCopyTo : LlProgram → Layout → (ℕ → Value) → ℕ → ℕ → Found → Type 0
+HasCopyTo p layout raised m n made = HasList p layout raised (Copy (word (m + 1)) (word (n + 1))) (small_number (small.Listed (Copy (word (m + 1)) (word (n + 1)))) made).0
+
 abbrev pub HasCopy : LlProgram → Layout → (ℕ → Value) → ℕ → Found → Type 0
-HasCopy p layout raised n made = HasList p layout raised (Copy (word (n + 1)) (word (n + 1))) (small_number (small.Listed (Copy (word (n + 1)) (word (n + 1)))) made).0
+HasCopy p layout raised n made = HasCopyTo p layout raised n n made
+
+-- the graph that makes a list of so many items, for those that call it
+abbrev pub HasMake : LlProgram → Layout → (ℕ → Value) → ℕ → Found → Type 0
+HasMake p layout raised n made = HasList p layout raised (MakeList n) (small_number (small.Listed (MakeList n)) made).0
 
 -- the graph that makes room, and what it copies items by
 pub record MakesRoom (p : LlProgram) (layout : Layout) (raised : ℕ → Value) (n f : ℕ) : Type 0 where
@@ -41,6 +48,46 @@ pub record HasAppend (p : LlProgram) (layout : Layout) (raised : ℕ → Value) 
   pub graph : slice_get p.graphs f ≡ Some (list_graph layout (Append n) made).0
   pub room : MakesRoom p layout raised n (small_number (small.Listed (Room n)) made).0
 
+-- the graph that inserts, what it makes room by, and what it moves the later items by
+pub record HasInsert (p : LlProgram) (layout : Layout) (raised : ℕ → Value) (n f : ℕ) : Type 0 where
+  pub made : Found
+  pub graph : slice_get p.graphs f ≡ Some (list_graph layout (Insert n) made).0
+  pub room : MakesRoom p layout raised n (small_number (small.Listed (Room n)) made).0
+  pub moves : HasList p layout raised (MoveUp (word (n + 1))) (small_number (small.Listed (MoveUp (word (n + 1)))) (small_number (small.Listed (Room n)) made).1).0
+
+-- the graph that puts the items of another list behind, what it makes room by, and what it copies items by
+pub record HasExtend (p : LlProgram) (layout : Layout) (raised : ℕ → Value) (n m f : ℕ) : Type 0 where
+  pub made : Found
+  pub graph : slice_get p.graphs f ≡ Some (list_graph layout (Extend n m) made).0
+  pub room : MakesRoom p layout raised n (small_number (small.Listed (Room n)) made).0
+  pub copies : HasCopyTo p layout raised m n (small_number (small.Listed (Room n)) made).1
+
+-- the graphs that make a list of the items of others, what they make it by, and what they copy items by
+pub record HasConcat (p : LlProgram) (layout : Layout) (raised : ℕ → Value) (l m r f : ℕ) : Type 0 where
+  pub made : Found
+  pub graph : slice_get p.graphs f ≡ Some (list_graph layout (Concat l m r) made).0
+  pub makes : HasMake p layout raised r made
+  pub first : HasCopyTo p layout raised l r (small_number (small.Listed (MakeList r)) made).1
+  pub second : HasCopyTo p layout raised m r (small_number (small.Listed (Copy (word (l + 1)) (word (r + 1)))) (small_number (small.Listed (MakeList r)) made).1).1
+
+pub record HasRepeat (p : LlProgram) (layout : Layout) (raised : ℕ → Value) (l r f : ℕ) : Type 0 where
+  pub made : Found
+  pub graph : slice_get p.graphs f ≡ Some (list_graph layout (Repeat l r) made).0
+  pub makes : HasMake p layout raised r made
+  pub copies : HasCopyTo p layout raised l r (small_number (small.Listed (MakeList r)) made).1
+
+pub record HasSlice (p : LlProgram) (layout : Layout) (raised : ℕ → Value) (l r f : ℕ) : Type 0 where
+  pub made : Found
+  pub graph : slice_get p.graphs f ≡ Some (list_graph layout (Slice l r) made).0
+  pub makes : HasMake p layout raised r made
+  pub copies : HasCopyTo p layout raised l r (small_number (small.Listed (MakeList r)) made).1
+
+-- the graph that gives all items but the last, and what it slices by
+pub record HasButLast (p : LlProgram) (layout : Layout) (raised : ℕ → Value) (l r f : ℕ) : Type 0 where
+  pub made : Found
+  pub graph : slice_get p.graphs f ≡ Some (list_graph layout (ButLast l r) made).0
+  pub slices : HasSlice p layout raised l r (small_number (small.Listed (Slice l r)) made).0
+
 -- the graph that takes an item out, and what it moves the later ones by
 pub record HasRemove (p : LlProgram) (layout : Layout) (raised : ℕ → Value) (n f : ℕ) : Type 0 where
   pub made : Found
@@ -50,6 +97,12 @@ pub record HasRemove (p : LlProgram) (layout : Layout) (raised : ℕ → Value) 
 abbrev pub Has : LlProgram → Layout → Numbers → (ℕ → Value) → Core → Ask → Found → Type 0
 Has p layout numbers raised core (Make (small.Listed (Append n))) found = HasAppend p layout raised n (small_number (small.Listed (Append n)) found).0
 Has p layout numbers raised core (Make (small.Listed (Remove n))) found = HasRemove p layout raised n (small_number (small.Listed (Remove n)) found).0
+Has p layout numbers raised core (Make (small.Listed (Insert n))) found = HasInsert p layout raised n (small_number (small.Listed (Insert n)) found).0
+Has p layout numbers raised core (Make (small.Listed (Extend n m))) found = HasExtend p layout raised n m (small_number (small.Listed (Extend n m)) found).0
+Has p layout numbers raised core (Make (small.Listed (Concat l m r))) found = HasConcat p layout raised l m r (small_number (small.Listed (Concat l m r)) found).0
+Has p layout numbers raised core (Make (small.Listed (Repeat l r))) found = HasRepeat p layout raised l r (small_number (small.Listed (Repeat l r)) found).0
+Has p layout numbers raised core (Make (small.Listed (Slice l r))) found = HasSlice p layout raised l r (small_number (small.Listed (Slice l r)) found).0
+Has p layout numbers raised core (Make (small.Listed (ButLast l r))) found = HasButLast p layout raised l r (small_number (small.Listed (ButLast l r)) found).0
 Has p layout numbers raised core (Make (small.Listed graph)) found = HasList p layout raised graph (small_number (small.Listed graph) found).0
 Has p layout numbers raised core ask found = HasOther p layout numbers raised core ask found
 
