@@ -1,0 +1,4 @@
+pub mod Done
+pub mod Extended
+pub mod Inserted
+pub mod Joined

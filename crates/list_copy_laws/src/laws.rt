@@ -1,0 +1,26 @@
+// Laws of operations that copy items of lists, or move them up, as they are lowered.
+ghost use Rattle.list_copy_laws.specs.Extended.{ListsAreAddedTo, ListsAreExtended};
+ghost use Rattle.list_copy_laws.specs.Inserted.{ItemsAreInserted};
+ghost use Rattle.list_copy_laws.specs.Joined.{LastItemsAreLeftOut, ListsAreJoined, ListsAreSliced};
+
+/// An item that is inserted before a place, at its cost: the later ones move up, once there is room.
+pub fn items_are_inserted()
+    ensures { ItemsAreInserted }
+{}
+
+/// The items of a list, put behind those of another, or of the same one, at their cost; `+=` gives the list.
+pub fn lists_are_extended()
+    ensures method { ListsAreExtended }
+    ensures sum { ListsAreAddedTo }
+{}
+
+/// The sum of two lists, at its cost.
+pub fn lists_are_joined()
+    ensures { ListsAreJoined }
+{}
+
+/// A slice of a list, at its cost, by bounds that may be absent, and all items but the last.
+pub fn lists_are_sliced()
+    ensures between { ListsAreSliced }
+    ensures but_last { LastItemsAreLeftOut }
+{}
