@@ -237,9 +237,9 @@ module _ (site : Option ℕ) (known : Known) (around : Around) (place : Place) (
             (subst (λ answer. Follows 2 known around place p arguments Here rest e frames core g raised (references world.heap (Ref found_list.i ∷ Ref second.i ∷ [])) (length w.body.types) world answer) (sym meant)
             (from_there 2 known around place p arguments rest e frames core g raised (references world.heap (Ref found_list.i ∷ Ref second.i ∷ [])) (length w.body.types) world (omega arith) way.went (after_list world vs)
             (list_given known around place n takes.list.is takes.list.typed takes.struct p raised arguments rest e frames mid g (references world.heap (Ref found_list.i ∷ Ref second.i ∷ [])) (length w.body.types) world number m1 (it.x ∷ it.y ∷ []) (operand core.vars a.x ∷ operand core.vars b.x ∷ [])
-            vs (length mid_list.items + length mid_list2.items + 1) many same set (omega (arith, inside, m1_is)) (let q = way.went.passed.room in omega (arith, room, new_long, m1_is, q)) (omega (arith, m1_is))
+            vs (length mid_list.items + length mid_list2.items + 1) same set (omega (arith, inside, m1_is)) (let q = way.went.passed.room in omega (arith, room, new_long, m1_is, q)) (omega (arith, m1_is))
             (join_lacks p arguments around.layout known raised structs l m n struct struct2 takes.struct number has_graph typed typed2 each_as each_as2 g world.heap world.left mid stands_mid left_mid found_list.i (operand core.vars a.x) mid_list second.i (operand core.vars b.x) mid_list2)
-            (λ enough. joined p arguments around.layout known raised structs l m n struct struct2 takes.struct number has_graph typed typed2 each_as each_as2 g world.heap world.left mid stands_mid left_mid found_list.i (operand core.vars a.x) mid_list second.i (operand core.vars b.x) mid_list2 (let q : length vs ≡ length mid_list.items + length mid_list2.items = length-append mid_list.items mid_list2.items in omega (arith, enough, q)))))))
+            (λ enough. (many, joined p arguments around.layout known raised structs l m n struct struct2 takes.struct number has_graph typed typed2 each_as each_as2 g world.heap world.left mid stands_mid left_mid found_list.i (operand core.vars a.x) mid_list second.i (operand core.vars b.x) mid_list2 (let q : length vs ≡ length mid_list.items + length mid_list2.items = length-append mid_list.items mid_list2.items in omega (arith, enough, q))))))))
 
       either_second : Listing around.layout known g b.element (operand core.vars b.x) u ⊎ Absent b.element (operand core.vars b.x) u → Done (v ∷ u ∷ [])
       either_second (inl second) = there_both second

@@ -10,6 +10,8 @@ pub mod Joining
 pub mod Joins
 pub mod Newly
 pub mod Ready
+pub mod Repeating
+pub mod Repeats
 pub mod Shortening
 pub mod Shortens
 pub mod Slices

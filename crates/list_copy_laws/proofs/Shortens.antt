@@ -193,9 +193,9 @@ module _ (site : ℕ) (known : Known) (around : Around) (place : Place) (a : Ope
             (subst (λ answer. Follows 2 known around place p arguments Here rest e frames core g raised (references world.heap (Ref found_list.i ∷ [])) (length w.body.types) world answer) (sym meant)
             (from_there 2 known around place p arguments rest e frames core g raised (references world.heap (Ref found_list.i ∷ [])) (length w.body.types) world (omega arith) went (after_list world (cut 0 (length mid_list.items - 1) mid_list.items))
             (list_given known around place n takes.list.is takes.list.typed takes.struct p raised arguments rest e frames mid g (references world.heap (Ref found_list.i ∷ [])) (length w.body.types) world number m1 (it.x ∷ []) (operand core.vars a.x ∷ [])
-            (cut 0 (length mid_list.items - 1) mid_list.items) (length mid_list.items + 1) many same set (omega (arith, inside, m1_is)) (let q = went.passed.room in omega (arith, room, new_long, m1_is, q)) (omega (arith, m1_is))
+            (cut 0 (length mid_list.items - 1) mid_list.items) (length mid_list.items + 1) same set (omega (arith, inside, m1_is)) (let q = went.passed.room in omega (arith, room, new_long, m1_is, q)) (omega (arith, m1_is))
             (but_last_lacks p arguments around.layout known raised structs l n struct takes.struct number has_graph typed each_as g world.heap world.left mid stands_mid left_mid found_list.i (operand core.vars a.x) mid_list)
-            (shortened p arguments around.layout known raised structs l n struct takes.struct number has_graph typed each_as g world.heap world.left mid stands_mid left_mid found_list.i (operand core.vars a.x) mid_list))))
+            (λ enough. (many, shortened p arguments around.layout known raised structs l n struct takes.struct number has_graph typed each_as g world.heap world.left mid stands_mid left_mid found_list.i (operand core.vars a.x) mid_list enough)))))
 
       either : Listing around.layout known g a.element (operand core.vars a.x) v ⊎ Absent a.element (operand core.vars a.x) v → Done (v ∷ [])
       either (inl is) = there_so is

@@ -100,9 +100,9 @@ module _ (known : Known) (around : Around) (place : Place) (l n : ℕ) (result :
 
   slices : (low high : ℤ) → operand core.vars y ≡ Word low → operand core.vars z ≡ Word high → Answered (after_slice world s.items low high)
   slices (pos from) (pos to) y_is z_is =
-      list_given known around place n takes.list.is takes.list.typed takes.struct p raised arguments rest e frames core g most below world f m (x ∷ y ∷ z ∷ []) (head ∷ Word (pos from) ∷ Word (pos to) ∷ []) (cut from to s.items) (length s.items + 1) many (same (pos from) (pos to) y_is z_is) (set (pos from) (pos to)) inside room under
+      list_given known around place n takes.list.is takes.list.typed takes.struct p raised arguments rest e frames core g most below world f m (x ∷ y ∷ z ∷ []) (head ∷ Word (pos from) ∷ Word (pos to) ∷ []) (cut from to s.items) (length s.items + 1) (same (pos from) (pos to) y_is z_is) (set (pos from) (pos to)) inside room under
       (slice_lacks p arguments around.layout known raised structs l n struct takes.struct f has typed each_as g world.heap world.left core stands left i head s from to)
-      (sliced p arguments around.layout known raised structs l n struct takes.struct f has typed each_as g world.heap world.left core stands left i head s from to)
+      (λ enough. (many, sliced p arguments around.layout known raised structs l n struct takes.struct f has typed each_as g world.heap world.left core stands left i head s from to enough))
   slices (pos from) (negsuc to) y_is z_is = call_fails (same (pos from) (negsuc to) y_is z_is) (set (pos from) (negsuc to)) (op.Set place.variable (Var m) ∷ rest) (slice_fails_high p arguments around.layout known raised structs l n struct takes.struct f has typed each_as g world.heap world.left core stands left i head s from to)
   slices (negsuc from) to y_is z_is = call_fails (same (negsuc from) to y_is z_is) (set (negsuc from) to) (op.Set place.variable (Var m) ∷ rest) (slice_fails_low p arguments around.layout known raised structs l n struct takes.struct f has typed each_as g world.heap world.left core stands left i head s from (Word to))
 

@@ -8,3 +8,9 @@ is_less m n h = grind (arith, nat_tests, h)
 
 pub not_less : (m n : ℕ) → nat_lt m n ≡ false → n ≤ m
 not_less m n h = grind (arith, nat_tests, h)
+
+pub less_is : (m n : ℕ) → m < n → nat_lt m n ≡ true
+less_is m n h = grind (arith, nat_tests, h)
+
+pub not_less_is : (m n : ℕ) → n ≤ m → nat_lt m n ≡ false
+not_less_is m n h = grind (arith, nat_tests, h)

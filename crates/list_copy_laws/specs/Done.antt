@@ -44,3 +44,7 @@ first_items heap (v ∷ vs) = items_of heap v
 -- its items are moved in their array, once that was made anew
 abbrev pub references_moved : World → List Meant → ℕ
 references_moved world vs = first_items world.heap vs + references world.heap vs
+
+-- each item of a new list costs a step
+abbrev pub references_paid : World → List Meant → ℕ
+references_paid world vs = world.left + references world.heap vs

@@ -13,6 +13,7 @@ use Rattle.object_laws.specs.Known.{Known}
 use Rattle.object_laws.specs.Staying.{Stays}
 use Rattle.list_laws.specs.Done.{IsDone}
 use Rattle.list_laws.specs.Lists.{IsList, there_asks}
+use Rattle.list_copy_laws.specs.Done.{IsDoneWithin, references_paid}
 use Rattle.list_copy_laws.specs.Extended.{both_asks}
 
 -- the place takes a list of this struct, of whose items this is known
@@ -25,6 +26,11 @@ abbrev pub ListsAreJoined : Type 0
 ListsAreJoined = (site : Option ℕ) (known : Known) (around : Around) (place : Place) (a b : Operand) (w : Writing) (l m n : ℕ) (item other result : Element) → IsList around known a.element l item → IsList around known b.element m other → Takes around known place n result
     → Stays around.layout known (Some item) (Some result) → Stays around.layout known (Some other) (Some result)
     → IsDone known around (row.Binary bin.Add site) w.found.covered (both_asks around a b w.found.covered ++ Make (small.Listed (listed.Concat l m n)) ∷ []) place (a ∷ b ∷ []) w
+
+-- a list so many times, which is none where that is below zero
+abbrev pub ListsAreRepeated : Type 0
+ListsAreRepeated = (site : Option ℕ) (known : Known) (around : Around) (place : Place) (a b : Operand) (w : Writing) (l n : ℕ) (item result : Element) → IsList around known a.element l item → kind_of b ≡ kind.Word → Takes around known place n result → Stays around.layout known (Some item) (Some result)
+    → IsDoneWithin references_paid known around (row.Binary bin.Mul site) w.found.covered (there_asks around a w.found.covered ++ Make (small.Listed (listed.Repeat l n)) ∷ []) place (a ∷ b ∷ []) w
 
 -- the bounds that are there, which are words
 abbrev pub AreBounds : Bool → Bool → List Operand → Type 0

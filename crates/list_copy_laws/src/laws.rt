@@ -1,7 +1,7 @@
 // Laws of operations that copy items of lists, or move them up, as they are lowered.
 ghost use Rattle.list_copy_laws.specs.Extended.{ListsAreAddedTo, ListsAreExtended};
 ghost use Rattle.list_copy_laws.specs.Inserted.{ItemsAreInserted};
-ghost use Rattle.list_copy_laws.specs.Joined.{LastItemsAreLeftOut, ListsAreJoined, ListsAreSliced};
+ghost use Rattle.list_copy_laws.specs.Joined.{LastItemsAreLeftOut, ListsAreJoined, ListsAreRepeated, ListsAreSliced};
 
 /// An item that is inserted before a place, at its cost: the later ones move up, once there is room.
 pub fn items_are_inserted()
@@ -17,6 +17,11 @@ pub fn lists_are_extended()
 /// The sum of two lists, at its cost.
 pub fn lists_are_joined()
     ensures { ListsAreJoined }
+{}
+
+/// A list so many times, at its cost; below zero that is none.
+pub fn lists_are_repeated()
+    ensures { ListsAreRepeated }
 {}
 
 /// A slice of a list, at its cost, by bounds that may be absent, and all items but the last.

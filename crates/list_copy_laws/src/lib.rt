@@ -4,4 +4,6 @@
 
 mod laws;
 
-pub use laws::{items_are_inserted, lists_are_extended, lists_are_joined, lists_are_sliced};
+pub use laws::{
+    items_are_inserted, lists_are_extended, lists_are_joined, lists_are_repeated, lists_are_sliced,
+};
