@@ -1,6 +1,8 @@
+pub mod Among
 pub mod Between
 pub mod Both
 pub mod Called
+pub mod Containing
 pub mod Extending
 pub mod Extends
 pub mod Fresh

@@ -1,3 +1,4 @@
+pub mod Among
 pub mod Done
 pub mod Extended
 pub mod Inserted

@@ -1,4 +1,6 @@
-// Laws of operations that copy items of lists, or move them up, as they are lowered.
+// Laws of operations that insert items, put lists together, cut them and look in them, as they are lowered.
+ghost use Rattle.rpy_tree.specs.declared.syntax.CmpOp.TheVariants as compared;
+ghost use Rattle.list_copy_laws.specs.Among.{ValuesAreAmong};
 ghost use Rattle.list_copy_laws.specs.Extended.{ListsAreAddedTo, ListsAreExtended};
 ghost use Rattle.list_copy_laws.specs.Inserted.{ItemsAreInserted};
 ghost use Rattle.list_copy_laws.specs.Joined.{LastItemsAreLeftOut, ListsAreJoined, ListsAreRepeated, ListsAreSliced};
@@ -28,4 +30,10 @@ pub fn lists_are_repeated()
 pub fn lists_are_sliced()
     ensures between { ListsAreSliced }
     ensures but_last { LastItemsAreLeftOut }
+{}
+
+/// Whether a word, a truth value or a byte is among the items of a list, and whether it is not.
+pub fn values_are_among()
+    ensures within { ValuesAreAmong compared.Within }
+    ensures not_within { ValuesAreAmong compared.NotWithin }
 {}
