@@ -6,14 +6,14 @@ use Rattle.std.proofs.lemmas.Bool.Decides.{nat_tests}
 use Rattle.std.proofs.lemmas.List.{append-nil, length-set}
 use Rattle.ann_element.specs.declared.element.Element.{Element}
 use Rattle.rpy_base.specs.declared.outcome.FailName.TheVariants as fail
-use Rattle.csub_tree.specs.State.{Value, Word, Byte, Flag, Core}
+use Rattle.csub_tree.specs.State.{Value, Word, Byte, Flag, Block, Core}
 use Rattle.csub_tree.specs.Operation.{is_unset, binary_of, unary_of}
 use Rattle.csub_tree.specs.Statement.{operand, operands, any_unset}
 use Rattle.csub_tree.specs.declared.tree.CBinary.TheVariants as binary
 use Rattle.csub_tree.specs.declared.tree.CUnary.TheVariants as unary
 use Rattle.csub_tree.specs.declared.tree.COperand.{COperand}
 use Rattle.csub_tree.specs.declared.tree.COperand.TheVariants.{Var}
-use Rattle.rpy_tree.specs.Value.{Value as Meant, Word as MeantWord, Flag as MeantFlag, Text, Nothing, Ref}
+use Rattle.rpy_tree.specs.Value.{Heap, Value as Meant, Word as MeantWord, Flag as MeantFlag, Text, Nothing, Ref}
 use Rattle.rpy_tree.specs.declared.syntax.CmpOp.{CmpOp}
 use Rattle.rpy_tree.specs.declared.syntax.CmpOp.TheVariants as compared
 use Rattle.rpy_meaning.specs.declared.row.Covers.{Covers}
@@ -29,7 +29,9 @@ use Rattle.ll_code.specs.declared.program.LlOp.{LlOp}
 use Rattle.ll_code.specs.declared.program.LlOp.TheVariants as op
 use Rattle.ll_code.specs.declared.program.LlExit.{LlExit}
 use Rattle.ll_code.specs.declared.program.LlProgram.{LlProgram}
+use Rattle.ll_build.specs.declared.needs.Helper.TheVariants as helper
 use Rattle.ll_build.specs.declared.needs.Numbers.{Numbers}
+use Rattle.ll_texts.specs.Stands.{Stands as LowStands, text as low_text, missing as low_missing}
 use Rattle.ll_leads.specs.Path.{Leads}
 use Rattle.ll_leads.proofs.Ways.{Comes, on, turns}
 use Rattle.rtyper_layout.specs.declared.kind.Kind.{Kind}
@@ -44,7 +46,7 @@ use Rattle.rtyper_data.specs.declared.small.Small.TheVariants as small
 use Rattle.rtyper_data.specs.declared.small.Listed.TheVariants as listed
 use Rattle.rtyper_data.specs.Comparing.{opposite_of, opposite_if}
 use Rattle.rtyper_data.specs.Converting.{by_small, give_made}
-use Rattle.rtyper_data.specs.Finding.{small_number}
+use Rattle.rtyper_data.specs.Finding.{small_number, helper_number}
 use Rattle.rtyper_op.specs.Lowering.{never_comes, lower_op}
 use Rattle.rtyper_data.specs.Seen.{Around, Operand, Place, kind_of, type_of, Writing, writing}
 use Rattle.list_shape.specs.Shapes.{item_of, shape_of, taking}
@@ -57,8 +59,8 @@ use Rattle.lower_laws.specs.Values.{AllBelow, is_plain}
 use Rattle.lower_laws.proofs.Doing.{after}
 use Rattle.lower_laws.proofs.Single.{sets, gives_flag}
 use Rattle.lower_laws.proofs.Stayed.{field_is}
-use Rattle.lower_laws.proofs.Typing.{place_of_words, place_of_flags, place_of_bytes}
-use Rattle.list_laws.specs.Asked.{HasList, HasAll}
+use Rattle.lower_laws.proofs.Typing.{place_of_words, place_of_flags, place_of_bytes, place_of_strings, place_of_texts}
+use Rattle.list_laws.specs.Asked.{HasContains, HasAll}
 use Rattle.list_laws.specs.Lists.{IsList, there_asks}
 use Rattle.list_laws.specs.Presence.{IsTold}
 use Rattle.list_laws.proofs.Indexed.{asked_both, has_first, has_more}
@@ -69,12 +71,13 @@ use Rattle.object_laws.specs.Known.{Known}
 use Rattle.object_laws.specs.Done.{Follows, HasLayout, references}
 use Rattle.object_laws.specs.Ghost.{Ghost, ListOf}
 use Rattle.object_laws.specs.Represents.{Represents, ListAt}
-use Rattle.object_laws.specs.Values.{Stands, word as word_stands, flag as flag_stands, byte as byte_stands, Given, Holds}
+use Rattle.object_laws.specs.Values.{Stands, word as word_stands, flag as flag_stands, byte as byte_stands, text as text_stands, missing as missing_stands, Given, Holds}
 use Rattle.object_laws.proofs.Blocks.{found_set, found_there}
 use Rattle.object_laws.proofs.Passing.{Passed, sets_more, is_set_at, operand_kept, calls_at}
 use Rattle.object_laws.proofs.Valued.{Listing, Absent, list_or_none, plain_stands, held_set}
-use Rattle.list_copy_laws.specs.Among.{is_small, ValuesAreAmong}
-use Rattle.list_copy_laws.proofs.Containing.{words_are, flags_are, bytes_are, contains_one, contains_bytes}
+use Rattle.list_copy_laws.specs.Among.{ValuesAreAmong}
+use Rattle.list_copy_laws.proofs.Alike.{texts_alike}
+use Rattle.list_copy_laws.proofs.Containing.{words_are, flags_are, bytes_are, texts_are, contains_one, contains_bytes, contains_texts}
 use Rattle.list_copy_laws.proofs.Ready.{Went, Ready, ready}
 
 -- ---- such values
@@ -106,29 +109,17 @@ of_byte : {g : Ghost} (t : LlType) (x : Value) (v : Meant) → t ≡ type.Char �
 of_byte type.Char x v h (byte_stands b small) = record { number = b; low = refl; high = refl }
 of_byte _ x v h s = absurd (cc)
 
-module _ {layout : Layout} {known : Known} {g : Ghost} {seen : Option Element} {x : Value} {v : Meant} where
-  word_of : kind_seen seen ≡ kind.Word → Holds layout known g seen x v → WordOf x v
-  word_of h held = of_word (type_seen layout seen) x v (place_of_words layout seen h) (plain_stands (ap is_plain h) held)
-
-  flag_of : kind_seen seen ≡ kind.Flag → Holds layout known g seen x v → FlagOf x v
-  flag_of h held = of_flag (type_seen layout seen) x v (place_of_flags layout seen h) (plain_stands (ap is_plain h) held)
-
-  byte_of : kind_seen seen ≡ kind.Byte → Holds layout known g seen x v → ByteOf x v
-  byte_of h held = of_byte (type_seen layout seen) x v (place_of_bytes layout seen h) (plain_stands (ap is_plain h) held)
-
 -- what is asked of such a value
 record Asks (c : Covers) (f : Bool → Bool) (v : Meant) : Type 0 where
   there : (i : ℕ) (world : World) → meant_within c f v (Ref i) world ≡ flag_if_any (option_map f (is_in_object v (slice_get world.heap i))) world
   none : (world : World) → meant_within c f v Nothing world ≡ failure c.attribute 9 fail.Attribute world
 
-asks_of : (c : Covers) (f : Bool → Bool) {layout : Layout} {known : Known} {g : Ghost} {seen : Option Element} {x : Value} {v : Meant} → is_small (kind_seen seen) ≡ true → Holds layout known g seen x v → Asks c f v
-asks_of c f {seen = seen} {v = v} small held = by (kind_seen seen) refl small
-  where
-    by : (k : Kind) → kind_seen seen ≡ k → is_small k ≡ true → Asks c f v
-    by kind.Word h s = (let it = word_of h held in subst (Asks c f) (sym it.high) (record { there = λ i world. refl; none = λ world. refl }))
-    by kind.Flag h s = (let it = flag_of h held in subst (Asks c f) (sym it.high) (record { there = λ i world. refl; none = λ world. refl }))
-    by kind.Byte h s = (let it = byte_of h held in subst (Asks c f) (sym it.high) (record { there = λ i world. refl; none = λ world. refl }))
-    by _ h s = absurd (cc)
+asks_of : (c : Covers) (f : Bool → Bool) {g : Ghost} {t : LlType} {x : Value} {v : Meant} → Stands g t x v → Asks c f v
+asks_of c f (word_stands z h) = record { there = λ i world. refl; none = λ world. refl }
+asks_of c f (flag_stands b) = record { there = λ i world. refl; none = λ world. refl }
+asks_of c f (byte_stands b h) = record { there = λ i world. refl; none = λ world. refl }
+asks_of c f (text_stands x bytes h) = record { there = λ i world. refl; none = λ world. refl }
+asks_of c f missing_stands = record { there = λ i world. refl; none = λ world. refl }
 
 flags_same : (a b : Bool) → binary_of binary.Beq (Flag a) (Flag b) ≡ Ok (Flag (is_equal (MeantFlag a) (MeantFlag b)))
 flags_same true b = refl
@@ -150,8 +141,16 @@ bytes_same b c = ap (λ t. Ok (Flag t)) (same_number b c ∙ and_true (nat_eq b 
 
 -- ---- the call
 
-module _ (known : Known) (around : Around) (a b : Operand) (n : ℕ) (item : Element) (small_kind : is_small (kind_of a) ≡ true) (item_kind : kind_seen (Some item) ≡ kind_of a) (of : IsList around known b.element n item)
-    (p : LlProgram) (raised : ℕ → Value) (arguments : List (List ℕ)) (f : ℕ) (structs : HasLayout p around.layout) (struct : is_list_struct around.layout n ≡ true) (has : HasList p around.layout raised (listed.Contains (type_of around a) n) f)
+-- strings are what they are for helpers
+low : {layout : Layout} {known : Known} {g : Ghost} {heap : Heap} {left : ℕ} {blocks : List (Option Block)} {statics : List Block} {t : LlType} {x : Value} {v : Meant} → t ≡ type.Ptr 0 → Represents layout known g heap left blocks statics → Stands g t x v → LowStands blocks statics (type.Ptr 0) x v
+low h r (text_stands x bytes t) = low_text x bytes (record { is = r.stays x _ t.is; short = t.short; small = t.small })
+low h r missing_stands = low_missing
+low h r (word_stands z f) = absurd (cc)
+low h r (flag_stands b) = absurd (cc)
+low h r (byte_stands b s) = absurd (cc)
+
+module _ (known : Known) (around : Around) (a b : Operand) (n : ℕ) (item : Element) (plain : is_plain (kind_of a) ≡ true) (item_plain : is_plain (kind_seen (Some item)) ≡ true) (item_typed : type_seen around.layout (Some item) ≡ type_of around a) (of : IsList around known b.element n item)
+    (p : LlProgram) (numbers : Numbers) (raised : ℕ → Value) (arguments : List (List ℕ)) (f : ℕ) (structs : HasLayout p around.layout) (struct : is_list_struct around.layout n ≡ true) (before : Core) (has : HasContains p around.layout numbers raised before (type_of around a) n f)
     (g : Ghost) (world : World) (core : Core) (stands : Represents around.layout known g world.heap world.left core.blocks core.statics) (i : ℕ) (head : Value) (s : ListAt around.layout known g world.heap world.left core.blocks core.statics n i head)
     (x : Value) (v : Meant) (held : Holds around.layout known g a.element x v) where
   abbrev Tells : Type 0
@@ -160,36 +159,61 @@ module _ (known : Known) (around : Around) (a b : Operand) (n : ℕ) (item : Ele
   element_is : (t : LlType) → element_type around.layout item ≡ t → (t ≡ type.Void → ⊥) → item_of around.layout (word (n + 1)) ≡ t
   element_is t h there = of.items ∙ field_is (element_type around.layout item) (λ e. there (sym h ∙ e)) ∙ h
 
-  as_item : {y : Value} {w : Meant} → Holds around.layout known g (known.items n) y w → Holds around.layout known g (Some item) y w
-  as_item {y = y} {w = w} held = subst (λ seen. Holds around.layout known g seen y w) of.item_is held
+  -- the value, and the items
+  value_stands : Stands g (type_of around a) x v
+  value_stands = plain_stands plain held
+
+  item_stands : (y : Value) (w : Meant) → Holds around.layout known g (known.items n) y w → Stands g (type_of around a) y w
+  item_stands y w other = subst (λ t. Stands g t y w) item_typed (plain_stands item_plain (subst (λ seen. Holds around.layout known g seen y w) of.item_is other))
+
+  x_set : is_unset x ≡ false
+  x_set = held_set stands held
+
+  graph_of : (t : LlType) → type_of around a ≡ t → slice_get p.graphs f ≡ Some (contains around.layout t (shape_of around.layout n) has.made).0
+  graph_of t typed = has.graph ∙ ap (λ t. Some (contains around.layout t (shape_of around.layout n) has.made).0) typed
+
+  words : type_of around a ≡ type.Signed → Tells
+  words typed =
+      let it = of_word (type_of around a) x v typed value_stands in
+      contains_one p arguments around.layout known structs n struct f g world.heap world.left core stands i head s x v x_set type.Signed binary.Eq
+      (graph_of type.Signed typed ∙ ap Some (words_are around.layout n has.made (element_is type.Signed (item_typed ∙ typed) (λ e. absurd (cc)))))
+      (λ y w b other e. (let u = of_word (type_of around a) y w typed (item_stands y w other) in
+      ap (λ y. binary_of binary.Eq y x) u.low ∙ ap (binary_of binary.Eq (Word u.number)) it.low
+      ∙ ap (λ t. Ok (Flag t)) (sym (ap (λ w. is_equal w v) u.high ∙ ap (is_equal (MeantWord u.number)) it.high) ∙ e)))
+
+  flags : type_of around a ≡ type.Bool → Tells
+  flags typed =
+      let it = of_flag (type_of around a) x v typed value_stands in
+      contains_one p arguments around.layout known structs n struct f g world.heap world.left core stands i head s x v x_set type.Bool binary.Beq
+      (graph_of type.Bool typed ∙ ap Some (flags_are around.layout n has.made (element_is type.Bool (item_typed ∙ typed) (λ e. absurd (cc)))))
+      (λ y w b other e. (let u = of_flag (type_of around a) y w typed (item_stands y w other) in
+      ap (λ y. binary_of binary.Beq y x) u.low ∙ ap (binary_of binary.Beq (Flag u.truth)) it.low ∙ flags_same u.truth it.truth
+      ∙ ap (λ t. Ok (Flag t)) (sym (ap (λ w. is_equal w v) u.high ∙ ap (is_equal (MeantFlag u.truth)) it.high) ∙ e)))
+
+  bytes : type_of around a ≡ type.Char → Tells
+  bytes typed =
+      let it = of_byte (type_of around a) x v typed value_stands in
+      contains_bytes p arguments around.layout known structs n struct f g world.heap world.left core stands i head s x v x_set
+      (graph_of type.Char typed ∙ ap Some (bytes_are around.layout n has.made (element_is type.Char (item_typed ∙ typed) (λ e. absurd (cc))))) it.number it.low
+      (λ y w b other e. (let u = of_byte (type_of around a) y w typed (item_stands y w other) in
+      (u.number, u.low, bytes_same u.number it.number ∙ ap (λ t. Ok (Flag t)) (sym (ap (λ w. is_equal w v) u.high ∙ ap (is_equal (Text (u.number ∷ []))) it.high) ∙ e))))
+
+  texts : type_of around a ≡ type.Ptr 0 → Tells
+  texts typed =
+      contains_texts p arguments around.layout known structs n struct f g world.heap world.left core stands i head s x v x_set (helper_number helper.StrEqual has.made).0
+      (graph_of (type.Ptr 0) typed ∙ ap Some (texts_are around.layout n has.made (element_is (type.Ptr 0) (item_typed ∙ typed) (λ e. absurd (cc)))))
+      (λ y w b other e function block at vs waits. subst (λ t. Comes p arguments (Calling (helper_number helper.StrEqual has.made).0 (y ∷ x ∷ []) waits (record core { function = function; block = block; at = at; vars = vs })) [] (Flag t) waits (record core { function = function; block = block; at = at; vars = vs })) e
+      (texts_alike p arguments numbers (helper_number helper.StrEqual has.made).0 before (record core { function = function; block = block; at = at; vars = vs }) (has.texts typed) waits y x w v (low typed stands (item_stands y w other)) (low typed stands value_stands)))
 
   tells : Tells
-  tells = by (kind_of a) refl small_kind
+  tells = by (kind_of a) refl plain
     where
-      by : (k : Kind) → kind_of a ≡ k → is_small k ≡ true → Tells
-      by kind.Word h q =
-          let it = word_of h held in
-          let typed : type_of around a ≡ type.Signed = place_of_words around.layout a.element h in
-          contains_one p arguments around.layout known structs n struct f g world.heap world.left core stands i head s x v (held_set stands held) type.Signed binary.Eq
-          (has.graph ∙ ap (λ t. Some (contains around.layout t (shape_of around.layout n) has.made).0) typed ∙ ap Some (words_are around.layout n has.made (element_is type.Signed (place_of_words around.layout (Some item) (item_kind ∙ h)) (λ e. absurd (cc)))))
-          (λ y w b other e. (let u = word_of (item_kind ∙ h) (as_item other) in
-          ap (λ y. binary_of binary.Eq y x) u.low ∙ ap (binary_of binary.Eq (Word u.number)) it.low
-          ∙ ap (λ t. Ok (Flag t)) (sym (ap (λ w. is_equal w v) u.high ∙ ap (is_equal (MeantWord u.number)) it.high) ∙ e)))
-      by kind.Flag h q =
-          let it = flag_of h held in
-          let typed : type_of around a ≡ type.Bool = place_of_flags around.layout a.element h in
-          contains_one p arguments around.layout known structs n struct f g world.heap world.left core stands i head s x v (held_set stands held) type.Bool binary.Beq
-          (has.graph ∙ ap (λ t. Some (contains around.layout t (shape_of around.layout n) has.made).0) typed ∙ ap Some (flags_are around.layout n has.made (element_is type.Bool (place_of_flags around.layout (Some item) (item_kind ∙ h)) (λ e. absurd (cc)))))
-          (λ y w b other e. (let u = flag_of (item_kind ∙ h) (as_item other) in
-          ap (λ y. binary_of binary.Beq y x) u.low ∙ ap (binary_of binary.Beq (Flag u.truth)) it.low ∙ flags_same u.truth it.truth
-          ∙ ap (λ t. Ok (Flag t)) (sym (ap (λ w. is_equal w v) u.high ∙ ap (is_equal (MeantFlag u.truth)) it.high) ∙ e)))
-      by kind.Byte h q =
-          let it = byte_of h held in
-          let typed : type_of around a ≡ type.Char = place_of_bytes around.layout a.element h in
-          contains_bytes p arguments around.layout known structs n struct f g world.heap world.left core stands i head s x v (held_set stands held)
-          (has.graph ∙ ap (λ t. Some (contains around.layout t (shape_of around.layout n) has.made).0) typed ∙ ap Some (bytes_are around.layout n has.made (element_is type.Char (place_of_bytes around.layout (Some item) (item_kind ∙ h)) (λ e. absurd (cc))))) it.number it.low
-          (λ y w b other e. (let u = byte_of (item_kind ∙ h) (as_item other) in
-          (u.number, u.low, bytes_same u.number it.number ∙ ap (λ t. Ok (Flag t)) (sym (ap (λ w. is_equal w v) u.high ∙ ap (is_equal (Text (u.number ∷ []))) it.high) ∙ e))))
+      by : (k : Kind) → kind_of a ≡ k → is_plain k ≡ true → Tells
+      by kind.Word h q = words (place_of_words around.layout a.element h)
+      by kind.Flag h q = flags (place_of_flags around.layout a.element h)
+      by kind.Byte h q = bytes (place_of_bytes around.layout a.element h)
+      by kind.Text h q = texts (place_of_strings around.layout a.element h)
+      by kind.MaybeText h q = texts (place_of_texts around.layout a.element h)
       by _ h q = absurd (cc)
 
 -- ---- the operation
@@ -199,7 +223,7 @@ abbrev turned : Bool → Bool → Bool
 turned false t = t
 turned true t = not t
 
-module _ (reversed : Bool) (o : CmpOp) (known : Known) (around : Around) (place : Place) (a b : Operand) (w : Writing) (n : ℕ) (item : Element) (small_kind : is_small (kind_of a) ≡ true) (item_kind : kind_seen (Some item) ≡ kind_of a) (of : IsList around known b.element n item) (flags : kind_seen place.element ≡ kind.Flag)
+module _ (reversed : Bool) (o : CmpOp) (known : Known) (around : Around) (place : Place) (a b : Operand) (w : Writing) (n : ℕ) (item : Element) (plain : is_plain (kind_of a) ≡ true) (item_plain : is_plain (kind_seen (Some item)) ≡ true) (item_typed : type_seen around.layout (Some item) ≡ type_of around a) (of : IsList around known b.element n item) (flags : kind_seen place.element ≡ kind.Flag)
     (l : lower_list_op around (row.Compare o) place (a ∷ b ∷ []) w ≡ within around place reversed a b w) (means : (v u : Meant) (world : World) → meant_op known.program w.found.covered (row.Compare o) (v ∷ u ∷ []) world ≡ meant_within w.found.covered (turned reversed) v u world) where
   it : Ready around b w
   it = ready around b w of.is
@@ -282,12 +306,12 @@ module _ (reversed : Bool) (o : CmpOp) (known : Known) (around : Around) (place 
     has_there : HasAll p around.layout numbers raised core (there_asks around b w.found.covered) w.found
     has_there = has_first p around numbers raised core (there_asks around b w.found.covered) (Make looks ∷ []) w.found has
 
-    has_graph : HasList p around.layout raised (listed.Contains (type_of around a) n) number
+    has_graph : HasContains p around.layout numbers raised core (type_of around a) n number
     has_graph = (has_more p around numbers raised core (there_asks around b w.found.covered) (Make looks ∷ []) w.found has).0
 
     missing : (v u : Meant) → Holds around.layout known g a.element (operand core.vars a.x) v → Absent b.element (operand core.vars b.x) u → Done (v ∷ u ∷ [])
     missing v u held gone = subst (λ u. Done (v ∷ u ∷ [])) (sym gone.high)
-        (subst (λ answer. Follows 0 known around place p arguments Here rest e frames core g raised (references world.heap (v ∷ Nothing ∷ [])) (length w.body.types) world answer) (sym (means v Nothing world ∙ (asks_of w.found.covered (turned reversed) small_kind held).none world))
+        (subst (λ answer. Follows 0 known around place p arguments Here rest e frames core g raised (references world.heap (v ∷ Nothing ∷ [])) (length w.body.types) world answer) (sym (means v Nothing world ∙ (asks_of w.found.covered (turned reversed) (plain_stands plain held)).none world))
         (it.misses 0 known place p numbers raised arguments (calls ∷ tail reversed) rest e frames core core g (references world.heap (v ∷ Nothing ∷ [])) (length w.body.types) world has_there gone.may gone.low))
 
     module _ (v u : Meant) (held : Holds around.layout known g a.element (operand core.vars a.x) v) (found_list : Listing around.layout known g b.element (operand core.vars b.x) u) where
@@ -325,7 +349,7 @@ module _ (reversed : Bool) (o : CmpOp) (known : Known) (around : Around) (place 
       told = after mid m1 (Flag t)
 
       asked : Leads p arguments 0 Here [] (At (tail reversed ++ rest) e frames told)
-      asked = on went.way (calls_at same set (tells known around a b n item small_kind item_kind of p raised arguments number structs struct has_graph g world mid stands_mid found_list.i (operand core.vars b.x) mid_list (operand core.vars a.x) v held))
+      asked = on went.way (calls_at same set (tells known around a b n item plain item_plain item_typed of p numbers raised arguments number structs struct core has_graph g world mid stands_mid found_list.i (operand core.vars b.x) mid_list (operand core.vars a.x) v held))
 
       told_long : length told.vars ≡ length core.vars
       told_long = length-set mid.vars m1 (Flag t) ∙ went.passed.room
@@ -345,7 +369,7 @@ module _ (reversed : Bool) (o : CmpOp) (known : Known) (around : Around) (place 
       )
 
       meant : meant_op known.program w.found.covered (row.Compare o) (v ∷ Ref found_list.i ∷ []) world ≡ Gives (MeantFlag (turned reversed t)) world
-      meant = means v (Ref found_list.i) world ∙ (asks_of w.found.covered (turned reversed) small_kind held).there found_list.i world ∙ ap (λ o. flag_if_any (option_map (turned reversed) (is_in_object v o)) world) mid_list.object
+      meant = means v (Ref found_list.i) world ∙ (asks_of w.found.covered (turned reversed) (plain_stands plain held)).there found_list.i world ∙ ap (λ o. flag_if_any (option_map (turned reversed) (is_in_object v o)) world) mid_list.object
 
       there_so : Done (v ∷ u ∷ [])
       there_so = (let it = ends reversed refl in subst (λ u. Done (v ∷ u ∷ [])) (sym found_list.high)
@@ -376,32 +400,36 @@ module _ (reversed : Bool) (o : CmpOp) (known : Known) (around : Around) (place 
 
 -- ---- both
 
-small_comes : (k : Kind) → is_small k ≡ true → never_comes k ≡ false
-small_comes kind.Word h = refl
-small_comes kind.Flag h = refl
-small_comes kind.Byte h = refl
-small_comes _ h = absurd (cc)
+plain_comes : (k : Kind) → is_plain k ≡ true → never_comes k ≡ false
+plain_comes kind.Word h = refl
+plain_comes kind.Flag h = refl
+plain_comes kind.Byte h = refl
+plain_comes kind.Text h = refl
+plain_comes kind.MaybeText h = refl
+plain_comes _ h = absurd (cc)
 
-small_is_no_list : (k : Kind) → is_small k ≡ true → of_list k ≡ false
-small_is_no_list kind.Word h = refl
-small_is_no_list kind.Flag h = refl
-small_is_no_list kind.Byte h = refl
-small_is_no_list _ h = absurd (cc)
+plain_is_no_list : (k : Kind) → is_plain k ≡ true → of_list k ≡ false
+plain_is_no_list kind.Word h = refl
+plain_is_no_list kind.Flag h = refl
+plain_is_no_list kind.Byte h = refl
+plain_is_no_list kind.Text h = refl
+plain_is_no_list kind.MaybeText h = refl
+plain_is_no_list _ h = absurd (cc)
 
 pub within_is : ValuesAreAmong compared.Within
 unfolding lowered of_some of_two first_of_two second_of_two within_or
-within_is known around place a b w n item small_kind item_kind of flags = among_done false compared.Within known around place a b w n item small_kind item_kind of flags
-    (two_come around (row.Compare compared.Within) place a b w (small_comes (kind_of a) small_kind) (list_comes b of.is)
+within_is known around place a b w n item plain item_plain item_typed of flags = among_done false compared.Within known around place a b w n item plain item_plain item_typed of flags
+    (two_come around (row.Compare compared.Within) place a b w (plain_comes (kind_of a) plain) (list_comes b of.is)
     ∙ ap (λ t. lowered_unless (t && not (is_none a)) around (row.Compare compared.Within) place (a ∷ b ∷ []) w) (not_none (kind_of b) of.is)
-    ∙ ap (λ t. if t then first_of_two around (row.Compare compared.Within) place a b w else second_of_two around (row.Compare compared.Within) place a b w) (small_is_no_list (kind_of a) small_kind)
+    ∙ ap (λ t. if t then first_of_two around (row.Compare compared.Within) place a b w else second_of_two around (row.Compare compared.Within) place a b w) (plain_is_no_list (kind_of a) plain)
     ∙ ap (λ t. if t then within around place false a b w else lower_op around (row.Compare compared.Within) place (a ∷ b ∷ []) w) of.is)
     (λ v u world. refl)
 
 pub not_within_is : ValuesAreAmong compared.NotWithin
 unfolding lowered of_some of_two first_of_two second_of_two within_or
-not_within_is known around place a b w n item small_kind item_kind of flags = among_done true compared.NotWithin known around place a b w n item small_kind item_kind of flags
-    (two_come around (row.Compare compared.NotWithin) place a b w (small_comes (kind_of a) small_kind) (list_comes b of.is)
+not_within_is known around place a b w n item plain item_plain item_typed of flags = among_done true compared.NotWithin known around place a b w n item plain item_plain item_typed of flags
+    (two_come around (row.Compare compared.NotWithin) place a b w (plain_comes (kind_of a) plain) (list_comes b of.is)
     ∙ ap (λ t. lowered_unless (t && not (is_none a)) around (row.Compare compared.NotWithin) place (a ∷ b ∷ []) w) (not_none (kind_of b) of.is)
-    ∙ ap (λ t. if t then first_of_two around (row.Compare compared.NotWithin) place a b w else second_of_two around (row.Compare compared.NotWithin) place a b w) (small_is_no_list (kind_of a) small_kind)
+    ∙ ap (λ t. if t then first_of_two around (row.Compare compared.NotWithin) place a b w else second_of_two around (row.Compare compared.NotWithin) place a b w) (plain_is_no_list (kind_of a) plain)
     ∙ ap (λ t. if t then within around place true a b w else lower_op around (row.Compare compared.NotWithin) place (a ∷ b ∷ []) w) of.is)
     (λ v u world. refl)

@@ -1,4 +1,4 @@
--- The graph that says whether a value is among the items of a list, for words, truth values and bytes.
+-- The graph that says whether a value is among the items of a list, for words, truth values, bytes and strings.
 use Rattle.std.proofs.Common.{◌≡◌, ◌<◌, ℕ, suc, ◌+◌, ◌^◌, ◌||◌, Bool, true, false, List, [], ◌∷◌, ◌++◌, length, Some, Ok, pos, refl, sym, ap, ◌∙◌, subst, arith, append_assoc, length-append}
 use Rattle.std.specs.Prelude.{slice_get}
 use Rattle.csub_tree.specs.State.{Value, Unset, Word, Byte, Flag, Core}
@@ -16,7 +16,8 @@ use Rattle.ll_code.specs.declared.program.LlOp.TheVariants as op
 use Rattle.ll_code.specs.declared.program.LlGraph.{LlGraph}
 use Rattle.ll_code.specs.declared.program.LlProgram.{LlProgram}
 use Rattle.ll_leads.specs.Path.{Leads}
-use Rattle.ll_leads.proofs.Ways.{Comes, on, many, enter, gives, turns}
+use Rattle.ll_leads.proofs.Ways.{Comes, on, many, enter, gives, turns, call}
+use Rattle.ll_build.specs.declared.needs.Helper.TheVariants as helper
 use Rattle.ll_build.specs.Build.{word as word_operand, flag as flag_operand, answer}
 use Rattle.ll_texts.proofs.Numbers.{adds, less_true, less_false}
 use Rattle.rpy_tree.specs.Value.{Value as Meant, Heap}
@@ -27,6 +28,8 @@ use Rattle.rtyper_layout.specs.Types.{word}
 use Rattle.rtyper_data.specs.declared.body.Body.{Body}
 use Rattle.rtyper_data.specs.declared.found.Found.{Found}
 use Rattle.rtyper_data.specs.Comparing.{equal}
+use Rattle.rtyper_data.specs.Converting.{helped}
+use Rattle.rtyper_data.specs.Finding.{helper_number}
 use Rattle.rtyper_data.specs.Seen.{writing}
 use Rattle.rtyper_data.specs.Tuples.{variable_of}
 use Rattle.list_shape.specs.Shapes.{item_of, shape_of}
@@ -57,6 +60,9 @@ one_body layout n t o = record { types = (contains_types t (shape_of layout n) +
 abbrev pub byte_body : Layout → ℕ → Body
 byte_body layout n = record { types = (((contains_types type.Char (shape_of layout n) ++ type.Char ∷ []) ++ type.Signed ∷ []) ++ type.Signed ∷ []) ++ type.Bool ∷ []; ops = ops_of_bytes (word (n + 1)) }
 
+abbrev pub text_body : Layout → ℕ → ℕ → Body
+text_body layout n number = record { types = (contains_types (type.Ptr 0) (shape_of layout n) ++ type.Ptr 0 ∷ []) ++ type.Bool ∷ []; ops = read_ops (word (n + 1)) ++ op.Call (Some 8) number (Var 7 ∷ Var 0 ∷ []) ∷ [] }
+
 module _ (layout : Layout) (n : ℕ) (found : Found) where
   abbrev made_for : LlType → LlType → LlGraph
   made_for kind t = (contains_made (shape_of layout n) (equal layout (Var 7) t (Var 0) kind (writing found (record { types = contains_types kind (shape_of layout n) ++ t ∷ []; ops = read_ops (word (n + 1)) })))).0
@@ -72,6 +78,13 @@ module _ (layout : Layout) (n : ℕ) (found : Found) where
   pub bytes_are : item_of layout (word (n + 1)) ≡ type.Char → (contains layout type.Char (shape_of layout n) found).0 ≡ contains_graph (shape_of layout n) (10, byte_body layout n)
   unfolding contains same_item equal variable_of contains_types
   bytes_are h = ap (made_for type.Char) h
+
+  pub texts_are : item_of layout (word (n + 1)) ≡ type.Ptr 0 → (contains layout (type.Ptr 0) (shape_of layout n) found).0 ≡ contains_graph (shape_of layout n) (8, text_body layout n (helper_number helper.StrEqual found).0)
+  unfolding contains same_item equal variable_of contains_types helped
+  texts_are h = ap (made_for (type.Ptr 0)) h
+
+abbrev two : Value × Value → List Value
+two rest = rest.0 ∷ rest.1 ∷ []
 
 -- ---- the loop
 
@@ -160,9 +173,6 @@ module _ (p : LlProgram) (args : List (List ℕ)) (layout : Layout) (known : Kno
   -- ---- one operator tells
 
   module _ (t : LlType) (o : CBinary) (graph : slice_get p.graphs f ≡ Some (contains_graph (shape_of layout n) (8, one_body layout n t o))) (told : (y : Value) (w : Meant) (b : Bool) → Holds layout known g (known.items n) y w → is_equal w v ≡ b → binary_of o y x ≡ Ok (Flag b)) where
-    abbrev two : Value × Value → List Value
-    two rest = rest.0 ∷ rest.1 ∷ []
-
     tells_one : Tells 8 (one_body layout n t o) graph (Value × Value) two
     unfolding contains_graph contains_start contains_asks contains_turn contains_types
     tells_one = record {
@@ -216,6 +226,37 @@ module _ (p : LlProgram) (args : List (List ℕ)) (layout : Layout) (known : Kno
     pub contains_bytes : (waits : List Frame) → Comes p args (Calling f (x ∷ head ∷ []) waits core) [] (Flag (is_among v s.items)) waits core
     unfolding contains_graph contains_start contains_asks contains_turn contains_types
     contains_bytes waits = (let it = loops 10 (byte_body layout n) graph Four four tells_bytes waits [] Unset Unset ((Unset, Unset), (Unset, Unset)) s.each refl in record {
+      end = it.end;
+      same = it.same;
+      leads = on (enter graph refl) (on (reads_field 2 (head_block n count s.array) (Word (pos count)) (structs.heads n struct) s.head_is refl refl 0 refl) (on (reads_field 2 (head_block n count s.array) s.array (structs.heads n struct) s.head_is refl array_set 1 refl) (on (many 1 graph refl sets) it.leads)));
+    })
+
+  -- ---- strings by a helper
+
+  module _ (number : ℕ) (graph : slice_get p.graphs f ≡ Some (contains_graph (shape_of layout n) (8, text_body layout n number)))
+      (told : (y : Value) (w : Meant) (b : Bool) → Holds layout known g (known.items n) y w → is_equal w v ≡ b → (function block at : ℕ) (vs : List Value) (waits : List Frame)
+      → Comes p args (Calling number (y ∷ x ∷ []) waits (record core { function = function; block = block; at = at; vars = vs })) [] (Flag b) waits (record core { function = function; block = block; at = at; vars = vs })) where
+    passes_both : (y : Value) (w : Meant) → Holds layout known g (known.items n) y w → is_unset y || (is_unset x || false) ≡ false
+    passes_both y w held = ap (λ b. b || (is_unset x || false)) (held_set r held) ∙ ap (λ b. b || false) x_set
+
+    tells_texts : Tells 8 (text_body layout n number) graph (Value × Value) two
+    unfolding contains_graph contains_start contains_asks contains_turn contains_types
+    tells_texts = record {
+      finds = λ j v6 y w rest inside at held h waits. (
+        _,
+        on (reads_item 1 (array_block n whole) y (structs.arrays n struct) s.array_is refl (held_set r held) j refl (omega (arith, inside, whole_long)) at)
+            (on (gives (Word (pos (j + 1))) (adds j 1 (omega (arith, inside, whole_long, small)))) (on (call (passes_both y w held) (λ waits. told y w true held h _ _ _ _ waits)) (many 1 graph refl refl))),
+      );
+      passes = λ j v6 y w rest inside at held h waits. (
+        (y, Flag false),
+        on (reads_item 1 (array_block n whole) y (structs.arrays n struct) s.array_is refl (held_set r held) j refl (omega (arith, inside, whole_long)) at)
+            (on (gives (Word (pos (j + 1))) (adds j 1 (omega (arith, inside, whole_long, small)))) (on (call (passes_both y w held) (λ waits. told y w false held h _ _ _ _ waits)) (many 1 graph refl sets))),
+      );
+    }
+
+    pub contains_texts : (waits : List Frame) → Comes p args (Calling f (x ∷ head ∷ []) waits core) [] (Flag (is_among v s.items)) waits core
+    unfolding contains_graph contains_start contains_asks contains_turn contains_types
+    contains_texts waits = (let it = loops 8 (text_body layout n number) graph (Value × Value) two tells_texts waits [] Unset Unset (Unset, Unset) s.each refl in record {
       end = it.end;
       same = it.same;
       leads = on (enter graph refl) (on (reads_field 2 (head_block n count s.array) (Word (pos count)) (structs.heads n struct) s.head_is refl refl 0 refl) (on (reads_field 2 (head_block n count s.array) s.array (structs.heads n struct) s.head_is refl array_set 1 refl) (on (many 1 graph refl sets) it.leads)));

@@ -32,7 +32,7 @@ pub fn lists_are_sliced()
     ensures but_last { LastItemsAreLeftOut }
 {}
 
-/// Whether a word, a truth value or a byte is among the items of a list, and whether it is not.
+/// Whether a word, a truth value, a byte or a string is among the items of a list of such, and whether it is not.
 pub fn values_are_among()
     ensures within { ValuesAreAmong compared.Within }
     ensures not_within { ValuesAreAmong compared.NotWithin }
