@@ -1,12 +1,12 @@
 -- Values are looked for among the items of lists.
-use Rattle.std.proofs.Common.{◌≡◌, ◌<◌, ◌≤◌, ℕ, suc, ◌+◌, ◌⊎◌, inl, inr, Bool, true, false, ◌||◌, ◌&&◌, List, [], ◌∷◌, ◌++◌, length, Option, Some, Ok, ℤ, pos, refl, sym, ap, ◌∙◌, subst, arith, append_assoc, length-append}
+use Rattle.std.proofs.Common.{◌≡◌, ◌<◌, ◌≤◌, ℕ, suc, ◌+◌, ◌⊎◌, inl, inr, Bool, true, false, ◌||◌, ◌&&◌, List, [], ◌∷◌, ◌++◌, length, Option, Some, Ok, pos, refl, sym, ap, ◌∙◌, subst, arith, append_assoc, length-append}
 use Rattle.std.specs.Prelude.{slice_get, if◌then◌else◌, option_map, not, nat_eq}
 use Rattle.std.specs.Ordering.{int_eq}
 use Rattle.std.proofs.lemmas.Bool.Decides.{nat_tests}
 use Rattle.std.proofs.lemmas.List.{append-nil, length-set}
 use Rattle.ann_element.specs.declared.element.Element.{Element}
 use Rattle.rpy_base.specs.declared.outcome.FailName.TheVariants as fail
-use Rattle.csub_tree.specs.State.{Value, Word, Byte, Flag, Block, Core}
+use Rattle.csub_tree.specs.State.{Value, Word, Flag, Block, Core}
 use Rattle.csub_tree.specs.Operation.{is_unset, binary_of, unary_of}
 use Rattle.csub_tree.specs.Statement.{operand, operands, any_unset}
 use Rattle.csub_tree.specs.declared.tree.CBinary.TheVariants as binary
@@ -56,9 +56,10 @@ use Rattle.rtyper_list.specs.Lowering.{lowered, lowered_unless, of_some, of_two,
 use Rattle.rtyper_list.specs.Operands.{of_list, is_none, list_of, pointed, there}
 use Rattle.lower_laws.specs.Asked.{Ask, Make, all_asked}
 use Rattle.lower_laws.specs.Values.{AllBelow, is_plain}
-use Rattle.lower_laws.proofs.Doing.{after}
+use Rattle.lower_laws.proofs.Doing.{WordIs, FlagIs, after}
 use Rattle.lower_laws.proofs.Single.{sets, gives_flag}
 use Rattle.lower_laws.proofs.Stayed.{field_is}
+use Rattle.lower_laws.proofs.Truths.{ByteIs}
 use Rattle.lower_laws.proofs.Typing.{place_of_words, place_of_flags, place_of_bytes, place_of_strings, place_of_texts}
 use Rattle.list_laws.specs.Asked.{HasContains, HasAll}
 use Rattle.list_laws.specs.Lists.{IsList, there_asks}
@@ -82,31 +83,16 @@ use Rattle.list_copy_laws.proofs.Ready.{Went, Ready, ready}
 
 -- ---- such values
 
-record WordOf (x : Value) (v : Meant) : Type 0 where
-  number : ℤ
-  low : x ≡ Word number
-  high : v ≡ MeantWord number
-
-record FlagOf (x : Value) (v : Meant) : Type 0 where
-  truth : Bool
-  low : x ≡ Flag truth
-  high : v ≡ MeantFlag truth
-
-record ByteOf (x : Value) (v : Meant) : Type 0 where
-  number : ℕ
-  low : x ≡ Byte number
-  high : v ≡ Text (number ∷ [])
-
-of_word : {g : Ghost} (t : LlType) (x : Value) (v : Meant) → t ≡ type.Signed → Stands g t x v → WordOf x v
-of_word type.Signed x v h (word_stands z f) = record { number = z; low = refl; high = refl }
+of_word : {g : Ghost} (t : LlType) (x : Value) (v : Meant) → t ≡ type.Signed → Stands g t x v → WordIs x v
+of_word type.Signed x v h (word_stands z f) = record { number = z; low = refl; high = refl; fits = f }
 of_word _ x v h s = absurd (cc)
 
-of_flag : {g : Ghost} (t : LlType) (x : Value) (v : Meant) → t ≡ type.Bool → Stands g t x v → FlagOf x v
+of_flag : {g : Ghost} (t : LlType) (x : Value) (v : Meant) → t ≡ type.Bool → Stands g t x v → FlagIs x v
 of_flag type.Bool x v h (flag_stands b) = record { truth = b; low = refl; high = refl }
 of_flag _ x v h s = absurd (cc)
 
-of_byte : {g : Ghost} (t : LlType) (x : Value) (v : Meant) → t ≡ type.Char → Stands g t x v → ByteOf x v
-of_byte type.Char x v h (byte_stands b small) = record { number = b; low = refl; high = refl }
+of_byte : {g : Ghost} (t : LlType) (x : Value) (v : Meant) → t ≡ type.Char → Stands g t x v → ByteIs x v
+of_byte type.Char x v h (byte_stands b k) = record { number = b; low = refl; high = refl; small = k }
 of_byte _ x v h s = absurd (cc)
 
 -- what is asked of such a value

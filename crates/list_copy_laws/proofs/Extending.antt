@@ -1,6 +1,7 @@
 -- The graph that puts the items of a list behind those of another, or of itself, at its cost.
 use Rattle.std.proofs.Common.{◌≡◌, ◌<◌, ◌≤◌, ◌⊎◌, inl, inr, ℕ, zero, suc, ◌+◌, ◌-◌, ◌^◌, ◌||◌, true, false, List, [], ◌∷◌, ◌++◌, length, Option, Some, None, pos, refl, sym, ap, ◌∙◌, subst, arith, append_assoc, length-append}
 use Rattle.std.specs.Prelude.{slice_get, slice_set}
+use Rattle.std.proofs.lemmas.Bool.{cases_eq}
 use Rattle.std.proofs.lemmas.List.{append-nil}
 use Rattle.std.proofs.Math.Nat.{div-mul-le_self}
 use Rattle.ann_element.specs.declared.element.Element.{Element}
@@ -68,16 +69,6 @@ empty_behind (x ∷ xs) ys h = empty_behind xs ys h.1
 
 pub items_same : {o : Option Object} {xs ys : List Meant} → o ≡ Some (Listed xs) → o ≡ Some (Listed ys) → xs ≡ ys
 items_same h k = (let q : Some (Listed _) ≡ Some (Listed _) = sym h ∙ k in cc)
-
-same_or_not : (m n : ℕ) → (m ≡ n) ⊎ (m ≡ n → ⊥)
-same_or_not zero zero = inl refl
-same_or_not zero (suc n) = inr (λ e. omega (arith, e))
-same_or_not (suc m) zero = inr (λ e. omega (arith, e))
-same_or_not (suc m) (suc n) = next (same_or_not m n)
-  where
-    next : (m ≡ n) ⊎ (m ≡ n → ⊥) → (suc m ≡ suc n) ⊎ (suc m ≡ suc n → ⊥)
-    next (inl e) = inl (ap suc e)
-    next (inr h) = inr (λ e. h (omega (arith, e)))
 
 abbrev list_in : Sort → ℕ
 list_in (ListOf n) = n
@@ -380,7 +371,7 @@ module _ (p : LlProgram) (args : List (List ℕ)) (layout : Layout) (known : Kno
       }
 
     pub extended : Extended p args layout known g heap left i head head2 l.items by.items f core
-    extended = either (same_or_not i j)
+    extended = either (cases_eq i j)
       where
         either : (i ≡ j) ⊎ (i ≡ j → ⊥) → Extended p args layout known g heap left i head head2 l.items by.items f core
         either (inl e) = extended_so (same_list e)

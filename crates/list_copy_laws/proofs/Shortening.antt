@@ -1,6 +1,6 @@
 -- The graph that makes a list of all items of another but the last, by a slice.
 use Rattle.std.proofs.Common.{◌≡◌, ◌<◌, ◌≤◌, ◌⊎◌, inl, inr, ℕ, zero, suc, ◌+◌, ◌-◌, ◌^◌, ◌||◌, Bool, true, false, List, [], ◌∷◌, ◌++◌, length, Some, Ok, pos, refl, ap, ◌∙◌, subst, arith, length-append}
-use Rattle.std.specs.Prelude.{cond, not, ◌&&◌, take, drop}
+use Rattle.std.specs.Prelude.{cond, not, ◌&&◌, take}
 use Rattle.csub_tree.specs.State.{Value, Unset, Word, Flag, Core}
 use Rattle.csub_tree.specs.Operation.{is_unset, binary_of}
 use Rattle.csub_tree.specs.declared.tree.CBinary.TheVariants as binary
@@ -42,11 +42,7 @@ use Rattle.object_laws.proofs.Blocks.{found_set, reads_field}
 use Rattle.object_laws.proofs.Calling.{calls_back}
 use Rattle.object_laws.proofs.Valued.{each_long}
 use Rattle.list_copy_laws.proofs.Fresh.{MadeList}
-use Rattle.list_copy_laws.proofs.Slicing.{cut, sliced, slice_lacks}
-
-pub drop_none : {A : Type 0} (vs : List A) → drop 0 vs ≡ vs
-drop_none [] = refl
-drop_none (v ∷ vs) = refl
+use Rattle.list_copy_laws.proofs.Slicing.{cut, drop_none, sliced, slice_lacks}
 
 module _ (p : LlProgram) (args : List (List ℕ)) (layout : Layout) (known : Known) (raised : ℕ → Value) (structs : HasLayout p layout) (l n : ℕ) (struct : is_list layout l ≡ true) (struct2 : is_list layout n ≡ true) (f : ℕ) (has : HasButLast p layout raised l n f)
     (typed : item_of layout (word (l + 1)) ≡ item_of layout (word (n + 1))) (each_as : (xs : List Value) (vs : List Meant) (g : Ghost) → EachHolds layout known g (known.items l) xs vs → EachHolds layout known g (known.items n) xs vs)

@@ -53,8 +53,8 @@ use Rattle.list_copy_laws.specs.Joined.{Takes, LastItemsAreLeftOut}
 use Rattle.list_copy_laws.proofs.Extends.{each_stays}
 use Rattle.list_copy_laws.proofs.Newly.{after_list, list_given}
 use Rattle.list_copy_laws.proofs.Ready.{Went, from_there, Ready, ready}
-use Rattle.list_copy_laws.proofs.Shortening.{drop_none, shortened, but_last_lacks}
-use Rattle.list_copy_laws.proofs.Slicing.{cut}
+use Rattle.list_copy_laws.proofs.Shortening.{shortened, but_last_lacks}
+use Rattle.list_copy_laws.proofs.Slicing.{cut, drop_none}
 
 module _ (site : ℕ) (known : Known) (around : Around) (place : Place) (a : Operand) (w : Writing) (l n : ℕ) (item result : Element) (of : IsList around known a.element l item) (takes : Takes around known place n result) (stay : Stays around.layout known (Some item) (Some result)) where
   abbrev o : RowOp

@@ -1,5 +1,5 @@
 -- Slices of lists, by bounds that may be absent.
-use Rattle.std.proofs.Common.{◌≡◌, ◌<◌, ◌≤◌, ℕ, zero, suc, ◌+◌, ◌^◌, ◌⊎◌, inl, inr, Bool, true, false, ◌||◌, ◌&&◌, List, [], ◌∷◌, ◌++◌, length, Option, Some, None, ℤ, pos, negsuc, refl, sym, ap, ◌∙◌, subst, arith, append_assoc, length-append}
+use Rattle.std.proofs.Common.{◌≡◌, ◌<◌, ◌≤◌, ℕ, ◌+◌, ◌^◌, ◌⊎◌, inl, inr, Bool, true, false, ◌||◌, ◌&&◌, List, [], ◌∷◌, ◌++◌, length, Option, Some, None, ℤ, pos, negsuc, refl, sym, ap, ◌∙◌, subst, arith, append_assoc, length-append}
 use Rattle.std.specs.Prelude.{slice_get, if◌then◌else◌, take, drop, int_le}
 use Rattle.std.proofs.lemmas.Bool.Decides.{nat_tests}
 use Rattle.ann_element.specs.declared.element.Element.{Element}
@@ -60,7 +60,7 @@ use Rattle.list_copy_laws.proofs.Called.{call_fails}
 use Rattle.list_copy_laws.proofs.Extends.{each_stays}
 use Rattle.list_copy_laws.proofs.Newly.{after_list, list_given}
 use Rattle.list_copy_laws.proofs.Ready.{Went, from_there, Ready, ready}
-use Rattle.list_copy_laws.proofs.Slicing.{cut, sliced, slice_lacks, slice_fails_low, slice_fails_high}
+use Rattle.list_copy_laws.proofs.Slicing.{cut, take_whole, drop_none, sliced, slice_lacks, slice_fails_low, slice_fails_high}
 
 -- what a slice between two words answers
 abbrev after_slice : World → List Meant → ℤ → ℤ → Answer
@@ -71,16 +71,6 @@ after_slice w items (negsuc from) to = Fails fail.NegativeSlice
 -- an absent bound is the start, or the end of any list
 abbrev end_of_any : ℤ
 end_of_any = pos 9223372036854775807
-
-take_whole : {A : Type 0} (n : ℕ) (vs : List A) → length vs ≤ n → take n vs ≡ vs
-take_whole zero [] h = refl
-take_whole (suc n) [] h = refl
-take_whole zero (v ∷ vs) h = absurd (omega (arith, h))
-take_whole (suc n) (v ∷ vs) h = ap (λ l. v ∷ l) (take_whole n vs (omega (arith, h)))
-
-drop_none : {A : Type 0} (vs : List A) → drop 0 vs ≡ vs
-drop_none [] = refl
-drop_none (v ∷ vs) = refl
 
 -- ---- the call
 

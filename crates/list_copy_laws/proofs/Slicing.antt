@@ -97,19 +97,23 @@ set_between [] [] zs h = tt
 set_between [] (y ∷ ys) zs h = (h.0, set_between [] ys zs h.1)
 set_between (x ∷ xs) ys zs h = set_between xs ys zs h.1
 
+pub take_whole : {A : Type 0} (n : ℕ) (vs : List A) → length vs ≤ n → take n vs ≡ vs
+take_whole zero [] h = refl
+take_whole (suc n) [] h = refl
+take_whole zero (v ∷ vs) h = absurd (omega (arith, h))
+take_whole (suc n) (v ∷ vs) h = ap (λ l. v ∷ l) (take_whole n vs (omega (arith, h)))
+
+pub drop_none : {A : Type 0} (vs : List A) → drop 0 vs ≡ vs
+drop_none [] = refl
+drop_none (v ∷ vs) = refl
+
 -- bounds past the end are cut there, which leaves the same items
 take_least : {A : Type 0} (high : ℕ) (vs : List A) → take (min high (length vs)) vs ≡ take high vs
 take_least high vs = by (nat_lt high (length vs)) refl
   where
-    all : {A : Type 0} (n : ℕ) (vs : List A) → length vs ≤ n → take n vs ≡ vs
-    all zero [] h = refl
-    all (suc n) [] h = refl
-    all zero (v ∷ vs) h = absurd (omega (arith, h))
-    all (suc n) (v ∷ vs) h = ap (λ l. v ∷ l) (all n vs (omega (arith, h)))
-
     by : (c : Bool) → nat_lt high (length vs) ≡ c → take (min high (length vs)) vs ≡ take high vs
     by true h = (let m : high < length vs = is_less high (length vs) h in let q : min high (length vs) ≡ high = omega (arith, m) in ap (λ k. take k vs) q)
-    by false h = (let m : length vs ≤ high = not_less high (length vs) h in let q : min high (length vs) ≡ length vs = omega (arith, m) in ap (λ k. take k vs) q ∙ all (length vs) vs (omega arith) ∙ sym (all high vs m))
+    by false h = (let m : length vs ≤ high = not_less high (length vs) h in let q : min high (length vs) ≡ length vs = omega (arith, m) in ap (λ k. take k vs) q ∙ take_whole (length vs) vs (omega arith) ∙ sym (take_whole high vs m))
 
 drop_all : {A : Type 0} (n : ℕ) (vs : List A) → length vs ≤ n → drop n vs ≡ []
 drop_all zero [] h = refl
