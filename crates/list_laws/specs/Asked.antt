@@ -1,17 +1,20 @@
 -- Graphs of lists that are asked for stand at their numbers.
 use Rattle.std.specs.Prelude.{◌≡◌, ℕ, ◌+◌, List, [], Some, slice_get}
 use Rattle.csub_tree.specs.State.{Value, Core}
+use Rattle.ll_code.specs.declared.program.LlType.{LlType}
+use Rattle.ll_code.specs.declared.program.LlType.TheVariants as type
 use Rattle.ll_code.specs.declared.program.LlProgram.{LlProgram}
+use Rattle.ll_build.specs.declared.needs.Helper.TheVariants as helper
 use Rattle.ll_build.specs.declared.needs.Numbers.{Numbers}
 use Rattle.rtyper_layout.specs.declared.layout.Layout.{Layout}
 use Rattle.rtyper_layout.specs.Types.{word}
 use Rattle.rtyper_data.specs.declared.found.Found.{Found}
 use Rattle.rtyper_data.specs.declared.small.Listed.{Listed}
-use Rattle.rtyper_data.specs.declared.small.Listed.TheVariants.{Place, Room, Append, Insert, Extend, Remove, Copy, MoveUp, Make as MakeList, Concat, Repeat, Slice, ButLast}
+use Rattle.rtyper_data.specs.declared.small.Listed.TheVariants.{Place, Room, Append, Insert, Extend, Remove, Copy, MoveUp, Make as MakeList, Concat, Repeat, Slice, ButLast, Contains}
 use Rattle.rtyper_data.specs.declared.small.Small.TheVariants as small
 use Rattle.rtyper_data.specs.Finding.{small_number}
 use Rattle.list_helpers.specs.Listing.{list_graph}
-use Rattle.lower_laws.specs.Asked.{Ask, Make, Has as HasOther, AllRaise, if_raised}
+use Rattle.lower_laws.specs.Asked.{Ask, Help, Make, Has as HasOther, AllRaise, if_raised}
 use Rattle.object_laws.specs.Done.{AllAsked}
 
 -- the classes of what a graph of lists raises
@@ -94,6 +97,12 @@ pub record HasRemove (p : LlProgram) (layout : Layout) (raised : ℕ → Value) 
   pub graph : slice_get p.graphs f ≡ Some (list_graph layout (Remove n) made).0
   pub moves : HasCopy p layout raised n made
 
+-- the graph that looks for a value among the items, and the helper that it compares strings by
+pub record HasContains (p : LlProgram) (layout : Layout) (numbers : Numbers) (raised : ℕ → Value) (core : Core) (t : LlType) (n f : ℕ) : Type 0 where
+  pub made : Found
+  pub graph : slice_get p.graphs f ≡ Some (list_graph layout (Contains t n) made).0
+  pub texts : t ≡ type.Ptr 0 → HasOther p layout numbers raised core (Help helper.StrEqual) made
+
 abbrev pub Has : LlProgram → Layout → Numbers → (ℕ → Value) → Core → Ask → Found → Type 0
 Has p layout numbers raised core (Make (small.Listed (Append n))) found = HasAppend p layout raised n (small_number (small.Listed (Append n)) found).0
 Has p layout numbers raised core (Make (small.Listed (Remove n))) found = HasRemove p layout raised n (small_number (small.Listed (Remove n)) found).0
@@ -103,6 +112,7 @@ Has p layout numbers raised core (Make (small.Listed (Concat l m r))) found = Ha
 Has p layout numbers raised core (Make (small.Listed (Repeat l r))) found = HasRepeat p layout raised l r (small_number (small.Listed (Repeat l r)) found).0
 Has p layout numbers raised core (Make (small.Listed (Slice l r))) found = HasSlice p layout raised l r (small_number (small.Listed (Slice l r)) found).0
 Has p layout numbers raised core (Make (small.Listed (ButLast l r))) found = HasButLast p layout raised l r (small_number (small.Listed (ButLast l r)) found).0
+Has p layout numbers raised core (Make (small.Listed (Contains t n))) found = HasContains p layout numbers raised core t n (small_number (small.Listed (Contains t n)) found).0
 Has p layout numbers raised core (Make (small.Listed graph)) found = HasList p layout raised graph (small_number (small.Listed graph) found).0
 Has p layout numbers raised core ask found = HasOther p layout numbers raised core ask found
 
