@@ -1,16 +1,19 @@
 // Room in a dict: where no place is free, both arrays are made anew from the entries. No step is paid meanwhile.
+ghost use Rattle.std.specs.Prelude.{◌≡◌, ◌++◌, IfOk, OnOk};
+ghost use Rattle.rtyper_data.specs.Seen.{Asks};
+ghost use Rattle.rtyper_dict.specs.Growing as spec;
+
 use crate::parts::{
-    BOOL, SIGNED, add, call, count, first, length, less, listed, places, same, second, sub,
+    BOOL, DictShape, SIGNED, ZERO, add, count, first, length, less, number_if, places, push_call,
+    same, second, sub,
 };
-use csub_tree::{CConst, COperand};
+use csub_tree::COperand::Var;
+use list_shape::number_of;
 use ll_build::Helper;
-use ll_code::{LlBlock, LlGraph, LlOp, LlType};
+use ll_build::build::{block, call_of, done, fork, go, null, operations, types_of, word};
+use ll_code::{LlBlock, LlExit, LlGraph, LlOp, LlType};
 use rpy_base::{NoMem, Seq};
-use rtyper_data::{
-    Found, Keyed, Listed, and, ends, fork, gives, goto, graph_written, helper_number, kinds, op,
-    op_made, operands, ops, passes, var, word, written,
-};
-use rtyper_layout::Mapping;
+use rtyper_data::{Found, Keyed, Listed, graph_of, helper_number};
 use std::alloc::Global;
 
 /// The greatest number of places, and the most that come at once.
@@ -18,33 +21,49 @@ const MOST_PLACES: i64 = 4611686018427387903;
 
 const MOST_MORE: i64 = 1152921504606846976;
 
-/// A dict without entries and arrays.
-pub fn make(alloc: Global, m: Mapping) -> Result<LlGraph, NoMem> {
-    let null = COperand::Const(CConst::Null);
-    let types = kinds(alloc, [LlType::Ptr(m.dict)]);
-    let made = ops(
+// ---- a dict without entries and arrays
+
+#[tactic(auto, unfolding(crate::specs::Growing::make_given))]
+fn make_given(alloc: Global, d: DictShape) -> Result<LlBlock, NoMem>
+    ensures { IfOk result (λ made. made ≡ spec.make_given d) }
+{
+    let ops = operations(
         alloc,
         [
-            LlOp::New(0, m.dict, m.dict),
-            LlOp::SetField(m.dict, 0, 0, word(0)),
-            LlOp::SetField(m.dict, 0, 1, word(0)),
-            LlOp::SetField(m.dict, 0, 2, null),
-            LlOp::SetField(m.dict, 0, 3, null),
+            LlOp::New(0, d.dict, d.dict),
+            LlOp::SetField(d.dict, 0, 0, ZERO),
+            LlOp::SetField(d.dict, 0, 1, ZERO),
+            LlOp::SetField(d.dict, 0, 2, null()),
+            LlOp::SetField(d.dict, 0, 3, null()),
         ],
-    );
-    let blocks = and(Ok(Seq::new(alloc)), written(alloc, [], made, gives(0)));
-    graph_written(alloc, b"dict_make", 0, LlType::Ptr(m.dict), types, blocks)
+    )?;
+    block(alloc, [], ops, LlExit::Return(Some(Var(0))))
 }
 
-// ---- 0 the dict, 1 the number of entries, 2 that of places, 3 a test, 4 and 14 the number of further places, 5 the new
+/// A dict without entries and arrays.
+#[tactic(auto, unfolding(crate::specs::Growing::make))]
+pub fn make(alloc: Global, d: DictShape) -> Result<LlGraph, NoMem>
+    ensures { IfOk result (λ made. made ≡ spec.make d) }
+{
+    let dict = LlType::Ptr(d.dict);
+    let mut blocks = Seq::new(alloc);
+    blocks.push(make_given(alloc, d)?)?;
+    let types = types_of(alloc, [dict])?;
+    graph_of(alloc, b"dict_make", 0, dict, types, blocks)
+}
+
+// ---- a place for one entry more: 0 the dict, 1 the number of entries, 2 that of places, 3 a test, 4 and 14 the number of further places, 5 the new
 // number, 6 the length of the new index, 7 that of the new second array, 8 and 9 the new arrays, 10 and 11 the old
 // ones, 12 the length of the old second one, 13 that of the old index, and where the free places begin
 
-fn grow_types(alloc: Global, m: Mapping) -> Result<Seq<LlType>, NoMem> {
-    kinds(
+#[tactic(auto, unfolding(crate::specs::Growing::grow_types))]
+fn grow_types(alloc: Global, d: DictShape) -> Result<Seq<LlType>, NoMem>
+    ensures { IfOk result (λ types. types ≡ spec.grow_types d) }
+{
+    types_of(
         alloc,
         [
-            LlType::Ptr(m.dict),
+            LlType::Ptr(d.dict),
             SIGNED,
             SIGNED,
             BOOL,
@@ -52,10 +71,10 @@ fn grow_types(alloc: Global, m: Mapping) -> Result<Seq<LlType>, NoMem> {
             SIGNED,
             SIGNED,
             SIGNED,
-            LlType::Ptr(m.first()),
-            LlType::Ptr(m.second()),
-            LlType::Ptr(m.first()),
-            LlType::Ptr(m.second()),
+            LlType::Ptr(d.first),
+            LlType::Ptr(d.second),
+            LlType::Ptr(d.first),
+            LlType::Ptr(d.second),
             SIGNED,
             SIGNED,
             SIGNED,
@@ -63,150 +82,185 @@ fn grow_types(alloc: Global, m: Mapping) -> Result<Seq<LlType>, NoMem> {
     )
 }
 
-fn has_room(alloc: Global, m: Mapping) -> Result<LlBlock, NoMem> {
-    let asked = ops(alloc, [count(1, m, 0), places(2, m, 0), less(3, 1, var(2))]);
-    written(
-        alloc,
-        [0],
-        asked,
-        fork(alloc, 3, 1, [], 2, [var(0), var(2)]),
-    )
+#[tactic(auto, unfolding(crate::specs::Growing::grow_asks))]
+fn grow_asks(alloc: Global, d: DictShape) -> Result<LlBlock, NoMem>
+    ensures { IfOk result (λ made. made ≡ spec.grow_asks d) }
+{
+    let ops = operations(alloc, [count(1, d, 0), places(2, d, 0), less(3, 1, Var(2))])?;
+    let exit = fork(alloc, 3, 1, [], 2, [Var(0), Var(2)])?;
+    block(alloc, [0], ops, exit)
 }
 
-// The smaller of a word and another.
-fn least(alloc: Global, into: u64, v: u64, most: i64, found: &mut Found) -> Result<LlOp, NoMem> {
-    let number = helper_number(Helper::WordMin, found)?;
-    Ok(LlOp::Call(Some(into), number, operands(alloc, [var(v), word(most)])?))
-}
-
-// Twice as many places and 4 more, as far as that goes.
-fn counted(alloc: Global, m: Mapping, found: &mut Found) -> Result<LlBlock, NoMem> {
-    let more = least(alloc, 4, 2, MOST_MORE, found);
-    let cut = least(alloc, 5, 14, MOST_PLACES, found);
-    let further = op_made(ops(alloc, []), more);
-    let all = op(op(further, add(4, 4, word(4))), add(14, 4, var(2)));
-    let size = if m.is_indexed() {
-        call(alloc, Some(6), Keyed::Size, [var(5)], found)
-    } else {
-        Ok(LlOp::Set(6, word(0)))
-    };
-    let new = op_made(op_made(all, cut), size);
-    let exit = goto(alloc, 3, [var(0), var(2), var(5), var(6)]);
-    written(alloc, [0, 2], new, exit)
-}
-
-fn arrays_made(alloc: Global, m: Mapping) -> Result<LlBlock, NoMem> {
-    let arrays = ops(
-        alloc,
-        [
-            add(7, 6, var(5)),
-            LlOp::NewArray(8, m.first(), m.first(), var(5)),
-            LlOp::SetField(m.first(), 8, 0, var(5)),
-            LlOp::NewArray(9, m.second(), m.second(), var(7)),
-            LlOp::SetField(m.second(), 9, 0, var(7)),
-            same(3, 2, word(0)),
-        ],
-    );
-    let all = [var(0), var(2), var(5), var(6), var(8), var(9)];
-    written(alloc, [0, 2, 5, 6], arrays, fork(alloc, 3, 5, all, 4, all))
-}
-
-fn copied(alloc: Global, m: Mapping, found: &mut Found) -> Result<LlBlock, NoMem> {
-    let to_first = [var(10), word(0), var(8), word(0), var(2)];
-    let to_second = [var(11), var(13), var(9), var(6), var(2)];
-    let one = listed(
-        alloc,
-        None,
-        Listed::Copy(m.first(), m.first()),
-        to_first,
-        found,
-    );
-    let two = listed(
-        alloc,
-        None,
-        Listed::Copy(m.second(), m.second()),
-        to_second,
-        found,
-    );
-    let old = ops(
-        alloc,
-        [
-            first(10, m, 0),
-            second(11, m, 0),
-            length(12, m, 11),
-            sub(13, 12, var(2)),
-        ],
-    );
-    let exit = goto(alloc, 5, [var(0), var(2), var(5), var(6), var(8), var(9)]);
-    written(
-        alloc,
-        [0, 2, 5, 6, 8, 9],
-        op_made(op_made(old, one), two),
-        exit,
-    )
-}
-
-// The items of a new array from a place on hold nothing. Those that are references do so from the start.
-fn filled(
-    alloc: Global,
-    item: LlType,
-    array: u64,
-    xs: [COperand; 2],
-    made: Result<Seq<LlOp>, NoMem>,
-    found: &mut Found,
-) -> Result<Seq<LlOp>, NoMem> {
-    match item {
-        LlType::Ptr(_) => made,
-        _ => op_made(made, call(alloc, None, Keyed::Fill(array), xs, found)),
+// The length of the new index, by the graph for it, where there is an index.
+fn index_length(alloc: Global, sizes: Option<u64>) -> Result<LlOp, NoMem>
+    ensures { IfOk result (λ op. op ≡ spec.index_length sizes) }
+{
+    match sizes {
+        None => Ok(LlOp::Set(6, ZERO)),
+        Some(sizes) => call_of(alloc, Some(6), sizes, [Var(5)]),
     }
 }
 
-fn replaced(alloc: Global, m: Mapping, found: &mut Found) -> Result<LlBlock, NoMem> {
-    let fields = ops(
+// Twice as many places and 4 more, as far as that goes.
+#[tactic(auto, unfolding(crate::specs::Growing::grow_counts))]
+fn grow_counts(alloc: Global, least: u64, sizes: Option<u64>) -> Result<LlBlock, NoMem>
+    ensures { IfOk result (λ made. made ≡ spec.grow_counts least sizes) }
+{
+    let more = call_of(alloc, Some(4), least, [Var(2), word(MOST_MORE)])?;
+    let mut ops = operations(alloc, [more, add(4, 4, word(4)), add(14, 4, Var(2))])?;
+    ops.push(call_of(alloc, Some(5), least, [Var(14), word(MOST_PLACES)])?)?;
+    ops.push(index_length(alloc, sizes)?)?;
+    let exit = go(alloc, 3, [Var(0), Var(2), Var(5), Var(6)])?;
+    block(alloc, [0, 2], ops, exit)
+}
+
+#[tactic(auto, unfolding(crate::specs::Growing::grow_makes))]
+fn grow_makes(alloc: Global, d: DictShape) -> Result<LlBlock, NoMem>
+    ensures { IfOk result (λ made. made ≡ spec.grow_makes d) }
+{
+    let ops = operations(
         alloc,
         [
-            add(13, 6, var(2)),
-            LlOp::SetField(m.dict, 0, 1, var(5)),
-            LlOp::SetField(m.dict, 0, 2, var(8)),
-            LlOp::SetField(m.dict, 0, 3, var(9)),
+            add(7, 6, Var(5)),
+            LlOp::NewArray(8, d.first, d.first, Var(5)),
+            LlOp::SetField(d.first, 8, 0, Var(5)),
+            LlOp::NewArray(9, d.second, d.second, Var(7)),
+            LlOp::SetField(d.second, 9, 0, Var(7)),
+            same(3, 2, ZERO),
         ],
-    );
-    let one = filled(
+    )?;
+    let all = [Var(0), Var(2), Var(5), Var(6), Var(8), Var(9)];
+    let exit = fork(alloc, 3, 5, all, 4, all)?;
+    block(alloc, [0, 2, 5, 6], ops, exit)
+}
+
+#[tactic(auto, unfolding(crate::specs::Growing::grow_copies))]
+fn grow_copies(alloc: Global, one: u64, two: u64, d: DictShape) -> Result<LlBlock, NoMem>
+    ensures { IfOk result (λ made. made ≡ spec.grow_copies one two d) }
+{
+    let to_first = [Var(10), ZERO, Var(8), ZERO, Var(2)];
+    let to_second = [Var(11), Var(13), Var(9), Var(6), Var(2)];
+    let mut ops = operations(
         alloc,
-        m.first_item(),
-        m.first(),
-        [var(8), var(2)],
-        fields,
-        found,
-    );
-    let both = filled(
+        [
+            first(10, d, 0),
+            second(11, d, 0),
+            length(12, d, 11),
+            sub(13, 12, Var(2)),
+        ],
+    )?;
+    ops.push(call_of(alloc, None, one, to_first)?)?;
+    ops.push(call_of(alloc, None, two, to_second)?)?;
+    let exit = go(alloc, 5, [Var(0), Var(2), Var(5), Var(6), Var(8), Var(9)])?;
+    block(alloc, [0, 2, 5, 6, 8, 9], ops, exit)
+}
+
+#[tactic(auto, unfolding(crate::specs::Growing::grow_sets))]
+fn grow_sets(alloc: Global, d: DictShape) -> Result<Seq<LlOp>, NoMem>
+    ensures { IfOk result (λ ops. ops ≡ spec.grow_sets d) }
+{
+    operations(
         alloc,
-        m.second_item(),
-        m.second(),
-        [var(9), var(13)],
-        one,
-        found,
-    );
-    let all = if m.is_indexed() {
-        op_made(
-            both,
-            call(alloc, None, Keyed::Index(m.dict), [var(0)], found),
-        )
-    } else {
-        both
-    };
-    written(alloc, [0, 2, 5, 6, 8, 9], all, ends())
+        [
+            add(13, 6, Var(2)),
+            LlOp::SetField(d.dict, 0, 1, Var(5)),
+            LlOp::SetField(d.dict, 0, 2, Var(8)),
+            LlOp::SetField(d.dict, 0, 3, Var(9)),
+        ],
+    )
+}
+
+// The new arrays take the places of the old ones, hold nothing behind the entries, and get an index.
+#[tactic(auto, unfolding(crate::specs::Growing::grow_ends))]
+fn grow_ends(
+    alloc: Global,
+    one: Option<u64>,
+    two: Option<u64>,
+    indexes: Option<u64>,
+    d: DictShape,
+) -> Result<LlBlock, NoMem>
+    ensures { IfOk result (λ made. made ≡ spec.grow_ends one two indexes d) }
+{
+    let mut ops = grow_sets(alloc, d)?;
+    push_call(alloc, one, [Var(8), Var(2)], &mut ops)?;
+    push_call(alloc, two, [Var(9), Var(13)], &mut ops)?;
+    push_call(alloc, indexes, [Var(0)], &mut ops)?;
+    block(alloc, [0, 2, 5, 6, 8, 9], ops, LlExit::Return(None))
+}
+
+// ---- and what they ask for
+
+fn is_pointer(item: LlType) -> bool
+    ensures { result ≡ spec.is_pointer item }
+{
+    match item {
+        LlType::Ptr(_) => true,
+        _ => false,
+    }
+}
+
+// The items of a new array that are references hold nothing from the start.
+#[tactic(auto, unfolding(crate::specs::Growing::fill_number))]
+fn fill_number(item: LlType, array: u64, found: &mut Found) -> Result<Option<u64>, NoMem>
+    ensures { IfOk result (λ number. Asks (spec.fill_number item array found.old) number found.new) }
+{
+    number_if(!is_pointer(item), Keyed::Fill(array), found)
+}
+
+#[tactic(auto, unfolding(crate::specs::Growing::counted))]
+fn counted(alloc: Global, d: DictShape, found: &mut Found) -> Result<LlBlock, NoMem>
+    ensures { IfOk result (λ made. Asks (spec.counted d found.old) made found.new) }
+{
+    let least = helper_number(Helper::WordMin, found)?;
+    let sizes = number_if(d.is_indexed, Keyed::Size, found)?;
+    grow_counts(alloc, least, sizes)
+}
+
+#[tactic(auto, unfolding(crate::specs::Growing::copied))]
+fn copied(alloc: Global, d: DictShape, found: &mut Found) -> Result<LlBlock, NoMem>
+    ensures { IfOk result (λ made. Asks (spec.copied d found.old) made found.new) }
+{
+    let one = number_of(Listed::Copy(d.first, d.first), found)?;
+    let two = number_of(Listed::Copy(d.second, d.second), found)?;
+    grow_copies(alloc, one, two, d)
+}
+
+#[tactic(auto, unfolding(crate::specs::Growing::ended))]
+fn ended(alloc: Global, d: DictShape, found: &mut Found) -> Result<LlBlock, NoMem>
+    ensures { IfOk result (λ made. Asks (spec.ended d found.old) made found.new) }
+{
+    let one = fill_number(d.first_item(), d.first, found)?;
+    let two = fill_number(d.second_item(), d.second, found)?;
+    let indexes = number_if(d.is_indexed, Keyed::Index(d.dict), found)?;
+    grow_ends(alloc, one, two, indexes, d)
+}
+
+#[tactic(auto, unfolding(crate::specs::Growing::grow_blocks))]
+fn grow_blocks(
+    alloc: Global,
+    d: DictShape,
+    found: &mut Found,
+    blocks: &mut Seq<LlBlock>,
+) -> Result<(), NoMem>
+    ensures written { OnOk result (blocks.new ≡ blocks.old ++ (spec.grow_blocks d found.old).0) }
+    ensures asked { OnOk result (found.new ≡ (spec.grow_blocks d found.old).1) }
+{
+    blocks.push(grow_asks(alloc, d)?)?;
+    blocks.push(done(alloc)?)?;
+    blocks.push(counted(alloc, d, found)?)?;
+    blocks.push(grow_makes(alloc, d)?)?;
+    blocks.push(copied(alloc, d, found)?)?;
+    blocks.push(ended(alloc, d, found)?)?;
+    Ok(())
 }
 
 /// A place for one entry more.
-pub fn grow(alloc: Global, m: Mapping, found: &mut Found) -> Result<LlGraph, NoMem> {
-    let blocks = Ok(Seq::new(alloc));
-    let blocks = and(blocks, has_room(alloc, m));
-    let blocks = and(blocks, passes(alloc, [], ends()));
-    let blocks = and(blocks, counted(alloc, m, found));
-    let blocks = and(blocks, arrays_made(alloc, m));
-    let blocks = and(blocks, copied(alloc, m, found));
-    let blocks = and(blocks, replaced(alloc, m, found));
-    let types = grow_types(alloc, m);
-    graph_written(alloc, b"dict_grow", 1, LlType::Void, types, blocks)
+#[tactic(auto, unfolding(crate::specs::Growing::grow))]
+pub fn grow(alloc: Global, d: DictShape, found: &mut Found) -> Result<LlGraph, NoMem>
+    ensures { IfOk result (λ made. Asks (spec.grow d found.old) made found.new) }
+{
+    let mut blocks = Seq::new(alloc);
+    grow_blocks(alloc, d, found, &mut blocks)?;
+    let types = grow_types(alloc, d)?;
+    graph_of(alloc, b"dict_grow", 1, LlType::Void, types, blocks)
 }

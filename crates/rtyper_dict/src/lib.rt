@@ -5,6 +5,8 @@
 //! Where the second array is one of words, an index stands in it before them. Its length is a power of two and at least twice
 //! the number of places, and an entry's place stands in it, counted from 1, at or behind where the hash of its key
 //! leads. A place behind the last entry holds nothing: `NULL`, zero or false.
+//!
+//! What an operation is lowered to, and each graph that it calls, is exactly what the specs write out (`Lowering`, `Graphs`).
 #![tactic(auto)]
 
 mod change;
@@ -14,6 +16,7 @@ mod hash;
 mod index;
 mod lists;
 mod look;
+mod operand;
 mod operation;
 mod parts;
 

@@ -1,287 +1,316 @@
 // The lowering of operations on dicts.
-use crate::parts::{SIGNED, count, stored, unstored};
+ghost use Rattle.std.specs.Prelude.{◌≡◌, option_map, IfOk, OnOk};
+ghost use Rattle.rtyper_op.specs.Lowering as plain;
+ghost use Rattle.rtyper_data.specs.Seen.{the_around, the_operand, the_operands, the_place, writing, Leaves, Gives};
+ghost use Rattle.rtyper_dict.specs.Lowering as spec;
+
+use crate::operand::{
+    dict_of, entry_in, is_dict, is_dict_or_none, key_in, list_at, push_done, there, value_in,
+};
+use crate::parts::{BOOL, DictShape, ONE, SIGNED, ZERO, count, unstored};
 use csub_tree::{CBinary, COperand};
-use ll_code::{LlOp, LlType, VarId};
+use ll_code::{LlOp, LlType};
 use rpy_base::NoMem;
 use rpy_meaning::RowOp;
 use rpy_tree::CmpOp;
+use rtyper_data::compare::binary;
 use rtyper_data::{
     Around, Body, Found, Keyed, Operand, Place, Small, by_small, default_operand, give,
-    give_nothing, given, operands, opposite_if, present, small_number, var, variable_of, word,
+    give_nothing, given, opposite_if, variable_of,
 };
-use rtyper_layout::{Kind, Mapping, kind_seen};
+use rtyper_layout::{Kind, kind_seen};
 use rtyper_op::push_failure;
 use std::alloc::Global;
 
 // ---- which operations
 
-fn is_dict(operand: Operand<'_>) -> bool {
-    match kind_seen(operand.element) {
-        Kind::Dict | Kind::MaybeDict => true,
-        _ => false,
-    }
-}
-
-fn is_none(operand: Operand<'_>) -> bool {
-    kind_seen(operand.element) == Kind::Nothing
-}
-
-fn is_never(args: &[Operand<'_>]) -> bool {
+fn is_never(args: &[Operand<'_>]) -> bool
+    ensures { result ≡ plain.is_never (the_operands args.now) }
+{
     for operand in args {
-        if kind_seen(operand.element) == Kind::Never {
-            return true;
+        match kind_seen(operand.element) {
+            Kind::Never => return true,
+            _ => {}
         }
     }
     false
 }
 
-/// Whether an operation is one on dicts. What looks into `None` counts as one, since the key may be any value.
-pub fn is_dict_op(op: &RowOp, args: &[Operand<'_>]) -> bool {
-    if is_never(args) {
-        return false;
+fn first_may_be(args: &[Operand<'_>]) -> bool
+    ensures { result ≡ spec.first_may_be (the_operands args.now) }
+{
+    match args {
+        [] => false,
+        [a, ..] => is_dict_or_none(*a),
     }
-    match (op, args) {
-        (RowOp::Dict(_), _) => true,
-        (RowOp::Compare(CmpOp::Within), [_, b]) | (RowOp::Compare(CmpOp::NotWithin), [_, b]) => {
-            is_dict(*b) || is_none(*b)
-        }
-        (RowOp::Index(_), [a, ..]) | (RowOp::StoreIndex, [a, ..]) | (RowOp::DeleteIndex, [a, ..]) =>
-            is_dict(*a) || is_none(*a),
-        (RowOp::Len, [a]) | (RowOp::Walk(_), [a]) | (RowOp::Method(_, _), [a, ..]) => is_dict(*a),
+}
+
+fn second_may_be(args: &[Operand<'_>]) -> bool
+    ensures { result ≡ spec.second_may_be (the_operands args.now) }
+{
+    match args {
+        [_, b] => is_dict_or_none(*b),
         _ => false,
     }
 }
 
-// ---- dicts, keys and values
-
-// The dict of an operand.
-fn mapping_of(around: Around<'_>, operand: Operand<'_>) -> Option<Mapping> {
-    match around.type_of(operand) {
-        LlType::Ptr(dict) => around.layout.mapping(dict),
-        _ => None,
+fn first_is_dict(args: &[Operand<'_>]) -> bool
+    ensures { result ≡ spec.first_is_dict (the_operands args.now) }
+{
+    match args {
+        [] => false,
+        [a, ..] => is_dict(*a),
     }
 }
 
-// The dict itself; `None` fails.
-fn there(
-    alloc: Global,
-    around: Around<'_>,
-    a: Operand<'_>,
-    found: &mut Found,
-    body: &mut Body,
-) -> Result<COperand, NoMem> {
-    let or_none = kind_seen(a.element) == Kind::MaybeDict;
-    present(alloc, around, a, or_none, found, body)
+fn only_is_dict(args: &[Operand<'_>]) -> bool
+    ensures { result ≡ spec.only_is_dict (the_operands args.now) }
+{
+    match args {
+        [a] => is_dict(*a),
+        _ => false,
+    }
 }
 
-// A key as it stands in the dict.
-fn key_in(
-    alloc: Global,
-    around: Around<'_>,
-    m: Mapping,
-    b: Operand<'_>,
-    found: &mut Found,
-    body: &mut Body,
-) -> Result<COperand, NoMem> {
-    let x = given(alloc, around, b, m.key, found, body)?;
-    stored(x, m.key, m.stored_key(), body)
+fn is_within(op: CmpOp) -> bool
+    ensures { result ≡ spec.is_within op }
+{
+    match op {
+        CmpOp::Within | CmpOp::NotWithin => true,
+        _ => false,
+    }
 }
 
-fn value_in(
-    alloc: Global,
-    around: Around<'_>,
-    m: Mapping,
-    c: Operand<'_>,
-    found: &mut Found,
-    body: &mut Body,
-) -> Result<COperand, NoMem> {
-    let x = given(alloc, around, c, m.value, found, body)?;
-    stored(x, m.value, m.stored_value(), body)
+// Where the operands come. What looks into `None` counts as one, since the key may be any value.
+fn is_of_dicts(op: &RowOp, args: &[Operand<'_>]) -> bool
+    ensures { result ≡ spec.is_of_dicts op.now (the_operands args.now) }
+{
+    match op {
+        RowOp::Dict(_) => true,
+        RowOp::Compare(op) => is_within(*op) && second_may_be(args),
+        RowOp::Index(_) | RowOp::StoreIndex | RowOp::DeleteIndex => first_may_be(args),
+        RowOp::Len | RowOp::Walk(_) => only_is_dict(args),
+        RowOp::Method(_, _) => first_is_dict(args),
+        _ => false,
+    }
 }
 
-// A call of a graph without a result.
-fn push_done<const N: usize>(
-    alloc: Global,
-    keyed: Keyed,
-    xs: [COperand; N],
-    found: &mut Found,
-    body: &mut Body,
-) -> Result<(), NoMem> {
-    let number = small_number(Small::Keyed(keyed), found)?;
-    let xs = operands(alloc, xs)?;
-    body.ops.push(LlOp::Call(None, number, xs))
-}
-
-fn by_keyed<const N: usize>(
-    alloc: Global,
-    keyed: Keyed,
-    gives: LlType,
-    xs: [COperand; N],
-    found: &mut Found,
-    body: &mut Body,
-) -> Result<COperand, NoMem> {
-    by_small(alloc, Small::Keyed(keyed), gives, xs, found, body)
-}
-
-// The dict, and the place of the entry of a key in it.
-fn entry_in(
-    alloc: Global,
-    around: Around<'_>,
-    m: Mapping,
-    a: Operand<'_>,
-    b: Operand<'_>,
-    keyed: Keyed,
-    found: &mut Found,
-    body: &mut Body,
-) -> Result<(COperand, COperand), NoMem> {
-    let x = there(alloc, around, a, found, body)?;
-    let k = key_in(alloc, around, m, b, found, body)?;
-    let at = by_keyed(alloc, keyed, SIGNED, [x, k], found, body)?;
-    Ok((x, at))
+/// Whether an operation is one on dicts.
+pub fn is_dict_op(op: &RowOp, args: &[Operand<'_>]) -> bool
+    ensures { result ≡ spec.is_dict_op op.now (the_operands args.now) }
+{
+    !is_never(args) && is_of_dicts(op, args)
 }
 
 // ---- operations
 
+// A display begins with no entries.
+#[tactic(auto, unfolding(crate::specs::Lowering::display))]
 fn push_display(
     alloc: Global,
     around: Around<'_>,
     place: Place<'_>,
     found: &mut Found,
     body: &mut Body,
-) -> Result<(), NoMem> {
-    body.ops.push(LlOp::Step(word(1)))?;
+) -> Result<(), NoMem>
+    ensures { OnOk result (Leaves (spec.display (the_around around.entry) (the_place place.entry) (writing found.old body.old)) found.new body.new) }
+{
+    body.ops.push(LlOp::Step(ONE))?;
     match around.type_at(place) {
         LlType::Ptr(dict) => {
-            let kind = LlType::Ptr(dict);
-            let x = by_keyed(alloc, Keyed::Make(dict), kind, [], found, body)?;
+            let small = Small::Keyed(Keyed::Make(dict));
+            let x = by_small(alloc, small, LlType::Ptr(dict), [], found, body)?;
             body.ops.push(LlOp::Set(place.variable, x))
         }
         _ => give_nothing(around, place, body),
     }
 }
 
+// The value of a key, which has to be there.
+#[tactic(auto, unfolding(crate::specs::Lowering::index))]
 fn push_index(
     alloc: Global,
     around: Around<'_>,
     place: Place<'_>,
-    m: Mapping,
+    d: DictShape,
     a: Operand<'_>,
     b: Operand<'_>,
     found: &mut Found,
     body: &mut Body,
-) -> Result<(), NoMem> {
-    let keyed = Keyed::Entry(m.dict);
-    let (x, at) = entry_in(alloc, around, m, a, b, keyed, found, body)?;
-    let item = m.stored_value();
-    let v = by_keyed(alloc, Keyed::Value(m.dict), item, [x, at], found, body)?;
-    let v = unstored(v, item, m.value, body)?;
-    give(alloc, around, place, v, m.value, found, body)
+) -> Result<(), NoMem>
+    ensures { OnOk result (Leaves (spec.index (the_around around.entry) (the_place place.entry) d (the_operand a.entry) (the_operand b.entry) (writing found.old body.old)) found.new body.new) }
+{
+    let keyed = Keyed::Entry(d.dict);
+    let (x, at) = entry_in(alloc, around, d, a, b, keyed, found, body)?;
+    let small = Small::Keyed(Keyed::Value(d.dict));
+    let v = by_small(alloc, small, d.stored_value, [x, at], found, body)?;
+    let v = unstored(d.stored_value, d.value, v, body)?;
+    give(alloc, around, place, v, d.value, found, body)
 }
 
+#[tactic(auto, unfolding(crate::specs::Lowering::store))]
 fn push_store(
     alloc: Global,
     around: Around<'_>,
     place: Place<'_>,
-    m: Mapping,
+    d: DictShape,
     a: Operand<'_>,
     b: Operand<'_>,
     c: Operand<'_>,
     found: &mut Found,
     body: &mut Body,
-) -> Result<(), NoMem> {
+) -> Result<(), NoMem>
+    ensures { OnOk result (Leaves (spec.store (the_around around.entry) (the_place place.entry) d (the_operand a.entry) (the_operand b.entry) (the_operand c.entry) (writing found.old body.old)) found.new body.new) }
+{
     let x = there(alloc, around, a, found, body)?;
-    let k = key_in(alloc, around, m, b, found, body)?;
-    let v = value_in(alloc, around, m, c, found, body)?;
-    push_done(alloc, Keyed::Store(m.dict), [x, k, v], found, body)?;
+    let k = key_in(alloc, around, d, b, found, body)?;
+    let v = value_in(alloc, around, d, c, found, body)?;
+    push_done(alloc, Keyed::Store(d.dict), [x, k, v], found, body)?;
     give(alloc, around, place, c.x, around.type_of(c), found, body)
 }
 
+#[tactic(auto, unfolding(crate::specs::Lowering::delete))]
 fn push_delete(
     alloc: Global,
     around: Around<'_>,
     place: Place<'_>,
-    m: Mapping,
+    d: DictShape,
     a: Operand<'_>,
     b: Operand<'_>,
     found: &mut Found,
     body: &mut Body,
-) -> Result<(), NoMem> {
-    let keyed = Keyed::Entry(m.dict);
-    let (x, at) = entry_in(alloc, around, m, a, b, keyed, found, body)?;
-    push_done(alloc, Keyed::Remove(m.dict), [x, at], found, body)?;
+) -> Result<(), NoMem>
+    ensures { OnOk result (Leaves (spec.delete (the_around around.entry) (the_place place.entry) d (the_operand a.entry) (the_operand b.entry) (writing found.old body.old)) found.new body.new) }
+{
+    let keyed = Keyed::Entry(d.dict);
+    let (x, at) = entry_in(alloc, around, d, a, b, keyed, found, body)?;
+    push_done(alloc, Keyed::Remove(d.dict), [x, at], found, body)?;
     give_nothing(around, place, body)
 }
 
-fn push_within(
+// Whether a key has an entry, or has none.
+#[tactic(auto, unfolding(crate::specs::Lowering::is_there))]
+fn is_there(
     alloc: Global,
     around: Around<'_>,
-    place: Place<'_>,
-    m: Mapping,
+    d: DictShape,
     reversed: bool,
     a: Operand<'_>,
     b: Operand<'_>,
     found: &mut Found,
     body: &mut Body,
-) -> Result<(), NoMem> {
-    let keyed = Keyed::Find(m.dict);
-    let (_, at) = entry_in(alloc, around, m, b, a, keyed, found, body)?;
-    let is_in = body.fresh(LlType::Bool)?;
-    body.ops
-        .push(LlOp::Binary(is_in, CBinary::Ge, at, word(0)))?;
-    let x = opposite_if(reversed, var(is_in), body)?;
-    give(alloc, around, place, x, LlType::Bool, found, body)
+) -> Result<COperand, NoMem>
+    ensures { IfOk result (λ x. Gives (spec.is_there (the_around around.entry) d reversed (the_operand a.entry) (the_operand b.entry) (writing found.old body.old)) x found.new body.new) }
+{
+    let keyed = Keyed::Find(d.dict);
+    let (_, at) = entry_in(alloc, around, d, b, a, keyed, found, body)?;
+    let is_in = binary(CBinary::Ge, BOOL, at, ZERO, body)?;
+    opposite_if(reversed, is_in, body)
 }
 
+#[tactic(auto, unfolding(crate::specs::Lowering::within))]
+fn push_within(
+    alloc: Global,
+    around: Around<'_>,
+    place: Place<'_>,
+    d: DictShape,
+    reversed: bool,
+    a: Operand<'_>,
+    b: Operand<'_>,
+    found: &mut Found,
+    body: &mut Body,
+) -> Result<(), NoMem>
+    ensures { OnOk result (Leaves (spec.within (the_around around.entry) (the_place place.entry) d reversed (the_operand a.entry) (the_operand b.entry) (writing found.old body.old)) found.new body.new) }
+{
+    let x = is_there(alloc, around, d, reversed, a, b, found, body)?;
+    give(alloc, around, place, x, BOOL, found, body)
+}
+
+#[tactic(auto, unfolding(crate::specs::Lowering::len))]
 fn push_len(
     alloc: Global,
     around: Around<'_>,
     place: Place<'_>,
-    m: Mapping,
+    d: DictShape,
     a: Operand<'_>,
     found: &mut Found,
     body: &mut Body,
-) -> Result<(), NoMem> {
+) -> Result<(), NoMem>
+    ensures { OnOk result (Leaves (spec.len (the_around around.entry) (the_place place.entry) d (the_operand a.entry) (writing found.old body.old)) found.new body.new) }
+{
     let x = there(alloc, around, a, found, body)?;
-    let x: VarId = variable_of(x, LlType::Ptr(m.dict), body)?;
+    let dict = variable_of(x, LlType::Ptr(d.dict), body)?;
     let length = body.fresh(SIGNED)?;
-    body.ops.push(count(length, m, x))?;
-    give(alloc, around, place, var(length), SIGNED, found, body)
+    body.ops.push(count(length, d, dict))?;
+    let length = COperand::Var(length);
+    give(alloc, around, place, length, SIGNED, found, body)
 }
 
-// The value of a key, or the other value, which is there.
+// ---- methods
+
+// What stands for a key that is not there.
+fn other_value(
+    alloc: Global,
+    around: Around<'_>,
+    kind: LlType,
+    other: Option<Operand<'_>>,
+    found: &mut Found,
+    body: &mut Body,
+) -> Result<COperand, NoMem>
+    ensures { IfOk result (λ x. Gives (spec.other_value (the_around around.entry) kind (option_map the_operand other.entry) (writing found.old body.old)) x found.new body.new) }
+{
+    match other {
+        None => Ok(default_operand(kind)),
+        Some(c) => given(alloc, around, c, kind, found, body),
+    }
+}
+
+#[tactic(auto, unfolding(crate::specs::Lowering::get_as))]
+fn push_get_as(
+    alloc: Global,
+    around: Around<'_>,
+    place: Place<'_>,
+    d: DictShape,
+    x: COperand,
+    b: Operand<'_>,
+    other: Option<Operand<'_>>,
+    kind: LlType,
+    found: &mut Found,
+    body: &mut Body,
+) -> Result<(), NoMem>
+    ensures { OnOk result (Leaves (spec.get_as (the_around around.entry) (the_place place.entry) d x (the_operand b.entry) (option_map the_operand other.entry) kind (writing found.old body.old)) found.new body.new) }
+{
+    let k = key_in(alloc, around, d, b, found, body)?;
+    let v = other_value(alloc, around, kind, other, found, body)?;
+    let small = Small::Keyed(Keyed::Get(d.dict, kind));
+    let got = by_small(alloc, small, kind, [x, k, v], found, body)?;
+    body.ops.push(LlOp::Set(place.variable, got))
+}
+
+// The value of a key, or another.
+#[tactic(auto, unfolding(crate::specs::Lowering::get))]
 fn push_get(
     alloc: Global,
     around: Around<'_>,
     place: Place<'_>,
-    m: Mapping,
+    d: DictShape,
     a: Operand<'_>,
     b: Operand<'_>,
     other: Option<Operand<'_>>,
     found: &mut Found,
     body: &mut Body,
-) -> Result<(), NoMem> {
+) -> Result<(), NoMem>
+    ensures { OnOk result (Leaves (spec.get (the_around around.entry) (the_place place.entry) d (the_operand a.entry) (the_operand b.entry) (option_map the_operand other.entry) (writing found.old body.old)) found.new body.new) }
+{
     let x = there(alloc, around, a, found, body)?;
-    let kind = around.type_at(place);
-    if kind == LlType::Void {
-        return Ok(());
+    match around.type_at(place) {
+        LlType::Void => Ok(()),
+        kind => push_get_as(alloc, around, place, d, x, b, other, kind, found, body),
     }
-    let k = key_in(alloc, around, m, b, found, body)?;
-    let v = match other {
-        None => default_operand(kind),
-        Some(c) => given(alloc, around, c, kind, found, body)?,
-    };
-    let got = by_keyed(
-        alloc,
-        Keyed::Get(m.dict, kind),
-        kind,
-        [x, k, v],
-        found,
-        body,
-    )?;
-    body.ops.push(LlOp::Set(place.variable, got))
 }
 
 // A list of the entries.
+#[tactic(auto, unfolding(crate::specs::Lowering::list))]
 fn push_list(
     alloc: Global,
     around: Around<'_>,
@@ -290,107 +319,277 @@ fn push_list(
     a: Operand<'_>,
     found: &mut Found,
     body: &mut Body,
-) -> Result<(), NoMem> {
+) -> Result<(), NoMem>
+    ensures { OnOk result (Leaves (spec.list (the_around around.entry) (the_place place.entry) keyed (the_operand a.entry) (writing found.old body.old)) found.new body.new) }
+{
     let x = there(alloc, around, a, found, body)?;
     match around.type_at(place) {
         LlType::Ptr(list) => {
-            let made = by_keyed(alloc, keyed, LlType::Ptr(list), [x], found, body)?;
+            let small = Small::Keyed(keyed);
+            let made = by_small(alloc, small, LlType::Ptr(list), [x], found, body)?;
             body.ops.push(LlOp::Set(place.variable, made))
         }
         _ => give_nothing(around, place, body),
     }
 }
 
-// The struct of the list that is made.
-fn list_at(around: Around<'_>, place: Place<'_>) -> u64 {
-    match around.type_at(place) {
-        LlType::Ptr(list) => list,
-        _ => 0,
+fn is_either(name: &[u8], one: &[u8], two: &[u8]) -> bool
+    ensures { result ≡ spec.is_either name.now one.now two.now }
+{
+    name == one || name == two
+}
+
+// The graph of a method that makes a list.
+fn list_named(name: &[u8], dict: u64, list: u64) -> Option<Keyed>
+    ensures { result ≡ spec.list_named name.now dict list }
+{
+    if is_either(name, b"keys", b"iterkeys") {
+        Some(Keyed::Keys(dict, list))
+    } else if is_either(name, b"values", b"itervalues") {
+        Some(Keyed::Values(dict, list))
+    } else if is_either(name, b"items", b"iteritems") {
+        Some(Keyed::Items(dict, list))
+    } else {
+        None
     }
 }
 
-fn push_method(
+#[tactic(auto, unfolding(crate::specs::Lowering::method_of_one))]
+fn push_method_of_one(
     alloc: Global,
     around: Around<'_>,
     place: Place<'_>,
-    m: Mapping,
+    d: DictShape,
     name: &[u8],
-    args: &[Operand<'_>],
+    a: Operand<'_>,
     found: &mut Found,
     body: &mut Body,
-) -> Result<(), NoMem> {
-    let list = list_at(around, place);
-    match (name, args) {
-        (b"get", [a, b]) => push_get(alloc, around, place, m, *a, *b, None, found, body),
-        (b"get", [a, b, c]) => { push_get(alloc, around, place, m, *a, *b, Some(*c), found, body) }
-        (b"keys", [a]) | (b"iterkeys", [a]) => {
-            let keyed = Keyed::Keys(m.dict, list);
-            push_list(alloc, around, place, keyed, *a, found, body)
-        }
-        (b"values", [a]) | (b"itervalues", [a]) => {
-            let keyed = Keyed::Values(m.dict, list);
-            push_list(alloc, around, place, keyed, *a, found, body)
-        }
-        (b"items", [a]) | (b"iteritems", [a]) => {
-            let keyed = Keyed::Items(m.dict, list);
-            push_list(alloc, around, place, keyed, *a, found, body)
-        }
-        _ => Ok(()),
+) -> Result<(), NoMem>
+    ensures { OnOk result (Leaves (spec.method_of_one (the_around around.entry) (the_place place.entry) d name.now (the_operand a.entry) (writing found.old body.old)) found.new body.new) }
+{
+    match list_named(name, d.dict, list_at(around, place)) {
+        None => Ok(()),
+        Some(keyed) => push_list(alloc, around, place, keyed, a, found, body),
     }
 }
 
-// ---- which operation
+#[tactic(auto, unfolding(crate::specs::Lowering::get_if))]
+fn push_get_if(
+    alloc: Global,
+    around: Around<'_>,
+    place: Place<'_>,
+    d: DictShape,
+    name: &[u8],
+    a: Operand<'_>,
+    b: Operand<'_>,
+    other: Option<Operand<'_>>,
+    found: &mut Found,
+    body: &mut Body,
+) -> Result<(), NoMem>
+    ensures { OnOk result (Leaves (spec.get_if (the_around around.entry) (the_place place.entry) d name.now (the_operand a.entry) (the_operand b.entry) (option_map the_operand other.entry) (writing found.old body.old)) found.new body.new) }
+{
+    if name == b"get".as_slice() {
+        push_get(alloc, around, place, d, a, b, other, found, body)
+    } else {
+        Ok(())
+    }
+}
 
-// Operations whose first operand is a dict.
-fn push_first(
+// ---- operations whose first operand is a dict
+
+#[tactic(auto, unfolding(crate::specs::Lowering::of_one))]
+fn push_of_one(
     alloc: Global,
     around: Around<'_>,
     op: &RowOp,
     place: Place<'_>,
-    m: Mapping,
-    args: &[Operand<'_>],
+    d: DictShape,
+    a: Operand<'_>,
     found: &mut Found,
     body: &mut Body,
-) -> Result<(), NoMem> {
-    match (op, args) {
-        (RowOp::Index(_), [a, b]) => push_index(alloc, around, place, m, *a, *b, found, body),
-        (RowOp::StoreIndex, [a, b, c]) => {
-            push_store(alloc, around, place, m, *a, *b, *c, found, body)
+) -> Result<(), NoMem>
+    ensures { OnOk result (Leaves (spec.of_one (the_around around.entry) op.now (the_place place.entry) d (the_operand a.entry) (writing found.old body.old)) found.new body.new) }
+{
+    match op {
+        RowOp::Len => push_len(alloc, around, place, d, a, found, body),
+        RowOp::Walk(_) => {
+            let keyed = Keyed::Keys(d.dict, list_at(around, place));
+            push_list(alloc, around, place, keyed, a, found, body)
         }
-        (RowOp::DeleteIndex, [a, b]) => push_delete(alloc, around, place, m, *a, *b, found, body),
-        (RowOp::Len, [a]) => push_len(alloc, around, place, m, *a, found, body),
-        (RowOp::Walk(_), [a]) => {
-            let keyed = Keyed::Keys(m.dict, list_at(around, place));
-            push_list(alloc, around, place, keyed, *a, found, body)
-        }
-        (RowOp::Method(name, _), _) => {
-            push_method(alloc, around, place, m, name.bytes(), args, found, body)
+        RowOp::Method(name, _) => {
+            push_method_of_one(alloc, around, place, d, name.bytes(), a, found, body)
         }
         _ => Ok(()),
     }
 }
 
-fn push_second(
+#[tactic(auto, unfolding(crate::specs::Lowering::of_two))]
+fn push_of_two(
     alloc: Global,
     around: Around<'_>,
     op: &RowOp,
+    place: Place<'_>,
+    d: DictShape,
+    a: Operand<'_>,
+    b: Operand<'_>,
+    found: &mut Found,
+    body: &mut Body,
+) -> Result<(), NoMem>
+    ensures { OnOk result (Leaves (spec.of_two (the_around around.entry) op.now (the_place place.entry) d (the_operand a.entry) (the_operand b.entry) (writing found.old body.old)) found.new body.new) }
+{
+    match op {
+        RowOp::Index(_) => push_index(alloc, around, place, d, a, b, found, body),
+        RowOp::DeleteIndex => push_delete(alloc, around, place, d, a, b, found, body),
+        RowOp::Method(name, _) => {
+            push_get_if(
+                alloc,
+                around,
+                place,
+                d,
+                name.bytes(),
+                a,
+                b,
+                None,
+                found,
+                body,
+            )
+        }
+        _ => Ok(()),
+    }
+}
+
+#[tactic(auto, unfolding(crate::specs::Lowering::of_three))]
+fn push_of_three(
+    alloc: Global,
+    around: Around<'_>,
+    op: &RowOp,
+    place: Place<'_>,
+    d: DictShape,
+    a: Operand<'_>,
+    b: Operand<'_>,
+    c: Operand<'_>,
+    found: &mut Found,
+    body: &mut Body,
+) -> Result<(), NoMem>
+    ensures { OnOk result (Leaves (spec.of_three (the_around around.entry) op.now (the_place place.entry) d (the_operand a.entry) (the_operand b.entry) (the_operand c.entry) (writing found.old body.old)) found.new body.new) }
+{
+    match op {
+        RowOp::StoreIndex => push_store(alloc, around, place, d, a, b, c, found, body),
+        RowOp::Method(name, _) => {
+            push_get_if(
+                alloc,
+                around,
+                place,
+                d,
+                name.bytes(),
+                a,
+                b,
+                Some(c),
+                found,
+                body,
+            )
+        }
+        _ => Ok(()),
+    }
+}
+
+#[tactic(auto, unfolding(crate::specs::Lowering::of_dict))]
+fn push_of_dict(
+    alloc: Global,
+    around: Around<'_>,
+    op: &RowOp,
+    place: Place<'_>,
+    d: DictShape,
+    args: &[Operand<'_>],
+    found: &mut Found,
+    body: &mut Body,
+) -> Result<(), NoMem>
+    ensures { OnOk result (Leaves (spec.of_dict (the_around around.entry) op.now (the_place place.entry) d (the_operands args.now) (writing found.old body.old)) found.new body.new) }
+{
+    match args {
+        [a] => push_of_one(alloc, around, op, place, d, *a, found, body),
+        [a, b] => push_of_two(alloc, around, op, place, d, *a, *b, found, body),
+        [a, b, c] => push_of_three(alloc, around, op, place, d, *a, *b, *c, found, body),
+        _ => Ok(()),
+    }
+}
+
+// What is no dict fails.
+#[tactic(auto, unfolding(crate::specs::Lowering::of_first))]
+fn push_of_first(
+    alloc: Global,
+    around: Around<'_>,
+    op: &RowOp,
+    place: Place<'_>,
+    args: &[Operand<'_>],
+    found: &mut Found,
+    body: &mut Body,
+) -> Result<(), NoMem>
+    ensures { OnOk result (Leaves (spec.of_first (the_around around.entry) op.now (the_place place.entry) (the_operands args.now) (writing found.old body.old)) found.new body.new) }
+{
+    match args {
+        [] => Ok(()),
+        [a, ..] => match dict_of(around, *a) {
+            None => push_failure(alloc, around, place, found, body),
+            Some(d) => push_of_dict(alloc, around, op, place, d, args, found, body),
+        },
+    }
+}
+
+// ---- operations whose second operand is one
+
+fn is_reversed(op: CmpOp) -> bool
+    ensures { result ≡ spec.is_reversed op }
+{
+    match op {
+        CmpOp::NotWithin => true,
+        _ => false,
+    }
+}
+
+#[tactic(auto, unfolding(crate::specs::Lowering::of_second))]
+fn push_of_second(
+    alloc: Global,
+    around: Around<'_>,
+    op: CmpOp,
     place: Place<'_>,
     a: Operand<'_>,
     b: Operand<'_>,
     found: &mut Found,
     body: &mut Body,
-) -> Result<(), NoMem> {
-    let reversed = match op {
-        RowOp::Compare(CmpOp::NotWithin) => true,
-        _ => false,
-    };
-    match mapping_of(around, b) {
+) -> Result<(), NoMem>
+    ensures { OnOk result (Leaves (spec.of_second (the_around around.entry) op (the_place place.entry) (the_operand a.entry) (the_operand b.entry) (writing found.old body.old)) found.new body.new) }
+{
+    let reversed = is_reversed(op);
+    match dict_of(around, b) {
         None => push_failure(alloc, around, place, found, body),
-        Some(m) => push_within(alloc, around, place, m, reversed, a, b, found, body),
+        Some(d) => push_within(alloc, around, place, d, reversed, a, b, found, body),
+    }
+}
+
+// ---- all operations
+
+#[tactic(auto, unfolding(crate::specs::Lowering::compare))]
+fn push_compare(
+    alloc: Global,
+    around: Around<'_>,
+    op: &RowOp,
+    compared: CmpOp,
+    place: Place<'_>,
+    args: &[Operand<'_>],
+    found: &mut Found,
+    body: &mut Body,
+) -> Result<(), NoMem>
+    ensures { OnOk result (Leaves (spec.compare (the_around around.entry) op.now compared (the_place place.entry) (the_operands args.now) (writing found.old body.old)) found.new body.new) }
+{
+    match args {
+        [a, b] => push_of_second(alloc, around, compared, place, *a, *b, found, body),
+        _ => push_of_first(alloc, around, op, place, args, found, body),
     }
 }
 
 /// The low-level operations of an operation on dicts.
+#[tactic(auto, unfolding(crate::specs::Lowering::lower_dict_op))]
 pub fn lower_dict_op(
     alloc: Global,
     around: Around<'_>,
@@ -399,16 +598,14 @@ pub fn lower_dict_op(
     args: &[Operand<'_>],
     found: &mut Found,
     body: &mut Body,
-) -> Result<(), NoMem> {
-    match (op, args) {
-        (RowOp::Dict(_), _) => push_display(alloc, around, place, found, body),
-        (RowOp::Compare(_), [a, b]) => {
-            push_second(alloc, around, op, place, *a, *b, found, body)
+) -> Result<(), NoMem>
+    ensures { OnOk result (Leaves (spec.lower_dict_op (the_around around.entry) op.now (the_place place.entry) (the_operands args.now) (writing found.old body.old)) found.new body.new) }
+{
+    match op {
+        RowOp::Dict(_) => push_display(alloc, around, place, found, body),
+        RowOp::Compare(compared) => {
+            push_compare(alloc, around, op, *compared, place, args, found, body)
         }
-        (_, [a, ..]) => match mapping_of(around, *a) {
-            None => push_failure(alloc, around, place, found, body),
-            Some(m) => push_first(alloc, around, op, place, m, args, found, body),
-        },
-        _ => Ok(()),
+        _ => push_of_first(alloc, around, op, place, args, found, body),
     }
 }

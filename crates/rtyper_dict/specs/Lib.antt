@@ -1,0 +1,10 @@
+pub mod Changing
+pub mod Graphs
+pub mod Growing
+pub mod Hashing
+pub mod Indexing
+pub mod Listing
+pub mod Looking
+pub mod Lowering
+pub mod Operands
+pub mod Parts
