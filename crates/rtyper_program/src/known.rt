@@ -1,4 +1,8 @@
 // What is known of a program: its graphs, and the elements of what they work on.
+ghost use Rattle.std.specs.Prelude.{◌≡◌};
+ghost use Rattle.std.specs.Option.{option_copied};
+ghost use Rattle.rtyper_program.specs.Seen as spec;
+
 use ann_element::{Annotation, Element};
 use flow_graph::{Graph, Graphs, VarId};
 use rpy_resolved::Resolved;
@@ -14,7 +18,9 @@ pub struct Known<'a> {
 }
 
 /// Whether a function is reached.
-pub fn is_reached(annotation: &Annotation, function: FunId) -> bool {
+pub fn is_reached(annotation: &Annotation, function: FunId) -> bool
+    ensures { result ≡ spec.is_reached annotation.now function }
+{
     match annotation.reached.get(function as usize) {
         None => false,
         Some(reached) => *reached,
@@ -22,7 +28,9 @@ pub fn is_reached(annotation: &Annotation, function: FunId) -> bool {
 }
 
 /// Whether a block of a graph is reached.
-pub fn is_block_reached(annotation: &Annotation, graph: usize, block: usize) -> bool {
+pub fn is_block_reached(annotation: &Annotation, graph: usize, block: usize) -> bool
+    ensures { result ≡ spec.is_block_reached annotation.now graph block }
+{
     match annotation.blocks.get(graph) {
         None => false,
         Some(blocks) => match blocks.get(block) {
@@ -33,7 +41,9 @@ pub fn is_block_reached(annotation: &Annotation, graph: usize, block: usize) -> 
 }
 
 /// The element of a variable of a graph.
-pub fn element_at(annotation: &Annotation, graph: usize, v: VarId) -> Option<&Element> {
+pub fn element_at(annotation: &Annotation, graph: usize, v: VarId) -> Option<&Element>
+    ensures { option_copied result ≡ spec.element_at annotation.now graph v }
+{
     match annotation.vars.get(graph) {
         None => None,
         Some(vars) => vars.get(v as usize),
@@ -41,12 +51,16 @@ pub fn element_at(annotation: &Annotation, graph: usize, v: VarId) -> Option<&El
 }
 
 /// The kind of a variable of a graph.
-pub fn variable_kind(annotation: &Annotation, graph: usize, v: VarId) -> Kind {
+pub fn variable_kind(annotation: &Annotation, graph: usize, v: VarId) -> Kind
+    ensures { result ≡ spec.variable_kind annotation.now graph v }
+{
     kind_seen(element_at(annotation, graph, v))
 }
 
 impl<'a> Known<'a> {
-    pub fn new(program: &'a Resolved, graphs: &'a Graphs, annotation: &'a Annotation) -> Known<'a> {
+    pub fn new(program: &'a Resolved, graphs: &'a Graphs, annotation: &'a Annotation) -> Known<'a>
+        ensures { spec.the_known result ≡ record { program = program.now; graphs = graphs.now.graphs; annotation = annotation.now } }
+    {
         Known {
             program,
             graphs: graphs.graphs.as_slice(),

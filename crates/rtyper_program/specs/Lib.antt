@@ -1,0 +1,10 @@
+pub mod Blocks
+pub mod Cuts
+pub mod Entry
+pub mod Graphs
+pub mod Handlers
+pub mod Links
+pub mod Live
+pub mod Program
+pub mod Raises
+pub mod Seen
