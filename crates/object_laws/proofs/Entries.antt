@@ -11,9 +11,11 @@ use Rattle.rpy_tree.specs.Value.{Value as Meant, Word as MeantWord}
 use Rattle.rpy_meaning.specs.Compare.{is_equal}
 use Rattle.rtyper_layout.specs.declared.dicts.Mapping.{Mapping}
 use Rattle.rtyper_layout.specs.Layout.{mapping_at}
-use Rattle.rtyper_op.specs.Mapped.{mixed, place_of_hash}
+use Rattle.rtyper_op.specs.Mapped.{mixed}
+use Rattle.dict_laws.specs.Index.{StandsFrom, here}
+use Rattle.dict_laws.specs.Masks.{place_of}
 use Rattle.lower_laws.proofs.Typing.{place_of_words}
-use Rattle.object_laws.specs.Dicts.{DictAt, IsIndex, Finds, Here}
+use Rattle.object_laws.specs.Dicts.{DictAt, IsIndex, hash}
 use Rattle.object_laws.specs.Ghost.{Home, Sort, ListOf, InstanceOf, DictOf, Stays, use_of}
 use Rattle.object_laws.specs.Represents.{is_settled}
 use Rattle.object_laws.specs.Rows.{known, words, dict_layout, dict_heap, dict_blocks, dict_ghost, OneEntry}
@@ -24,35 +26,43 @@ a_word z f = Plain refl (subst (λ t. Stands dict_ghost t (Word z) (MeantWord z)
 
 -- ---- the index
 
-abbrev index : List ℤ
-index = pos 0 ∷ pos 1 ∷ pos 0 ∷ pos 0 ∷ []
+abbrev index : List ℕ
+index = 0 ∷ 1 ∷ 0 ∷ 0 ∷ []
 
-leads : place_of_hash (mixed (pos 7)) 4 ≡ 1
-unfolding mixed place_of_hash int_wrap
+leads : place_of 2 (mixed (pos 7)) ≡ 1
+unfolding mixed int_wrap
 leads = refl
 
-same_word : {a b : ℤ} → Some a ≡ Some b → a ≡ b
-same_word h = cc
+abbrev starts : List ℕ
+starts = place_of 2 (mixed (pos 7)) ∷ []
 
-found_first : (e : ℕ) (h : ℤ) → slice_get (mixed (pos 7) ∷ []) e ≡ Some h → Finds index (pos (e + 1)) (place_of_hash h 4)
-found_first zero h is = subst (λ h. Finds index (pos 1) (place_of_hash h 4)) (same_word is) (subst (Finds index (pos 1)) (sym leads) (Here refl))
-found_first (suc e) h is = absurd (cc)
+same_number : {a b : ℕ} → Some a ≡ Some b → a ≡ b
+same_number h = cc
 
-only_first : (at : ℕ) (w : ℤ) → slice_get index at ≡ Some w → w ≢ pos 0 → (at ≡ 1) × (w ≡ pos 1)
-only_first zero w is some = absurd (some (sym (same_word is)))
-only_first (suc zero) w is some = (refl, sym (same_word is))
-only_first (suc (suc zero)) w is some = absurd (some (sym (same_word is)))
-only_first (suc (suc (suc zero))) w is some = absurd (some (sym (same_word is)))
-only_first (suc (suc (suc (suc n)))) w is some = absurd (cc)
+starts_at : (entry start : ℕ) → slice_get starts entry ≡ Some start → (entry ≡ 0) × (start ≡ 1)
+starts_at zero start is = (refl, sym (same_number is) ∙ leads)
+starts_at (suc entry) start is = absurd (cc)
 
-is_index : IsIndex (mixed (pos 7) ∷ []) index
+stands_at : (entry start : ℕ) → (entry ≡ 0) × (start ≡ 1) → StandsFrom index entry start
+stands_at entry start at = subst (λ e. StandsFrom index e start) (sym at.0) (subst (StandsFrom index 0) (sym at.1) (here 1 refl))
+
+holds_first : (at entry : ℕ) → slice_get index at ≡ Some (suc entry) → (at ≡ 1) × (entry ≡ 0)
+holds_first zero entry is = absurd (let q : 0 ≡ suc entry = same_number is in omega (arith, q))
+holds_first (suc zero) entry is = (refl, (let q : 1 ≡ suc entry = same_number is in omega (arith, q)))
+holds_first (suc (suc zero)) entry is = absurd (let q : 0 ≡ suc entry = same_number is in omega (arith, q))
+holds_first (suc (suc (suc zero))) entry is = absurd (let q : 0 ≡ suc entry = same_number is in omega (arith, q))
+holds_first (suc (suc (suc (suc n)))) entry is = absurd (cc)
+
+is_index : IsIndex (mixed (pos 7) ∷ []) 2 index
 is_index = record {
-  power = 2;
-  size = refl;
-  few = omega arith;
-  entries = found_first;
-  only = λ at w is some. (0, omega arith, (only_first at w is some).1);
-  once = λ a b w here there some. (only_first a w here some).0 ∙ sym (only_first b w there some).0;
+  long = record { bits = 2; few = omega arith; is = refl; longer = omega arith };
+  right = record {
+    within = λ entry start is. (let at = (starts_at entry start is).1 in omega (arith, at));
+    stands = λ entry start is. stands_at entry start (starts_at entry start is);
+    known = λ at entry is. (let e = (holds_first at entry is).1 in omega (arith, e));
+    once = λ at other entry here there. (holds_first at entry here).0 ∙ sym (holds_first other entry there).0;
+    free = refl;
+  };
 }
 
 -- ---- the dict
@@ -87,7 +97,7 @@ the_dict = record {
     no_values = (refl, tt);
     key_places = refl;
     value_places = refl;
-    indexed = (is_index, omega arith);
+    indexed = is_index;
   });
   apart = one_key;
   few = omega arith;

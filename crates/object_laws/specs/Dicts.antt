@@ -13,7 +13,10 @@ use Rattle.rtyper_layout.specs.declared.layout.Layout.{Layout}
 use Rattle.rtyper_layout.specs.Dicts.{first, second, keys_last, is_indexed, stored_key, stored_value}
 use Rattle.rtyper_layout.specs.Layout.{fields_in}
 use Rattle.rtyper_data.specs.Finding.{same_type}
-use Rattle.rtyper_op.specs.Mapped.{mixed, with_item, hash_of_text, place_of_hash, round}
+use Rattle.rtyper_op.specs.Mapped.{mixed, with_item, hash_of_text}
+use Rattle.dict_laws.specs.Index.{IsRight}
+use Rattle.dict_laws.specs.Keys.{AreApart}
+use Rattle.dict_laws.specs.Masks.{IsLength, place_of}
 use Rattle.object_laws.specs.Ghost.{Ghost, use_of, Table, First, Second}
 use Rattle.object_laws.specs.Known.{Known}
 use Rattle.object_laws.specs.Values.{EachHolds, AreEmpty}
@@ -49,28 +52,18 @@ module _ (layout : Layout) where
 
 -- ---- the index
 
--- the place behind a place; the first comes behind the last
-abbrev pub next : List ℤ → ℕ → ℕ
-next words at = round (at + 1) (length words)
+-- An index of entries with these hashes, with so many places for entries: its length is a power of two and more than these, and it is right
+-- for where the hashes lead.
+pub record IsIndex (hashes : List ℤ) (places : ℕ) (words : List ℕ) : Type 0 where
+  pub long : IsLength places (length words)
+  pub right : IsRight words (map (place_of long.bits) hashes)
 
--- from this place on the word comes before an empty one
-pub data Finds (words : List ℤ) (w : ℤ) : ℕ → Type 0 where
-  Here : {at : ℕ} → slice_get words at ≡ Some w → Finds words w at
-  Further : {at : ℕ} (v : ℤ) → slice_get words at ≡ Some v → v ≢ pos 0 → Finds words w (next words at) → Finds words w at
-
--- An index of entries with these hashes: a power of two of words, more than there are entries. Each entry stands there, counted from one,
--- once and at or behind where its hash leads; all other words are zero.
-pub record IsIndex (hashes : List ℤ) (words : List ℤ) : Type 0 where
-  pub power : ℕ
-  pub size : length words ≡ 2 ^ power
-  pub few : power ≤ 62
-  pub entries : (e : ℕ) (h : ℤ) → slice_get hashes e ≡ Some h → Finds words (pos (e + 1)) (place_of_hash h (length words))
-  pub only : (at : ℕ) (w : ℤ) → slice_get words at ≡ Some w → w ≢ pos 0 → (e : ℕ) × (e < length hashes) × (w ≡ pos (e + 1))
-  pub once : (a b : ℕ) (w : ℤ) → slice_get words a ≡ Some w → slice_get words b ≡ Some w → w ≢ pos 0 → a ≡ b
-
-abbrev pub IsIndexIf : Bool → List ℤ → ℕ → List ℤ → Type 0
-IsIndexIf true hashes places words = IsIndex hashes words × (places < length words)
+abbrev pub IsIndexIf : Bool → List ℤ → ℕ → List ℕ → Type 0
+IsIndexIf true hashes places words = IsIndex hashes places words
 IsIndexIf false hashes places words = words ≡ []
+
+abbrev pub index_values : List ℕ → List Value
+index_values words = map (λ (n : ℕ). Word (pos n)) words
 
 -- ---- dicts
 
@@ -94,10 +87,6 @@ in_first m keys values = if keys_last m then values else keys
 abbrev pub in_second : Mapping → List Value → List Value → List Value
 in_second m keys values = if keys_last m then keys else values
 
--- no two keys are equal
-abbrev pub AreApart : List (Meant × Meant) → Type 0
-AreApart pairs = (i j : ℕ) (v w : Meant) → slice_get (keys_of pairs) i ≡ Some v → slice_get (keys_of pairs) j ≡ Some w → is_equal v w ≡ true → i ≡ j
-
 module _ (layout : Layout) (known : Known) (g : Ghost) (blocks : List (Option Block)) (statics : List Block) (m : Mapping) (i : ℕ) (pairs : List (Meant × Meant)) (places : ℕ) (one two : Value) where
   -- The arrays have so many places. The first ones stand for the keys and values, and the others are spare.
   pub record Arrays : Type 0 where
@@ -105,11 +94,11 @@ module _ (layout : Layout) (known : Known) (g : Ghost) (blocks : List (Option Bl
     pub values : List Value
     pub spare_keys : List Value
     pub spare_values : List Value
-    pub index : List ℤ
+    pub index : List ℕ
     pub first_use : use_of g one ≡ Some (First i)
     pub second_use : use_of g two ≡ Some (Second i)
     pub first_is : found blocks statics one ≡ Some (items_block (first m) (in_first m (map (as_item m.key (stored_key m)) keys ++ spare_keys) (map (as_item m.value (stored_value m)) values ++ spare_values)))
-    pub second_is : found blocks statics two ≡ Some (items_block (second m) (map Word index ++ in_second m (map (as_item m.key (stored_key m)) keys ++ spare_keys) (map (as_item m.value (stored_value m)) values ++ spare_values)))
+    pub second_is : found blocks statics two ≡ Some (items_block (second m) (index_values index ++ in_second m (map (as_item m.key (stored_key m)) keys ++ spare_keys) (map (as_item m.value (stored_value m)) values ++ spare_values)))
     pub each_key : EachHolds layout known g (known.keys m.dict) keys (keys_of pairs)
     pub each_value : EachHolds layout known g (known.items m.dict) values (values_of pairs)
     pub no_keys : AreEmpty spare_keys
@@ -135,5 +124,5 @@ pub record DictAt (layout : Layout) (known : Known) (g : Ghost) (heap : Heap) (b
   pub head_use : use_of g head ≡ Some (Table i)
   pub head_is : found blocks statics head ≡ Some (dict_block m.dict (length pairs) places one two)
   pub arrays : Lacks layout known g blocks statics m i pairs places one two ⊎ Arrays layout known g blocks statics m i pairs places one two
-  pub apart : AreApart pairs
+  pub apart : AreApart is_equal (keys_of pairs)
   pub few : places < 2 ^ 62
