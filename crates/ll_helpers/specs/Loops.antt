@@ -26,14 +26,16 @@ put_bytes_byte = block_of (0 ∷ 1 ∷ 2 ∷ []) (
     ∷ Put (Var 5)
     ∷ Binary 2 Add (Var 2) (word (pos 1)) ∷ []) (Goto (to 1 (Var 0 ∷ Var 1 ∷ Var 2 ∷ [])))
 
+abbrev pub put_bytes_blocks_a : List LlBlock
+put_bytes_blocks_a = put_bytes_start ∷ put_bytes_test ∷ []
+
+abbrev pub put_bytes_blocks_b : List LlBlock
+put_bytes_blocks_b = put_bytes_byte ∷ done ∷ []
+
 -- prints the bytes of a string
 -- variables: 0 text, 1 length, 2 at, 3 more, 4 char, 5 byte
 abbrev pub put_bytes : LlGraph
-put_bytes = graph_of (codes "put_bytes") (0 ∷ []) Void (Ptr 0 ∷ Signed ∷ Signed ∷ Bool ∷ Char ∷ Signed ∷ []) (
-    put_bytes_start
-    ∷ put_bytes_test
-    ∷ put_bytes_byte
-    ∷ done ∷ [])
+put_bytes = graph_of (codes "put_bytes") (0 ∷ []) Void (Ptr 0 ∷ Signed ∷ Signed ∷ Bool ∷ Char ∷ Signed ∷ []) (put_bytes_blocks_a ++ put_bytes_blocks_b)
 
 -- whether there is a byte left
 abbrev pub copy_bytes_test : LlBlock
@@ -49,13 +51,13 @@ copy_bytes_turn = block_of (0 ∷ 1 ∷ 2 ∷ 3 ∷ 4 ∷ []) (
     ∷ Binary 3 Add (Var 3) (word (pos 1))
     ∷ Binary 4 Sub (Var 4) (word (pos 1)) ∷ []) (Goto (to 0 (Var 0 ∷ Var 1 ∷ Var 2 ∷ Var 3 ∷ Var 4 ∷ [])))
 
+abbrev pub copy_bytes_blocks : List LlBlock
+copy_bytes_blocks = copy_bytes_test ∷ copy_bytes_turn ∷ done ∷ []
+
 -- copies bytes: from a string and a place to another string and place, so many
 -- variables: 0 source, 1 from, 2 target, 3 to, 4 count, 5 more, 6 char
 abbrev pub copy_bytes : LlGraph
-copy_bytes = graph_of (codes "copy_bytes") (0 ∷ 1 ∷ 2 ∷ 3 ∷ 4 ∷ []) Void (Ptr 0 ∷ Signed ∷ Ptr 0 ∷ Signed ∷ Signed ∷ Bool ∷ Char ∷ []) (
-    copy_bytes_test
-    ∷ copy_bytes_turn
-    ∷ done ∷ [])
+copy_bytes = graph_of (codes "copy_bytes") (0 ∷ 1 ∷ 2 ∷ 3 ∷ 4 ∷ []) Void (Ptr 0 ∷ Signed ∷ Ptr 0 ∷ Signed ∷ Signed ∷ Bool ∷ Char ∷ []) copy_bytes_blocks
 
 -- the first place
 abbrev pub repeat_bytes_start : LlBlock
@@ -71,14 +73,16 @@ repeat_bytes_turn copy = block_of (0 ∷ 1 ∷ 2 ∷ 3 ∷ 4 ∷ []) (
     Call None copy (Var 0 ∷ word (pos 0) ∷ Var 1 ∷ Var 4 ∷ Var 2 ∷ [])
     ∷ Binary 4 Add (Var 4) (Var 2) ∷ []) (Goto (to 1 (Var 0 ∷ Var 1 ∷ Var 2 ∷ Var 3 ∷ Var 4 ∷ [])))
 
+abbrev pub repeat_bytes_blocks_a : List LlBlock
+repeat_bytes_blocks_a = repeat_bytes_start ∷ repeat_bytes_test ∷ []
+
+abbrev pub repeat_bytes_blocks_b : ℕ → List LlBlock
+repeat_bytes_blocks_b copy = repeat_bytes_turn copy ∷ done ∷ []
+
 -- fills a string of this length with copies of one of this size
 -- variables: 0 source, 1 target, 2 size, 3 length, 4 at, 5 more
 abbrev pub repeat_bytes : ℕ → LlGraph
-repeat_bytes copy = graph_of (codes "repeat_bytes") (0 ∷ 1 ∷ 2 ∷ 3 ∷ []) Void (Ptr 0 ∷ Ptr 0 ∷ Signed ∷ Signed ∷ Signed ∷ Bool ∷ []) (
-    repeat_bytes_start
-    ∷ repeat_bytes_test
-    ∷ repeat_bytes_turn copy
-    ∷ done ∷ [])
+repeat_bytes copy = graph_of (codes "repeat_bytes") (0 ∷ 1 ∷ 2 ∷ 3 ∷ []) Void (Ptr 0 ∷ Ptr 0 ∷ Signed ∷ Signed ∷ Signed ∷ Bool ∷ []) (repeat_bytes_blocks_a ++ repeat_bytes_blocks_b copy)
 
 -- whether there is a byte left
 abbrev pub alike_bytes_test : LlBlock
@@ -97,14 +101,16 @@ alike_bytes_turn = block_of (0 ∷ 1 ∷ 2 ∷ 3 ∷ 4 ∷ []) (
     ∷ Binary 3 Add (Var 3) (word (pos 1))
     ∷ Binary 4 Sub (Var 4) (word (pos 1)) ∷ []) (fork 5 0 (Var 0 ∷ Var 1 ∷ Var 2 ∷ Var 3 ∷ Var 4 ∷ []) 3 [])
 
+abbrev pub alike_bytes_blocks_a : List LlBlock
+alike_bytes_blocks_a = alike_bytes_test ∷ alike_bytes_turn ∷ []
+
+abbrev pub alike_bytes_blocks_b : List LlBlock
+alike_bytes_blocks_b = answer (flag true) ∷ answer (flag false) ∷ []
+
 -- whether two stretches of this many bytes are alike, each of a string from a place on
 -- variables: 0 first, 1 from, 2 second, 3 at, 4 count, 5 more, 6 left, 7 right, 8 low, 9 high
 abbrev pub alike_bytes : LlGraph
-alike_bytes = graph_of (codes "alike_bytes") (0 ∷ 1 ∷ 2 ∷ 3 ∷ 4 ∷ []) Bool (Ptr 0 ∷ Signed ∷ Ptr 0 ∷ Signed ∷ Signed ∷ Bool ∷ Char ∷ Char ∷ Signed ∷ Signed ∷ []) (
-    alike_bytes_test
-    ∷ alike_bytes_turn
-    ∷ answer (flag true)
-    ∷ answer (flag false) ∷ [])
+alike_bytes = graph_of (codes "alike_bytes") (0 ∷ 1 ∷ 2 ∷ 3 ∷ 4 ∷ []) Bool (Ptr 0 ∷ Signed ∷ Ptr 0 ∷ Signed ∷ Signed ∷ Bool ∷ Char ∷ Char ∷ Signed ∷ Signed ∷ []) (alike_bytes_blocks_a ++ alike_bytes_blocks_b)
 
 -- the last place that the part could stand at
 abbrev pub find_bytes_start : LlBlock
@@ -207,14 +213,16 @@ count_digits_turn = block_of (0 ∷ 1 ∷ []) (
 abbrev pub count_digits_done : LlBlock
 count_digits_done = block_of (1 ∷ []) [] (Return (Some (Var 1)))
 
+abbrev pub count_digits_blocks_a : List LlBlock
+count_digits_blocks_a = count_digits_start ∷ count_digits_test ∷ []
+
+abbrev pub count_digits_blocks_b : List LlBlock
+count_digits_blocks_b = count_digits_turn ∷ count_digits_done ∷ []
+
 -- how many digits a word has that is not negative; zero has none
 -- variables: 0 number, 1 count, 2 more
 abbrev pub count_digits : LlGraph
-count_digits = graph_of (codes "count_digits") (0 ∷ []) Signed (Signed ∷ Signed ∷ Bool ∷ []) (
-    count_digits_start
-    ∷ count_digits_test
-    ∷ count_digits_turn
-    ∷ count_digits_done ∷ [])
+count_digits = graph_of (codes "count_digits") (0 ∷ []) Signed (Signed ∷ Signed ∷ Bool ∷ []) (count_digits_blocks_a ++ count_digits_blocks_b)
 
 -- whether there is a digit left
 abbrev pub write_digits_test : LlBlock
@@ -230,13 +238,13 @@ write_digits_turn = block_of (0 ∷ 1 ∷ 2 ∷ []) (
     ∷ SetItem 0 0 (Var 1) (Var 5)
     ∷ Binary 2 Div (Var 2) (word (pos 10)) ∷ []) (Goto (to 0 (Var 0 ∷ Var 1 ∷ Var 2 ∷ [])))
 
+abbrev pub write_digits_blocks : List LlBlock
+write_digits_blocks = write_digits_test ∷ write_digits_turn ∷ done ∷ []
+
 -- writes the digits of a word that is not negative into a string, so that they end before a place; of zero none
 -- variables: 0 text, 1 end, 2 number, 3 more, 4 digit, 5 char
 abbrev pub write_digits : LlGraph
-write_digits = graph_of (codes "write_digits") (0 ∷ 1 ∷ 2 ∷ []) Void (Ptr 0 ∷ Signed ∷ Signed ∷ Bool ∷ Signed ∷ Char ∷ []) (
-    write_digits_test
-    ∷ write_digits_turn
-    ∷ done ∷ [])
+write_digits = graph_of (codes "write_digits") (0 ∷ 1 ∷ 2 ∷ []) Void (Ptr 0 ∷ Signed ∷ Signed ∷ Bool ∷ Signed ∷ Char ∷ []) write_digits_blocks
 
 -- the length, and the first place
 abbrev pub skip_forwards_start : LlBlock
@@ -259,15 +267,16 @@ skip_forwards_next = block_of (0 ∷ 1 ∷ 2 ∷ []) (Binary 2 Add (Var 2) (word
 abbrev pub skip_forwards_done : LlBlock
 skip_forwards_done = block_of (2 ∷ []) [] (Return (Some (Var 2)))
 
+abbrev pub skip_forwards_blocks_a : ℕ → List LlBlock
+skip_forwards_blocks_a space = skip_forwards_start ∷ skip_forwards_test ∷ skip_forwards_look space ∷ []
+
+abbrev pub skip_forwards_blocks_b : List LlBlock
+skip_forwards_blocks_b = skip_forwards_next ∷ skip_forwards_done ∷ []
+
 -- the first place of a string that has no blank, or its length
 -- variables: 0 text, 1 length, 2 at, 3 more, 4 char
 abbrev pub skip_forwards : ℕ → LlGraph
-skip_forwards space = graph_of (codes "skip_forwards") (0 ∷ []) Signed (Ptr 0 ∷ Signed ∷ Signed ∷ Bool ∷ Char ∷ []) (
-    skip_forwards_start
-    ∷ skip_forwards_test
-    ∷ skip_forwards_look space
-    ∷ skip_forwards_next
-    ∷ skip_forwards_done ∷ [])
+skip_forwards space = graph_of (codes "skip_forwards") (0 ∷ []) Signed (Ptr 0 ∷ Signed ∷ Signed ∷ Bool ∷ Char ∷ []) (skip_forwards_blocks_a space ++ skip_forwards_blocks_b)
 
 -- the length
 abbrev pub skip_backwards_start : LlBlock
@@ -287,11 +296,13 @@ skip_backwards_look space = block_of (0 ∷ 1 ∷ 2 ∷ []) (
 abbrev pub skip_backwards_done : LlBlock
 skip_backwards_done = block_of (2 ∷ []) [] (Return (Some (Var 2)))
 
+abbrev pub skip_backwards_blocks_a : List LlBlock
+skip_backwards_blocks_a = skip_backwards_start ∷ skip_backwards_test ∷ []
+
+abbrev pub skip_backwards_blocks_b : ℕ → List LlBlock
+skip_backwards_blocks_b space = skip_backwards_look space ∷ skip_backwards_done ∷ []
+
 -- the place behind the last byte that is no blank, but none before this one
 -- variables: 0 text, 1 from, 2 end, 3 place, 4 more, 5 char
 abbrev pub skip_backwards : ℕ → LlGraph
-skip_backwards space = graph_of (codes "skip_backwards") (0 ∷ 1 ∷ []) Signed (Ptr 0 ∷ Signed ∷ Signed ∷ Signed ∷ Bool ∷ Char ∷ []) (
-    skip_backwards_start
-    ∷ skip_backwards_test
-    ∷ skip_backwards_look space
-    ∷ skip_backwards_done ∷ [])
+skip_backwards space = graph_of (codes "skip_backwards") (0 ∷ 1 ∷ []) Signed (Ptr 0 ∷ Signed ∷ Signed ∷ Signed ∷ Bool ∷ Char ∷ []) (skip_backwards_blocks_a ++ skip_backwards_blocks_b space)

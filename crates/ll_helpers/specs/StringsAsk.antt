@@ -15,13 +15,13 @@ print_str_ask_text = ask (0 ∷ []) (Var 0 ∷ []) 0 1 1 2
 abbrev pub print_str_puts : ℕ → LlBlock
 print_str_puts puts = block_of (0 ∷ []) (Call None puts (Var 0 ∷ []) ∷ []) (Return None)
 
+abbrev pub print_str_blocks : ℕ → List LlBlock
+print_str_blocks puts = print_str_ask_text ∷ fails 4 ∷ print_str_puts puts ∷ []
+
 -- prints the bytes of a string
 -- variables: 0 text, 1 test
 abbrev pub print_str : ℕ → LlGraph
-print_str puts = graph_of (codes "print_str") (0 ∷ []) Void (Ptr 0 ∷ Bool ∷ []) (
-    print_str_ask_text
-    ∷ fails 4
-    ∷ print_str_puts puts ∷ [])
+print_str puts = graph_of (codes "print_str") (0 ∷ []) Void (Ptr 0 ∷ Bool ∷ []) (print_str_blocks puts)
 
 abbrev pub str_write_ask_text : LlBlock
 str_write_ask_text = ask (0 ∷ []) (Var 0 ∷ []) 0 1 1 2
@@ -29,13 +29,13 @@ str_write_ask_text = ask (0 ∷ []) (Var 0 ∷ []) 0 1 1 2
 abbrev pub str_write_writes : ℕ → LlBlock
 str_write_writes puts = block_of (0 ∷ []) (Call None puts (Var 0 ∷ []) ∷ GetField 2 0 0 0 ∷ []) (Return (Some (Var 2)))
 
+abbrev pub str_write_blocks : ℕ → List LlBlock
+str_write_blocks puts = str_write_ask_text ∷ fails 4 ∷ str_write_writes puts ∷ []
+
 -- writes the bytes of a string, and gives their number
 -- variables: 0 text, 1 test, 2 length
 abbrev pub str_write : ℕ → LlGraph
-str_write puts = graph_of (codes "str_write") (0 ∷ []) Signed (Ptr 0 ∷ Bool ∷ Signed ∷ []) (
-    str_write_ask_text
-    ∷ fails 4
-    ∷ str_write_writes puts ∷ [])
+str_write puts = graph_of (codes "str_write") (0 ∷ []) Signed (Ptr 0 ∷ Bool ∷ Signed ∷ []) (str_write_blocks puts)
 
 abbrev pub str_index_ask_text : LlBlock
 str_index_ask_text = ask (0 ∷ 1 ∷ []) (Var 0 ∷ Var 1 ∷ []) 0 2 1 2
@@ -84,13 +84,13 @@ str_len_ask_text = ask (0 ∷ []) (Var 0 ∷ []) 0 1 1 2
 abbrev pub str_len_takes : LlBlock
 str_len_takes = block_of (0 ∷ []) (GetField 2 0 0 0 ∷ []) (Return (Some (Var 2)))
 
+abbrev pub str_len_blocks : List LlBlock
+str_len_blocks = str_len_ask_text ∷ fails 4 ∷ str_len_takes ∷ []
+
 -- the length of a string
 -- variables: 0 text, 1 test, 2 length
 abbrev pub str_len : LlGraph
-str_len = graph_of (codes "str_len") (0 ∷ []) Signed (Ptr 0 ∷ Bool ∷ Signed ∷ []) (
-    str_len_ask_text
-    ∷ fails 4
-    ∷ str_len_takes ∷ [])
+str_len = graph_of (codes "str_len") (0 ∷ []) Signed (Ptr 0 ∷ Bool ∷ Signed ∷ []) str_len_blocks
 
 abbrev pub str_truth_ask_text : LlBlock
 str_truth_ask_text = ask (0 ∷ []) (Var 0 ∷ []) 0 1 1 2
@@ -98,13 +98,13 @@ str_truth_ask_text = ask (0 ∷ []) (Var 0 ∷ []) 0 1 1 2
 abbrev pub str_truth_takes : LlBlock
 str_truth_takes = block_of (0 ∷ []) (GetField 2 0 0 0 ∷ Binary 1 Lt (word (pos 0)) (Var 2) ∷ []) (Return (Some (Var 1)))
 
+abbrev pub str_truth_blocks : List LlBlock
+str_truth_blocks = str_truth_ask_text ∷ answer (flag false) ∷ str_truth_takes ∷ []
+
 -- whether a string is there and has a byte
 -- variables: 0 text, 1 test, 2 length
 abbrev pub str_truth : LlGraph
-str_truth = graph_of (codes "str_truth") (0 ∷ []) Bool (Ptr 0 ∷ Bool ∷ Signed ∷ []) (
-    str_truth_ask_text
-    ∷ answer (flag false)
-    ∷ str_truth_takes ∷ [])
+str_truth = graph_of (codes "str_truth") (0 ∷ []) Bool (Ptr 0 ∷ Bool ∷ Signed ∷ []) str_truth_blocks
 
 -- whether the first is missing
 abbrev pub str_equal_first : LlBlock
@@ -174,14 +174,16 @@ str_contains_takes find = block_of (0 ∷ 1 ∷ []) (
     ∷ Call (Some 5) find (Var 1 ∷ Var 3 ∷ Var 0 ∷ Var 4 ∷ [])
     ∷ Binary 2 Le (word (pos 0)) (Var 5) ∷ []) (Return (Some (Var 2)))
 
+abbrev pub str_contains_blocks_a : List LlBlock
+str_contains_blocks_a = str_contains_ask_text ∷ str_contains_part ∷ []
+
+abbrev pub str_contains_blocks_b : ℕ → List LlBlock
+str_contains_blocks_b find = fails 4 ∷ str_contains_takes find ∷ []
+
 -- whether the first string is a part of the second
 -- variables: 0 part, 1 text, 2 test, 3 length, 4 size, 5 place
 abbrev pub str_contains : ℕ → LlGraph
-str_contains find = graph_of (codes "str_contains") (0 ∷ 1 ∷ []) Bool (Ptr 0 ∷ Ptr 0 ∷ Bool ∷ Signed ∷ Signed ∷ Signed ∷ []) (
-    str_contains_ask_text
-    ∷ str_contains_part
-    ∷ fails 4
-    ∷ str_contains_takes find ∷ [])
+str_contains find = graph_of (codes "str_contains") (0 ∷ 1 ∷ []) Bool (Ptr 0 ∷ Ptr 0 ∷ Bool ∷ Signed ∷ Signed ∷ Signed ∷ []) (str_contains_blocks_a ++ str_contains_blocks_b find)
 
 abbrev pub str_find_ask_text : LlBlock
 str_find_ask_text = ask (0 ∷ 1 ∷ []) (Var 0 ∷ Var 1 ∷ []) 0 2 2 1
@@ -195,14 +197,16 @@ str_find_takes find = block_of (0 ∷ 1 ∷ []) (
     ∷ GetField 4 0 1 0
     ∷ Call (Some 5) find (Var 0 ∷ Var 3 ∷ Var 1 ∷ Var 4 ∷ []) ∷ []) (Return (Some (Var 5)))
 
+abbrev pub str_find_blocks_a : List LlBlock
+str_find_blocks_a = str_find_ask_text ∷ str_find_part ∷ []
+
+abbrev pub str_find_blocks_b : ℕ → List LlBlock
+str_find_blocks_b find = fails 4 ∷ str_find_takes find ∷ []
+
 -- the first place from which the first string begins with the second, or -1
 -- variables: 0 text, 1 part, 2 test, 3 length, 4 size, 5 place
 abbrev pub str_find : ℕ → LlGraph
-str_find find = graph_of (codes "str_find") (0 ∷ 1 ∷ []) Signed (Ptr 0 ∷ Ptr 0 ∷ Bool ∷ Signed ∷ Signed ∷ Signed ∷ []) (
-    str_find_ask_text
-    ∷ str_find_part
-    ∷ fails 4
-    ∷ str_find_takes find ∷ [])
+str_find find = graph_of (codes "str_find") (0 ∷ 1 ∷ []) Signed (Ptr 0 ∷ Ptr 0 ∷ Bool ∷ Signed ∷ Signed ∷ Signed ∷ []) (str_find_blocks_a ++ str_find_blocks_b find)
 
 abbrev pub str_starts_with_ask_text : LlBlock
 str_starts_with_ask_text = ask (0 ∷ 1 ∷ []) (Var 0 ∷ Var 1 ∷ []) 0 2 2 1
@@ -283,13 +287,13 @@ str_walk_ask_text = ask (0 ∷ []) (Var 0 ∷ []) 0 1 1 2
 abbrev pub str_walk_takes : LlBlock
 str_walk_takes = block_of (0 ∷ []) [] (Return (Some (Var 0)))
 
+abbrev pub str_walk_blocks : List LlBlock
+str_walk_blocks = str_walk_ask_text ∷ fails 4 ∷ str_walk_takes ∷ []
+
 -- what is walked: the string itself
 -- variables: 0 text, 1 test
 abbrev pub str_walk : LlGraph
-str_walk = graph_of (codes "str_walk") (0 ∷ []) (Ptr 0) (Ptr 0 ∷ Bool ∷ []) (
-    str_walk_ask_text
-    ∷ fails 4
-    ∷ str_walk_takes ∷ [])
+str_walk = graph_of (codes "str_walk") (0 ∷ []) (Ptr 0) (Ptr 0 ∷ Bool ∷ []) str_walk_blocks
 
 abbrev pub str_has_item_whole : LlBlock
 str_has_item_whole = block_of (0 ∷ 1 ∷ []) (GetField 2 0 0 0 ∷ Binary 3 Lt (Var 1) (Var 2) ∷ []) (Return (Some (Var 3)))

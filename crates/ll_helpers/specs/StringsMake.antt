@@ -36,15 +36,16 @@ string_part_makes copy = block_of (0 ∷ 1 ∷ 2 ∷ []) (
     ∷ SetField 0 7 0 (Var 2)
     ∷ Call None copy (Var 0 ∷ Var 1 ∷ Var 7 ∷ word (pos 0) ∷ Var 2 ∷ []) ∷ []) (Return (Some (Var 7)))
 
+abbrev pub string_part_blocks_a : List LlBlock
+string_part_blocks_a = string_part_pays ∷ string_part_short ∷ answer (static_text 0) ∷ []
+
+abbrev pub string_part_blocks_b : ℕ → ℕ → List LlBlock
+string_part_blocks_b table copy = string_part_single table ∷ string_part_makes copy ∷ []
+
 -- the string of a part of a string, from a place on, of so many bytes, which are paid for with one step more
 -- variables: 0 text, 1 at, 2 count, 3 few, 4 char, 5 byte, 6 table, 7 made
 abbrev pub string_part : ℕ → ℕ → LlGraph
-string_part table copy = graph_of (codes "string_part") (0 ∷ 1 ∷ 2 ∷ []) (Ptr 0) (Ptr 0 ∷ Signed ∷ Signed ∷ Bool ∷ Char ∷ Signed ∷ Ptr table ∷ Ptr 0 ∷ []) (
-    string_part_pays
-    ∷ string_part_short
-    ∷ answer (static_text 0)
-    ∷ string_part_single table
-    ∷ string_part_makes copy ∷ [])
+string_part table copy = graph_of (codes "string_part") (0 ∷ 1 ∷ 2 ∷ []) (Ptr 0) (Ptr 0 ∷ Signed ∷ Signed ∷ Bool ∷ Char ∷ Signed ∷ Ptr table ∷ Ptr 0 ∷ []) (string_part_blocks_a ++ string_part_blocks_b table copy)
 
 -- from the table
 abbrev pub str_of_char_whole : ℕ → LlBlock
@@ -105,26 +106,30 @@ str_of_word_makes write = block_of (0 ∷ 4 ∷ []) (
     ∷ SetField 0 7 0 (Var 4)
     ∷ Call None write (Var 7 ∷ Var 4 ∷ Var 0 ∷ []) ∷ []) (Return (Some (Var 7)))
 
+abbrev pub str_of_word_blocks_a : ℕ → ℕ → List LlBlock
+str_of_word_blocks_a digits write = str_of_word_sign ∷ str_of_word_negative digits write ∷ []
+
+abbrev pub str_of_word_blocks_b : ℕ → ℕ → List LlBlock
+str_of_word_blocks_b table digits = str_of_word_positive digits ∷ str_of_word_single table ∷ []
+
+abbrev pub str_of_word_blocks_c : ℕ → List LlBlock
+str_of_word_blocks_c write = str_of_word_makes write ∷ []
+
 -- the decimal of a word. The divisor of a negative one is negative, so that the smallest has a quotient
 -- variables: 0 number, 1 test, 2 rest, 3 digits, 4 length, 5 cost, 6 table, 7 made, 8 digit, 9 char, 10 place
 abbrev pub str_of_word : ℕ → ℕ → ℕ → LlGraph
-str_of_word table digits write = graph_of (codes "str_of_word") (0 ∷ []) (Ptr 0) (Signed ∷ Bool ∷ Signed ∷ Signed ∷ Signed ∷ Signed ∷ Ptr table ∷ Ptr 0 ∷ Signed ∷ Char ∷ Signed ∷ []) (
-    str_of_word_sign
-    ∷ str_of_word_negative digits write
-    ∷ str_of_word_positive digits
-    ∷ str_of_word_single table
-    ∷ str_of_word_makes write ∷ [])
+str_of_word table digits write = graph_of (codes "str_of_word") (0 ∷ []) (Ptr 0) (Signed ∷ Bool ∷ Signed ∷ Signed ∷ Signed ∷ Signed ∷ Ptr table ∷ Ptr 0 ∷ Signed ∷ Char ∷ Signed ∷ []) (str_of_word_blocks_a digits write ++ str_of_word_blocks_b table digits ++ str_of_word_blocks_c write)
 
 abbrev pub str_of_bool_test : LlBlock
 str_of_bool_test = block_of (0 ∷ []) [] (fork 0 1 [] 2 [])
 
+abbrev pub str_of_bool_blocks : List LlBlock
+str_of_bool_blocks = str_of_bool_test ∷ answer (static_text 258) ∷ answer (static_text 259) ∷ []
+
 -- `True` or `False`
 -- variables: 0 value
 abbrev pub str_of_bool : LlGraph
-str_of_bool = graph_of (codes "str_of_bool") (0 ∷ []) (Ptr 0) (Bool ∷ []) (
-    str_of_bool_test
-    ∷ answer (static_text 258)
-    ∷ answer (static_text 259) ∷ [])
+str_of_bool = graph_of (codes "str_of_bool") (0 ∷ []) (Ptr 0) (Bool ∷ []) str_of_bool_blocks
 
 abbrev pub str_add_ask_first : LlBlock
 str_add_ask_first = ask (0 ∷ 1 ∷ []) (Var 0 ∷ Var 1 ∷ []) 0 2 2 1
@@ -319,15 +324,16 @@ str_but_last_shorter = block_of (0 ∷ 2 ∷ []) (Binary 2 Sub (Var 2) (word (po
 abbrev pub str_but_last_takes : ℕ → LlBlock
 str_but_last_takes part = block_of (0 ∷ 2 ∷ []) (Call (Some 3) part (Var 0 ∷ word (pos 0) ∷ Var 2 ∷ []) ∷ []) (Return (Some (Var 3)))
 
+abbrev pub str_but_last_blocks_a : List LlBlock
+str_but_last_blocks_a = str_but_last_ask_text ∷ fails 4 ∷ str_but_last_lengths ∷ []
+
+abbrev pub str_but_last_blocks_b : ℕ → List LlBlock
+str_but_last_blocks_b part = str_but_last_shorter ∷ str_but_last_takes part ∷ []
+
 -- all bytes but the last
 -- variables: 0 text, 1 test, 2 length, 3 made
 abbrev pub str_but_last : ℕ → LlGraph
-str_but_last part = graph_of (codes "str_but_last") (0 ∷ []) (Ptr 0) (Ptr 0 ∷ Bool ∷ Signed ∷ Ptr 0 ∷ []) (
-    str_but_last_ask_text
-    ∷ fails 4
-    ∷ str_but_last_lengths
-    ∷ str_but_last_shorter
-    ∷ str_but_last_takes part ∷ [])
+str_but_last part = graph_of (codes "str_but_last") (0 ∷ []) (Ptr 0) (Ptr 0 ∷ Bool ∷ Signed ∷ Ptr 0 ∷ []) (str_but_last_blocks_a ++ str_but_last_blocks_b part)
 
 abbrev pub str_strip_ask_text : LlBlock
 str_strip_ask_text = ask (0 ∷ []) (Var 0 ∷ []) 0 1 1 2
@@ -340,10 +346,10 @@ str_strip_takes part forwards backwards = block_of (0 ∷ []) (
     ∷ Binary 4 Sub (Var 3) (Var 2)
     ∷ Call (Some 5) part (Var 0 ∷ Var 2 ∷ Var 4 ∷ []) ∷ []) (Return (Some (Var 5)))
 
+abbrev pub str_strip_blocks : ℕ → ℕ → ℕ → List LlBlock
+str_strip_blocks part forwards backwards = str_strip_ask_text ∷ fails 4 ∷ str_strip_takes part forwards backwards ∷ []
+
 -- a string without blanks at its ends
 -- variables: 0 text, 1 test, 2 from, 3 end, 4 count, 5 made
 abbrev pub str_strip : ℕ → ℕ → ℕ → LlGraph
-str_strip part forwards backwards = graph_of (codes "str_strip") (0 ∷ []) (Ptr 0) (Ptr 0 ∷ Bool ∷ Signed ∷ Signed ∷ Signed ∷ Ptr 0 ∷ []) (
-    str_strip_ask_text
-    ∷ fails 4
-    ∷ str_strip_takes part forwards backwards ∷ [])
+str_strip part forwards backwards = graph_of (codes "str_strip") (0 ∷ []) (Ptr 0) (Ptr 0 ∷ Bool ∷ Signed ∷ Signed ∷ Signed ∷ Ptr 0 ∷ []) (str_strip_blocks part forwards backwards)

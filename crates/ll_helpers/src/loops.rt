@@ -4,8 +4,8 @@ ghost use Rattle.ll_helpers.specs.Loops as spec;
 
 use csub_tree::{CBinary, CUnary};
 use ll_build::build::{
-    answer, block, blocks_of, call_of, done, flag, fork, go, graph, none, operations, types_of,
-    var, variables, word,
+    answer, block, call_of, done, flag, fork, go, graph, none, operations, types_of, var,
+    variables, word,
 };
 use ll_code::{LlBlock, LlExit, LlGraph, LlOp, LlType};
 use rpy_base::{NoMem, Seq};
@@ -46,20 +46,28 @@ fn put_bytes_byte(alloc: Global) -> Result<LlBlock, NoMem>
     block(alloc, [0, 1, 2], ops, exit)
 }
 
+fn put_bytes_blocks_a(alloc: Global, blocks: &mut Seq<LlBlock>) -> Result<(), NoMem>
+    ensures { OnOk result (blocks.new ≡ blocks.old ++ spec.put_bytes_blocks_a) }
+{
+    blocks.push(put_bytes_start(alloc)?)?;
+    blocks.push(put_bytes_test(alloc)?)
+}
+
+fn put_bytes_blocks_b(alloc: Global, blocks: &mut Seq<LlBlock>) -> Result<(), NoMem>
+    ensures { OnOk result (blocks.new ≡ blocks.old ++ spec.put_bytes_blocks_b) }
+{
+    blocks.push(put_bytes_byte(alloc)?)?;
+    blocks.push(done(alloc)?)
+}
+
 /// Prints the bytes of a string.
 pub fn put_bytes(alloc: Global) -> Result<LlGraph, NoMem>
     ensures { IfOk result (λ made. made ≡ spec.put_bytes) }
 {
     // 0 text, 1 length, 2 at, 3 more, 4 char, 5 byte
-    let blocks = blocks_of(
-        alloc,
-        [
-            put_bytes_start(alloc)?,
-            put_bytes_test(alloc)?,
-            put_bytes_byte(alloc)?,
-            done(alloc)?,
-        ],
-    )?;
+    let mut blocks = Seq::new(alloc);
+    put_bytes_blocks_a(alloc, &mut blocks)?;
+    put_bytes_blocks_b(alloc, &mut blocks)?;
     let types = types_of(
         alloc,
         [
@@ -102,19 +110,21 @@ fn copy_bytes_turn(alloc: Global) -> Result<LlBlock, NoMem>
     block(alloc, [0, 1, 2, 3, 4], ops, exit)
 }
 
+fn copy_bytes_blocks(alloc: Global, blocks: &mut Seq<LlBlock>) -> Result<(), NoMem>
+    ensures { OnOk result (blocks.new ≡ blocks.old ++ spec.copy_bytes_blocks) }
+{
+    blocks.push(copy_bytes_test(alloc)?)?;
+    blocks.push(copy_bytes_turn(alloc)?)?;
+    blocks.push(done(alloc)?)
+}
+
 /// Copies bytes: from a string and a place to another string and place, so many.
 pub fn copy_bytes(alloc: Global) -> Result<LlGraph, NoMem>
     ensures { IfOk result (λ made. made ≡ spec.copy_bytes) }
 {
     // 0 source, 1 from, 2 target, 3 to, 4 count, 5 more, 6 char
-    let blocks = blocks_of(
-        alloc,
-        [
-            copy_bytes_test(alloc)?,
-            copy_bytes_turn(alloc)?,
-            done(alloc)?,
-        ],
-    )?;
+    let mut blocks = Seq::new(alloc);
+    copy_bytes_blocks(alloc, &mut blocks)?;
     let types = types_of(
         alloc,
         [
@@ -163,20 +173,28 @@ fn repeat_bytes_turn(alloc: Global, copy: u64) -> Result<LlBlock, NoMem>
     block(alloc, [0, 1, 2, 3, 4], ops, exit)
 }
 
+fn repeat_bytes_blocks_a(alloc: Global, blocks: &mut Seq<LlBlock>) -> Result<(), NoMem>
+    ensures { OnOk result (blocks.new ≡ blocks.old ++ spec.repeat_bytes_blocks_a) }
+{
+    blocks.push(repeat_bytes_start(alloc)?)?;
+    blocks.push(repeat_bytes_test(alloc)?)
+}
+
+fn repeat_bytes_blocks_b(alloc: Global, copy: u64, blocks: &mut Seq<LlBlock>) -> Result<(), NoMem>
+    ensures { OnOk result (blocks.new ≡ blocks.old ++ spec.repeat_bytes_blocks_b copy) }
+{
+    blocks.push(repeat_bytes_turn(alloc, copy)?)?;
+    blocks.push(done(alloc)?)
+}
+
 /// Fills a string of this length with copies of one of this size.
 pub fn repeat_bytes(alloc: Global, copy: u64) -> Result<LlGraph, NoMem>
     ensures { IfOk result (λ made. made ≡ spec.repeat_bytes copy) }
 {
     // 0 source, 1 target, 2 size, 3 length, 4 at, 5 more
-    let blocks = blocks_of(
-        alloc,
-        [
-            repeat_bytes_start(alloc)?,
-            repeat_bytes_test(alloc)?,
-            repeat_bytes_turn(alloc, copy)?,
-            done(alloc)?,
-        ],
-    )?;
+    let mut blocks = Seq::new(alloc);
+    repeat_bytes_blocks_a(alloc, &mut blocks)?;
+    repeat_bytes_blocks_b(alloc, copy, &mut blocks)?;
     let types = types_of(
         alloc,
         [
@@ -222,20 +240,28 @@ fn alike_bytes_turn(alloc: Global) -> Result<LlBlock, NoMem>
     block(alloc, [0, 1, 2, 3, 4], ops, exit)
 }
 
+fn alike_bytes_blocks_a(alloc: Global, blocks: &mut Seq<LlBlock>) -> Result<(), NoMem>
+    ensures { OnOk result (blocks.new ≡ blocks.old ++ spec.alike_bytes_blocks_a) }
+{
+    blocks.push(alike_bytes_test(alloc)?)?;
+    blocks.push(alike_bytes_turn(alloc)?)
+}
+
+fn alike_bytes_blocks_b(alloc: Global, blocks: &mut Seq<LlBlock>) -> Result<(), NoMem>
+    ensures { OnOk result (blocks.new ≡ blocks.old ++ spec.alike_bytes_blocks_b) }
+{
+    blocks.push(answer(alloc, flag(true))?)?;
+    blocks.push(answer(alloc, flag(false))?)
+}
+
 /// Whether two stretches of this many bytes are alike, each of a string from a place on.
 pub fn alike_bytes(alloc: Global) -> Result<LlGraph, NoMem>
     ensures { IfOk result (λ made. made ≡ spec.alike_bytes) }
 {
     // 0 first, 1 from, 2 second, 3 at, 4 count, 5 more, 6 left, 7 right, 8 low, 9 high
-    let blocks = blocks_of(
-        alloc,
-        [
-            alike_bytes_test(alloc)?,
-            alike_bytes_turn(alloc)?,
-            answer(alloc, flag(true))?,
-            answer(alloc, flag(false))?,
-        ],
-    )?;
+    let mut blocks = Seq::new(alloc);
+    alike_bytes_blocks_a(alloc, &mut blocks)?;
+    alike_bytes_blocks_b(alloc, &mut blocks)?;
     let types = types_of(
         alloc,
         [
@@ -497,20 +523,28 @@ fn count_digits_done(alloc: Global) -> Result<LlBlock, NoMem>
     none(alloc, [1], exit)
 }
 
+fn count_digits_blocks_a(alloc: Global, blocks: &mut Seq<LlBlock>) -> Result<(), NoMem>
+    ensures { OnOk result (blocks.new ≡ blocks.old ++ spec.count_digits_blocks_a) }
+{
+    blocks.push(count_digits_start(alloc)?)?;
+    blocks.push(count_digits_test(alloc)?)
+}
+
+fn count_digits_blocks_b(alloc: Global, blocks: &mut Seq<LlBlock>) -> Result<(), NoMem>
+    ensures { OnOk result (blocks.new ≡ blocks.old ++ spec.count_digits_blocks_b) }
+{
+    blocks.push(count_digits_turn(alloc)?)?;
+    blocks.push(count_digits_done(alloc)?)
+}
+
 /// How many digits a word has that is not negative; zero has none.
 pub fn count_digits(alloc: Global) -> Result<LlGraph, NoMem>
     ensures { IfOk result (λ made. made ≡ spec.count_digits) }
 {
     // 0 number, 1 count, 2 more
-    let blocks = blocks_of(
-        alloc,
-        [
-            count_digits_start(alloc)?,
-            count_digits_test(alloc)?,
-            count_digits_turn(alloc)?,
-            count_digits_done(alloc)?,
-        ],
-    )?;
+    let mut blocks = Seq::new(alloc);
+    count_digits_blocks_a(alloc, &mut blocks)?;
+    count_digits_blocks_b(alloc, &mut blocks)?;
     let types = types_of(alloc, [LlType::Signed, LlType::Signed, LlType::Bool])?;
     let params = variables(alloc, [0])?;
     graph(
@@ -551,19 +585,21 @@ fn write_digits_turn(alloc: Global) -> Result<LlBlock, NoMem>
     block(alloc, [0, 1, 2], ops, exit)
 }
 
+fn write_digits_blocks(alloc: Global, blocks: &mut Seq<LlBlock>) -> Result<(), NoMem>
+    ensures { OnOk result (blocks.new ≡ blocks.old ++ spec.write_digits_blocks) }
+{
+    blocks.push(write_digits_test(alloc)?)?;
+    blocks.push(write_digits_turn(alloc)?)?;
+    blocks.push(done(alloc)?)
+}
+
 /// Writes the digits of a word that is not negative into a string, so that they end before a place; of zero none.
 pub fn write_digits(alloc: Global) -> Result<LlGraph, NoMem>
     ensures { IfOk result (λ made. made ≡ spec.write_digits) }
 {
     // 0 text, 1 end, 2 number, 3 more, 4 digit, 5 char
-    let blocks = blocks_of(
-        alloc,
-        [
-            write_digits_test(alloc)?,
-            write_digits_turn(alloc)?,
-            done(alloc)?,
-        ],
-    )?;
+    let mut blocks = Seq::new(alloc);
+    write_digits_blocks(alloc, &mut blocks)?;
     let types = types_of(
         alloc,
         [
@@ -628,21 +664,29 @@ fn skip_forwards_done(alloc: Global) -> Result<LlBlock, NoMem>
     none(alloc, [2], exit)
 }
 
+fn skip_forwards_blocks_a(alloc: Global, space: u64, blocks: &mut Seq<LlBlock>) -> Result<(), NoMem>
+    ensures { OnOk result (blocks.new ≡ blocks.old ++ spec.skip_forwards_blocks_a space) }
+{
+    blocks.push(skip_forwards_start(alloc)?)?;
+    blocks.push(skip_forwards_test(alloc)?)?;
+    blocks.push(skip_forwards_look(alloc, space)?)
+}
+
+fn skip_forwards_blocks_b(alloc: Global, blocks: &mut Seq<LlBlock>) -> Result<(), NoMem>
+    ensures { OnOk result (blocks.new ≡ blocks.old ++ spec.skip_forwards_blocks_b) }
+{
+    blocks.push(skip_forwards_next(alloc)?)?;
+    blocks.push(skip_forwards_done(alloc)?)
+}
+
 /// The first place of a string that has no blank, or its length.
 pub fn skip_forwards(alloc: Global, space: u64) -> Result<LlGraph, NoMem>
     ensures { IfOk result (λ made. made ≡ spec.skip_forwards space) }
 {
     // 0 text, 1 length, 2 at, 3 more, 4 char
-    let blocks = blocks_of(
-        alloc,
-        [
-            skip_forwards_start(alloc)?,
-            skip_forwards_test(alloc)?,
-            skip_forwards_look(alloc, space)?,
-            skip_forwards_next(alloc)?,
-            skip_forwards_done(alloc)?,
-        ],
-    )?;
+    let mut blocks = Seq::new(alloc);
+    skip_forwards_blocks_a(alloc, space, &mut blocks)?;
+    skip_forwards_blocks_b(alloc, &mut blocks)?;
     let types = types_of(
         alloc,
         [
@@ -705,20 +749,32 @@ fn skip_backwards_done(alloc: Global) -> Result<LlBlock, NoMem>
     none(alloc, [2], exit)
 }
 
+fn skip_backwards_blocks_a(alloc: Global, blocks: &mut Seq<LlBlock>) -> Result<(), NoMem>
+    ensures { OnOk result (blocks.new ≡ blocks.old ++ spec.skip_backwards_blocks_a) }
+{
+    blocks.push(skip_backwards_start(alloc)?)?;
+    blocks.push(skip_backwards_test(alloc)?)
+}
+
+fn skip_backwards_blocks_b(
+    alloc: Global,
+    space: u64,
+    blocks: &mut Seq<LlBlock>,
+) -> Result<(), NoMem>
+    ensures { OnOk result (blocks.new ≡ blocks.old ++ spec.skip_backwards_blocks_b space) }
+{
+    blocks.push(skip_backwards_look(alloc, space)?)?;
+    blocks.push(skip_backwards_done(alloc)?)
+}
+
 /// The place behind the last byte that is no blank, but none before this one.
 pub fn skip_backwards(alloc: Global, space: u64) -> Result<LlGraph, NoMem>
     ensures { IfOk result (λ made. made ≡ spec.skip_backwards space) }
 {
     // 0 text, 1 from, 2 end, 3 place, 4 more, 5 char
-    let blocks = blocks_of(
-        alloc,
-        [
-            skip_backwards_start(alloc)?,
-            skip_backwards_test(alloc)?,
-            skip_backwards_look(alloc, space)?,
-            skip_backwards_done(alloc)?,
-        ],
-    )?;
+    let mut blocks = Seq::new(alloc);
+    skip_backwards_blocks_a(alloc, &mut blocks)?;
+    skip_backwards_blocks_b(alloc, space, &mut blocks)?;
     let types = types_of(
         alloc,
         [

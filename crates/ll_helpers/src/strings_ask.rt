@@ -25,19 +25,21 @@ fn print_str_puts(alloc: Global, puts: u64) -> Result<LlBlock, NoMem>
     block(alloc, [0], ops, exit)
 }
 
+fn print_str_blocks(alloc: Global, puts: u64, blocks: &mut Seq<LlBlock>) -> Result<(), NoMem>
+    ensures { OnOk result (blocks.new ≡ blocks.old ++ spec.print_str_blocks puts) }
+{
+    blocks.push(print_str_ask_text(alloc)?)?;
+    blocks.push(fails(alloc, 4)?)?;
+    blocks.push(print_str_puts(alloc, puts)?)
+}
+
 /// Prints the bytes of a string.
 pub fn print_str(alloc: Global, puts: u64) -> Result<LlGraph, NoMem>
     ensures { IfOk result (λ made. made ≡ spec.print_str puts) }
 {
     // 0 text, 1 test
-    let blocks = blocks_of(
-        alloc,
-        [
-            print_str_ask_text(alloc)?,
-            fails(alloc, 4)?,
-            print_str_puts(alloc, puts)?,
-        ],
-    )?;
+    let mut blocks = Seq::new(alloc);
+    print_str_blocks(alloc, puts, &mut blocks)?;
     let types = types_of(alloc, [LlType::Ptr(0), LlType::Bool])?;
     let params = variables(alloc, [0])?;
     graph(alloc, b"print_str", params, LlType::Void, types, blocks)
@@ -63,19 +65,21 @@ fn str_write_writes(alloc: Global, puts: u64) -> Result<LlBlock, NoMem>
     block(alloc, [0], ops, exit)
 }
 
+fn str_write_blocks(alloc: Global, puts: u64, blocks: &mut Seq<LlBlock>) -> Result<(), NoMem>
+    ensures { OnOk result (blocks.new ≡ blocks.old ++ spec.str_write_blocks puts) }
+{
+    blocks.push(str_write_ask_text(alloc)?)?;
+    blocks.push(fails(alloc, 4)?)?;
+    blocks.push(str_write_writes(alloc, puts)?)
+}
+
 /// Writes the bytes of a string, and gives their number.
 pub fn str_write(alloc: Global, puts: u64) -> Result<LlGraph, NoMem>
     ensures { IfOk result (λ made. made ≡ spec.str_write puts) }
 {
     // 0 text, 1 test, 2 length
-    let blocks = blocks_of(
-        alloc,
-        [
-            str_write_ask_text(alloc)?,
-            fails(alloc, 4)?,
-            str_write_writes(alloc, puts)?,
-        ],
-    )?;
+    let mut blocks = Seq::new(alloc);
+    str_write_blocks(alloc, puts, &mut blocks)?;
     let types = types_of(alloc, [LlType::Ptr(0), LlType::Bool, LlType::Signed])?;
     let params = variables(alloc, [0])?;
     graph(alloc, b"str_write", params, LlType::Signed, types, blocks)
@@ -194,19 +198,21 @@ fn str_len_takes(alloc: Global) -> Result<LlBlock, NoMem>
     block(alloc, [0], ops, exit)
 }
 
+fn str_len_blocks(alloc: Global, blocks: &mut Seq<LlBlock>) -> Result<(), NoMem>
+    ensures { OnOk result (blocks.new ≡ blocks.old ++ spec.str_len_blocks) }
+{
+    blocks.push(str_len_ask_text(alloc)?)?;
+    blocks.push(fails(alloc, 4)?)?;
+    blocks.push(str_len_takes(alloc)?)
+}
+
 /// The length of a string.
 pub fn str_len(alloc: Global) -> Result<LlGraph, NoMem>
     ensures { IfOk result (λ made. made ≡ spec.str_len) }
 {
     // 0 text, 1 test, 2 length
-    let blocks = blocks_of(
-        alloc,
-        [
-            str_len_ask_text(alloc)?,
-            fails(alloc, 4)?,
-            str_len_takes(alloc)?,
-        ],
-    )?;
+    let mut blocks = Seq::new(alloc);
+    str_len_blocks(alloc, &mut blocks)?;
     let types = types_of(alloc, [LlType::Ptr(0), LlType::Bool, LlType::Signed])?;
     let params = variables(alloc, [0])?;
     graph(alloc, b"str_len", params, LlType::Signed, types, blocks)
@@ -232,19 +238,21 @@ fn str_truth_takes(alloc: Global) -> Result<LlBlock, NoMem>
     block(alloc, [0], ops, exit)
 }
 
+fn str_truth_blocks(alloc: Global, blocks: &mut Seq<LlBlock>) -> Result<(), NoMem>
+    ensures { OnOk result (blocks.new ≡ blocks.old ++ spec.str_truth_blocks) }
+{
+    blocks.push(str_truth_ask_text(alloc)?)?;
+    blocks.push(answer(alloc, flag(false))?)?;
+    blocks.push(str_truth_takes(alloc)?)
+}
+
 /// Whether a string is there and has a byte.
 pub fn str_truth(alloc: Global) -> Result<LlGraph, NoMem>
     ensures { IfOk result (λ made. made ≡ spec.str_truth) }
 {
     // 0 text, 1 test, 2 length
-    let blocks = blocks_of(
-        alloc,
-        [
-            str_truth_ask_text(alloc)?,
-            answer(alloc, flag(false))?,
-            str_truth_takes(alloc)?,
-        ],
-    )?;
+    let mut blocks = Seq::new(alloc);
+    str_truth_blocks(alloc, &mut blocks)?;
     let types = types_of(alloc, [LlType::Ptr(0), LlType::Bool, LlType::Signed])?;
     let params = variables(alloc, [0])?;
     graph(alloc, b"str_truth", params, LlType::Bool, types, blocks)
@@ -412,20 +420,28 @@ fn str_contains_takes(alloc: Global, find: u64) -> Result<LlBlock, NoMem>
     block(alloc, [0, 1], ops, exit)
 }
 
+fn str_contains_blocks_a(alloc: Global, blocks: &mut Seq<LlBlock>) -> Result<(), NoMem>
+    ensures { OnOk result (blocks.new ≡ blocks.old ++ spec.str_contains_blocks_a) }
+{
+    blocks.push(str_contains_ask_text(alloc)?)?;
+    blocks.push(str_contains_part(alloc)?)
+}
+
+fn str_contains_blocks_b(alloc: Global, find: u64, blocks: &mut Seq<LlBlock>) -> Result<(), NoMem>
+    ensures { OnOk result (blocks.new ≡ blocks.old ++ spec.str_contains_blocks_b find) }
+{
+    blocks.push(fails(alloc, 4)?)?;
+    blocks.push(str_contains_takes(alloc, find)?)
+}
+
 /// Whether the first string is a part of the second.
 pub fn str_contains(alloc: Global, find: u64) -> Result<LlGraph, NoMem>
     ensures { IfOk result (λ made. made ≡ spec.str_contains find) }
 {
     // 0 part, 1 text, 2 test, 3 length, 4 size, 5 place
-    let blocks = blocks_of(
-        alloc,
-        [
-            str_contains_ask_text(alloc)?,
-            str_contains_part(alloc)?,
-            fails(alloc, 4)?,
-            str_contains_takes(alloc, find)?,
-        ],
-    )?;
+    let mut blocks = Seq::new(alloc);
+    str_contains_blocks_a(alloc, &mut blocks)?;
+    str_contains_blocks_b(alloc, find, &mut blocks)?;
     let types = types_of(
         alloc,
         [
@@ -468,20 +484,28 @@ fn str_find_takes(alloc: Global, find: u64) -> Result<LlBlock, NoMem>
     block(alloc, [0, 1], ops, exit)
 }
 
+fn str_find_blocks_a(alloc: Global, blocks: &mut Seq<LlBlock>) -> Result<(), NoMem>
+    ensures { OnOk result (blocks.new ≡ blocks.old ++ spec.str_find_blocks_a) }
+{
+    blocks.push(str_find_ask_text(alloc)?)?;
+    blocks.push(str_find_part(alloc)?)
+}
+
+fn str_find_blocks_b(alloc: Global, find: u64, blocks: &mut Seq<LlBlock>) -> Result<(), NoMem>
+    ensures { OnOk result (blocks.new ≡ blocks.old ++ spec.str_find_blocks_b find) }
+{
+    blocks.push(fails(alloc, 4)?)?;
+    blocks.push(str_find_takes(alloc, find)?)
+}
+
 /// The first place from which the first string begins with the second, or -1.
 pub fn str_find(alloc: Global, find: u64) -> Result<LlGraph, NoMem>
     ensures { IfOk result (λ made. made ≡ spec.str_find find) }
 {
     // 0 text, 1 part, 2 test, 3 length, 4 size, 5 place
-    let blocks = blocks_of(
-        alloc,
-        [
-            str_find_ask_text(alloc)?,
-            str_find_part(alloc)?,
-            fails(alloc, 4)?,
-            str_find_takes(alloc, find)?,
-        ],
-    )?;
+    let mut blocks = Seq::new(alloc);
+    str_find_blocks_a(alloc, &mut blocks)?;
+    str_find_blocks_b(alloc, find, &mut blocks)?;
     let types = types_of(
         alloc,
         [
@@ -686,19 +710,21 @@ fn str_walk_takes(alloc: Global) -> Result<LlBlock, NoMem>
     none(alloc, [0], exit)
 }
 
+fn str_walk_blocks(alloc: Global, blocks: &mut Seq<LlBlock>) -> Result<(), NoMem>
+    ensures { OnOk result (blocks.new ≡ blocks.old ++ spec.str_walk_blocks) }
+{
+    blocks.push(str_walk_ask_text(alloc)?)?;
+    blocks.push(fails(alloc, 4)?)?;
+    blocks.push(str_walk_takes(alloc)?)
+}
+
 /// What is walked: the string itself.
 pub fn str_walk(alloc: Global) -> Result<LlGraph, NoMem>
     ensures { IfOk result (λ made. made ≡ spec.str_walk) }
 {
     // 0 text, 1 test
-    let blocks = blocks_of(
-        alloc,
-        [
-            str_walk_ask_text(alloc)?,
-            fails(alloc, 4)?,
-            str_walk_takes(alloc)?,
-        ],
-    )?;
+    let mut blocks = Seq::new(alloc);
+    str_walk_blocks(alloc, &mut blocks)?;
     let types = types_of(alloc, [LlType::Ptr(0), LlType::Bool])?;
     let params = variables(alloc, [0])?;
     graph(alloc, b"str_walk", params, LlType::Ptr(0), types, blocks)

@@ -76,21 +76,34 @@ fn string_part_makes(alloc: Global, copy: u64) -> Result<LlBlock, NoMem>
     block(alloc, [0, 1, 2], ops, exit)
 }
 
+fn string_part_blocks_a(alloc: Global, blocks: &mut Seq<LlBlock>) -> Result<(), NoMem>
+    ensures { OnOk result (blocks.new ≡ blocks.old ++ spec.string_part_blocks_a) }
+{
+    blocks.push(string_part_pays(alloc)?)?;
+    blocks.push(string_part_short(alloc)?)?;
+    blocks.push(answer(alloc, static_text(0))?)
+}
+
+fn string_part_blocks_b(
+    alloc: Global,
+    table: u64,
+    copy: u64,
+    blocks: &mut Seq<LlBlock>,
+) -> Result<(), NoMem>
+    ensures { OnOk result (blocks.new ≡ blocks.old ++ spec.string_part_blocks_b table copy) }
+{
+    blocks.push(string_part_single(alloc, table)?)?;
+    blocks.push(string_part_makes(alloc, copy)?)
+}
+
 /// The string of a part of a string, from a place on, of so many bytes, which are paid for with one step more.
 pub fn string_part(alloc: Global, table: u64, copy: u64) -> Result<LlGraph, NoMem>
     ensures { IfOk result (λ made. made ≡ spec.string_part table copy) }
 {
     // 0 text, 1 at, 2 count, 3 few, 4 char, 5 byte, 6 table, 7 made
-    let blocks = blocks_of(
-        alloc,
-        [
-            string_part_pays(alloc)?,
-            string_part_short(alloc)?,
-            answer(alloc, static_text(0))?,
-            string_part_single(alloc, table)?,
-            string_part_makes(alloc, copy)?,
-        ],
-    )?;
+    let mut blocks = Seq::new(alloc);
+    string_part_blocks_a(alloc, &mut blocks)?;
+    string_part_blocks_b(alloc, table, copy, &mut blocks)?;
     let types = types_of(
         alloc,
         [
@@ -230,21 +243,45 @@ fn str_of_word_makes(alloc: Global, write: u64) -> Result<LlBlock, NoMem>
     block(alloc, [0, 4], ops, exit)
 }
 
+fn str_of_word_blocks_a(
+    alloc: Global,
+    digits: u64,
+    write: u64,
+    blocks: &mut Seq<LlBlock>,
+) -> Result<(), NoMem>
+    ensures { OnOk result (blocks.new ≡ blocks.old ++ spec.str_of_word_blocks_a digits write) }
+{
+    blocks.push(str_of_word_sign(alloc)?)?;
+    blocks.push(str_of_word_negative(alloc, digits, write)?)
+}
+
+fn str_of_word_blocks_b(
+    alloc: Global,
+    table: u64,
+    digits: u64,
+    blocks: &mut Seq<LlBlock>,
+) -> Result<(), NoMem>
+    ensures { OnOk result (blocks.new ≡ blocks.old ++ spec.str_of_word_blocks_b table digits) }
+{
+    blocks.push(str_of_word_positive(alloc, digits)?)?;
+    blocks.push(str_of_word_single(alloc, table)?)
+}
+
+fn str_of_word_blocks_c(alloc: Global, write: u64, blocks: &mut Seq<LlBlock>) -> Result<(), NoMem>
+    ensures { OnOk result (blocks.new ≡ blocks.old ++ spec.str_of_word_blocks_c write) }
+{
+    blocks.push(str_of_word_makes(alloc, write)?)
+}
+
 /// The decimal of a word. The divisor of a negative one is negative, so that the smallest has a quotient.
 pub fn str_of_word(alloc: Global, table: u64, digits: u64, write: u64) -> Result<LlGraph, NoMem>
     ensures { IfOk result (λ made. made ≡ spec.str_of_word table digits write) }
 {
     // 0 number, 1 test, 2 rest, 3 digits, 4 length, 5 cost, 6 table, 7 made, 8 digit, 9 char, 10 place
-    let blocks = blocks_of(
-        alloc,
-        [
-            str_of_word_sign(alloc)?,
-            str_of_word_negative(alloc, digits, write)?,
-            str_of_word_positive(alloc, digits)?,
-            str_of_word_single(alloc, table)?,
-            str_of_word_makes(alloc, write)?,
-        ],
-    )?;
+    let mut blocks = Seq::new(alloc);
+    str_of_word_blocks_a(alloc, digits, write, &mut blocks)?;
+    str_of_word_blocks_b(alloc, table, digits, &mut blocks)?;
+    str_of_word_blocks_c(alloc, write, &mut blocks)?;
     let types = types_of(
         alloc,
         [
@@ -272,19 +309,21 @@ fn str_of_bool_test(alloc: Global) -> Result<LlBlock, NoMem>
     none(alloc, [0], exit)
 }
 
+fn str_of_bool_blocks(alloc: Global, blocks: &mut Seq<LlBlock>) -> Result<(), NoMem>
+    ensures { OnOk result (blocks.new ≡ blocks.old ++ spec.str_of_bool_blocks) }
+{
+    blocks.push(str_of_bool_test(alloc)?)?;
+    blocks.push(answer(alloc, static_text(258))?)?;
+    blocks.push(answer(alloc, static_text(259))?)
+}
+
 /// `True` or `False`.
 pub fn str_of_bool(alloc: Global) -> Result<LlGraph, NoMem>
     ensures { IfOk result (λ made. made ≡ spec.str_of_bool) }
 {
     // 0 value
-    let blocks = blocks_of(
-        alloc,
-        [
-            str_of_bool_test(alloc)?,
-            answer(alloc, static_text(258))?,
-            answer(alloc, static_text(259))?,
-        ],
-    )?;
+    let mut blocks = Seq::new(alloc);
+    str_of_bool_blocks(alloc, &mut blocks)?;
     let types = types_of(alloc, [LlType::Bool])?;
     let params = variables(alloc, [0])?;
     graph(alloc, b"str_of_bool", params, LlType::Ptr(0), types, blocks)
@@ -762,21 +801,29 @@ fn str_but_last_takes(alloc: Global, part: u64) -> Result<LlBlock, NoMem>
     block(alloc, [0, 2], ops, exit)
 }
 
+fn str_but_last_blocks_a(alloc: Global, blocks: &mut Seq<LlBlock>) -> Result<(), NoMem>
+    ensures { OnOk result (blocks.new ≡ blocks.old ++ spec.str_but_last_blocks_a) }
+{
+    blocks.push(str_but_last_ask_text(alloc)?)?;
+    blocks.push(fails(alloc, 4)?)?;
+    blocks.push(str_but_last_lengths(alloc)?)
+}
+
+fn str_but_last_blocks_b(alloc: Global, part: u64, blocks: &mut Seq<LlBlock>) -> Result<(), NoMem>
+    ensures { OnOk result (blocks.new ≡ blocks.old ++ spec.str_but_last_blocks_b part) }
+{
+    blocks.push(str_but_last_shorter(alloc)?)?;
+    blocks.push(str_but_last_takes(alloc, part)?)
+}
+
 /// All bytes but the last.
 pub fn str_but_last(alloc: Global, part: u64) -> Result<LlGraph, NoMem>
     ensures { IfOk result (λ made. made ≡ spec.str_but_last part) }
 {
     // 0 text, 1 test, 2 length, 3 made
-    let blocks = blocks_of(
-        alloc,
-        [
-            str_but_last_ask_text(alloc)?,
-            fails(alloc, 4)?,
-            str_but_last_lengths(alloc)?,
-            str_but_last_shorter(alloc)?,
-            str_but_last_takes(alloc, part)?,
-        ],
-    )?;
+    let mut blocks = Seq::new(alloc);
+    str_but_last_blocks_a(alloc, &mut blocks)?;
+    str_but_last_blocks_b(alloc, part, &mut blocks)?;
     let types = types_of(
         alloc,
         [LlType::Ptr(0), LlType::Bool, LlType::Signed, LlType::Ptr(0)],
@@ -820,19 +867,27 @@ fn str_strip_takes(
     block(alloc, [0], ops, exit)
 }
 
+fn str_strip_blocks(
+    alloc: Global,
+    part: u64,
+    forwards: u64,
+    backwards: u64,
+    blocks: &mut Seq<LlBlock>,
+) -> Result<(), NoMem>
+    ensures { OnOk result (blocks.new ≡ blocks.old ++ spec.str_strip_blocks part forwards backwards) }
+{
+    blocks.push(str_strip_ask_text(alloc)?)?;
+    blocks.push(fails(alloc, 4)?)?;
+    blocks.push(str_strip_takes(alloc, part, forwards, backwards)?)
+}
+
 /// A string without blanks at its ends.
 pub fn str_strip(alloc: Global, part: u64, forwards: u64, backwards: u64) -> Result<LlGraph, NoMem>
     ensures { IfOk result (λ made. made ≡ spec.str_strip part forwards backwards) }
 {
     // 0 text, 1 test, 2 from, 3 end, 4 count, 5 made
-    let blocks = blocks_of(
-        alloc,
-        [
-            str_strip_ask_text(alloc)?,
-            fails(alloc, 4)?,
-            str_strip_takes(alloc, part, forwards, backwards)?,
-        ],
-    )?;
+    let mut blocks = Seq::new(alloc);
+    str_strip_blocks(alloc, part, forwards, backwards, &mut blocks)?;
     let types = types_of(
         alloc,
         [
