@@ -53,14 +53,15 @@ use Rattle.object_laws.proofs.Valued.{stays_typed, stays_there, stays_held}
 use Rattle.call_laws.specs.Calls.{Takes, FunctionsAreCalled}
 use Rattle.call_laws.specs.Done.{IsEntered}
 use Rattle.call_laws.specs.Entered.{Resumes, Entered, FollowsOrEnters}
-use Rattle.call_laws.proofs.Passed.{xs_of, values_of, AllTyped, all_typed, all_come, passed_as_they_are, all_passed, all_set}
+use Rattle.call_laws.specs.Indirect.{AllTyped}
+use Rattle.call_laws.proofs.Passed.{xs_of, values_of, all_typed, all_come, passed_as_they_are, all_passed, all_set}
 
 -- ---- what is written
 
 place_is : (n : ℕ) → (n == n) ≡ true
 place_is n = grind (arith, nat_tests)
 
-lands_place : (around : Around) (place : Place) (gives : LlType) (o : ℕ → LlOp) (found : Found) (body : Body) → type_at around place ≡ gives → landed around place gives o found (landing around place gives body) ≡ writing found (with_op (o place.variable) body)
+pub lands_place : (around : Around) (place : Place) (gives : LlType) (o : ℕ → LlOp) (found : Found) (body : Body) → type_at around place ≡ gives → landed around place gives o found (landing around place gives body) ≡ writing found (with_op (o place.variable) body)
 lands_place around place gives o found body h =
     ap (λ t. landed around place gives o found (if same_type t gives then (place.variable, body) else fresh gives body)) h
     ∙ ap (λ b. landed around place gives o found (if b then (place.variable, body) else fresh gives body)) (same_type_is gives)
@@ -71,6 +72,50 @@ call_gives : (around : Around) (place : Place) (number : ℕ) (t : LlType) (xs :
 unfolding call_giving
 call_gives around place number type.Void xs w there typed = absurd (there refl)
 call_gives around place number t xs w there typed = lands_place around place t (λ v. op.Call (Some v) number xs) w.found w.body typed
+
+-- ---- what follows the call of a graph, by whichever operation
+
+module _ (known : Known) (around : Around) (f number : ℕ) (place : Place) (params : List Element) (result : Element) (graph : known.graph f ≡ Some number) (takes : slice_get around.params f ≡ Some params)
+    (gives : slice_get around.results f ≡ Some result) (goes : Stays around.layout known (Some result) place.element)
+    (p : LlProgram) (arguments : List (List ℕ)) (rest : List LlOp) (e : LlExit) (frames : List Frame) (core : Core) (g : Ghost) (meant : MeantWorld) (vs : List Meant) (most below : ℕ)
+    (stands : Represents around.layout known g meant.heap meant.left core.blocks core.statics) (left : meant.left ≡ core.steps) (inside : place.variable < length core.vars)
+    (calls : LlOp) (values : List Value) (enters : Leads p arguments 0 (At (calls ∷ rest) e frames core) [] (Calling number values (waiting core (Some place.variable) rest e ∷ frames) core))
+    (passed : AllHold around.layout known g params values vs) where
+  abbrev frame : Frame
+  frame = waiting core (Some place.variable) rest e
+
+  resumes : (later : Core) (g2 : Ghost) (x : Value) (v : Meant) → Grown g g2 → Holds around.layout known g2 (slice_get around.results f) x v → Resumes known around place p arguments rest e frames core below frame later g2 x v
+  resumes later g2 x v grown held = record {
+    end = record (resumed frame later) { vars = slice_set core.vars place.variable x };
+    leads = one refl refl;
+    memory = refl;
+    holds = subst (λ y. Holds around.layout known g2 place.element y v) (sym (get_or-set_same core.vars place.variable x Unset inside)) (stays_held goes (subst (λ seen. Holds around.layout known g2 seen x v) gives held));
+    others = λ n under other. get_or-set_other core.vars place.variable n x Unset other;
+    room = length-set core.vars place.variable x;
+    function = refl;
+    block = refl;
+  }
+
+  pub entered_by : Entered 0 known around place p arguments (At (calls ∷ rest) e frames core) rest e frames core g most below meant f vs None meant
+  entered_by = record {
+    number = number;
+    graph = graph;
+    params = params;
+    takes = takes;
+    xs = values;
+    frame = frame;
+    end = core;
+    leads = leads_more 0 most (omega arith) enters;
+    ghost = g;
+    grown = grown_none;
+    stands = stands;
+    passed = passed;
+    few = omega arith;
+    memory = ap (λ n. forgotten (record core { steps = n })) (sym left);
+    out = refl;
+    waits = record { left = []; ops = refl; exit = refl; others = λ n under other. refl; room = refl; function = refl; block = refl };
+    back = resumes;
+  }
 
 -- ---- the call
 
@@ -91,47 +136,11 @@ module _ (world : World) (known : Known) (f : ℕ) (place : Place) (args : List 
   module _ (p : LlProgram) (arguments : List (List ℕ)) (rest : List LlOp) (e : LlExit) (frames : List Frame) (core : Core) (g : Ghost) (meant : MeantWorld) (vs : List Meant) (most below : ℕ)
       (stands : Represents world.around.layout known g meant.heap meant.left core.blocks core.statics) (left : meant.left ≡ core.steps) (inside : place.variable < length core.vars)
       (passed : AllHold world.around.layout known g params (values_of core args) vs) (set : any_unset (values_of core args) ≡ false) where
-    abbrev frame : Frame
-    frame = waiting core (Some place.variable) rest e
-
-    abbrev values : List Value
-    values = values_of core args
-
-    enters : Leads p arguments 0 (At (calls ∷ rest) e frames core) [] (Calling number values (frame ∷ frames) core)
-    enters = one (ap (λ b. cond b (Sticks IsUnset) (Goes (Calling number values (frame ∷ frames) core))) set) refl
-
-    resumes : (later : Core) (g2 : Ghost) (x : Value) (v : Meant) → Grown g g2 → Holds world.around.layout known g2 (slice_get world.around.results f) x v → Resumes known world.around place p arguments rest e frames core below frame later g2 x v
-    resumes later g2 x v grown held = record {
-      end = record (resumed frame later) { vars = slice_set core.vars place.variable x };
-      leads = one refl refl;
-      memory = refl;
-      holds = subst (λ y. Holds world.around.layout known g2 place.element y v) (sym (get_or-set_same core.vars place.variable x Unset inside)) (stays_held goes (subst (λ seen. Holds world.around.layout known g2 seen x v) gives held));
-      others = λ n under other. get_or-set_other core.vars place.variable n x Unset other;
-      room = length-set core.vars place.variable x;
-      function = refl;
-      block = refl;
-    }
+    enters : Leads p arguments 0 (At (calls ∷ rest) e frames core) [] (Calling number (values_of core args) (waiting core (Some place.variable) rest e ∷ frames) core)
+    enters = one (ap (λ b. cond b (Sticks IsUnset) (Goes (Calling number (values_of core args) (waiting core (Some place.variable) rest e ∷ frames) core))) set) refl
 
     pub entered : Entered 0 known world.around place p arguments (At (calls ∷ rest) e frames core) rest e frames core g most below meant f vs None meant
-    entered = record {
-      number = number;
-      graph = graph;
-      params = params;
-      takes = takes;
-      xs = values;
-      frame = frame;
-      end = core;
-      leads = leads_more 0 most (omega arith) enters;
-      ghost = g;
-      grown = grown_none;
-      stands = stands;
-      passed = passed;
-      few = omega arith;
-      memory = ap (λ n. forgotten (record core { steps = n })) (sym left);
-      out = refl;
-      waits = record { left = []; ops = refl; exit = refl; others = λ n under other. refl; room = refl; function = refl; block = refl };
-      back = resumes;
-    }
+    entered = entered_by known world.around f number place params result graph takes gives goes p arguments rest e frames core g meant vs most below stands left inside calls (values_of core args) enters passed
 
 -- ---- behind a way that changes variables alone
 

@@ -48,11 +48,12 @@ use Rattle.class_laws.proofs.Presence.{Present, presence}
 use Rattle.call_laws.specs.Calls.{AllStay, Takes, there, InClass, HasMethod, MethodsAreCalled, ValuesAreCalled}
 use Rattle.call_laws.specs.Done.{IsEnteredWhere}
 use Rattle.call_laws.specs.Entered.{FollowsOrEnters}
+use Rattle.call_laws.specs.Indirect.{AllTyped}
 use Rattle.call_laws.proofs.Called.{call_is, entered, entered_behind}
-use Rattle.call_laws.proofs.Passed.{xs_of, values_of, AllTyped, all_typed, all_come, all_passed, all_set}
+use Rattle.call_laws.proofs.Passed.{xs_of, values_of, all_typed, all_come, all_passed, all_set}
 
 -- operands from before are what they were
-given_kept : (world : World) (known : Known) (g : Ghost) {below : ℕ} {core mid : Core} → Passed below core mid → (args : List Operand) (vs : List Meant) → AllBelow below args → Given known world.around g core args vs → Given known world.around g mid args vs
+pub given_kept : (world : World) (known : Known) (g : Ghost) {below : ℕ} {core mid : Core} → Passed below core mid → (args : List Operand) (vs : List Meant) → AllBelow below args → Given known world.around g core args vs → Given known world.around g mid args vs
 given_kept world known g passed [] [] under given = tt
 given_kept world known g passed [] (v ∷ vs) under given = absurd given
 given_kept world known g passed (a ∷ args) [] under given = absurd given
@@ -146,7 +147,7 @@ module _ (site : Option ℕ) (world : World) (known : Known) (name : List ℕ) (
         by (inl at) = is_there v vs given.1 good at
         by (inr (may, gone)) = missing v vs may gone
 
-  method_done : IsEnteredWhere (HasMethod known name f) 0 world known (row.Method name site) w.found.covered (present_asks world a r w.found.covered) place (a ∷ args) w
+  method_done : IsEnteredWhere (λ p. HasMethod known name f) 0 world known (row.Method name site) w.found.covered (present_asks world a r w.found.covered) place (a ∷ args) w
   method_done = record {
     ops = it.ops ++ calls ∷ [];
     new = it.new;
@@ -162,7 +163,7 @@ pub methods_are_called : MethodsAreCalled
 methods_are_called site world known name f class r l place a args w inst reaches takes = by takes.params takes.takes takes.stay
   where
     by : (params : List Element) → slice_get world.around.params f ≡ Some params → AllStay world.around.layout known (there a class ∷ args) params
-        → IsEnteredWhere (HasMethod known name f) 0 world known (row.Method name site) w.found.covered (present_asks world a r w.found.covered) place (a ∷ args) w
+        → IsEnteredWhere (λ p. HasMethod known name f) 0 world known (row.Method name site) w.found.covered (present_asks world a r w.found.covered) place (a ∷ args) w
     by [] h stay = absurd stay
     by (first ∷ params) h stay = method_done site world known name f class r l place a args w inst reaches first params takes.result takes.graph h stay takes.gives takes.goes
 
@@ -234,7 +235,7 @@ module _ (world : World) (known : Known) (f : ℕ) (r : Bool) (place : Place) (a
         by (inl at) = is_one v vs given.1 at
         by (inr (may, gone)) = is_none v vs may gone
 
-  value_done : IsEnteredWhere Any 0 world known row.CallValue w.found.covered (present_asks world a r w.found.covered) place (a ∷ args) w
+  value_done : IsEnteredWhere (λ p. Any) 0 world known row.CallValue w.found.covered (present_asks world a r w.found.covered) place (a ∷ args) w
   value_done = record {
     ops = value_it.ops ++ value_calls ∷ [];
     new = value_it.new;

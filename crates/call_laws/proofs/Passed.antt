@@ -22,6 +22,7 @@ use Rattle.object_laws.specs.Represents.{Represents}
 use Rattle.object_laws.specs.Values.{Given, AllHold, End, Next}
 use Rattle.object_laws.proofs.Valued.{stays_typed, stays_there, stays_comes, stays_held, held_set}
 use Rattle.call_laws.specs.Calls.{AllStay}
+use Rattle.call_laws.specs.Indirect.{AllTyped}
 
 abbrev pub xs_of : List Operand → List COperand
 xs_of args = map (λ (a : Operand). a.x) args
@@ -40,12 +41,6 @@ one_argument : (around : Around) (f : Option Function) (i : ℕ) (a : Operand) (
 unfolding argument_if
 one_argument around f i a type.Void w there typed = absurd (there refl)
 one_argument around f i a t w there typed = ap (λ (made : COperand × Writing). (made.0 ∷ [], made.1)) (given_same around a t w typed)
-
--- each operand has the type of its parameter, which has one
-abbrev pub AllTyped : Around → List Operand → List Element → Type 0
-AllTyped around [] [] = Unit {0}
-AllTyped around (a ∷ args) (p ∷ params) = (type_of around a ≡ type_of_element around.layout p) × (type_of_element around.layout p ≡ type.Void → ⊥) × AllTyped around args params
-AllTyped around args params = ⊥
 
 pub all_typed : (around : Around) (known : Known) (args : List Operand) (params : List Element) → AllStay around.layout known args params → AllTyped around args params
 all_typed around known [] [] stay = tt

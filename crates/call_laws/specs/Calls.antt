@@ -70,7 +70,7 @@ HasMethod known name f meant vs = Unit {0}
 abbrev pub MethodsAreCalled : Type 0
 MethodsAreCalled = (site : Option ℕ) (world : World) (known : Known) (name : List ℕ) (f class : ℕ) (r : Bool) (l : Laid) (place : Place) (a : Operand) (args : List Operand) (w : Writing)
     → IsInstance world a.element class r l → reached_by world class name ≡ reached.One f → Takes world known f (there a class ∷ args) place
-    → IsEnteredWhere (HasMethod known name f) 0 world known (row.Method name site) w.found.covered (present_asks world a r w.found.covered) place (a ∷ args) w
+    → IsEnteredWhere (λ p. HasMethod known name f) 0 world known (row.Method name site) w.found.covered (present_asks world a r w.found.covered) place (a ∷ args) w
 
 -- a value that is one function, or `None`, which fails, or raises
 abbrev pub ValuesAreCalled : Type 0

@@ -28,7 +28,7 @@ use Rattle.call_laws.specs.Entered.{FollowsOrEnters}
 -- What is written behind what was there asks for this, and does what the operation does where these failures are covered, up to the call of
 -- the function that it enters and from there on: in every program that has what is asked for at its numbers, over every memory that
 -- represents the heap, whatever comes behind and waits, of operands with values of this kind. At most so many blocks are made before.
-pub record IsEnteredWhere (Good : MeantWorld → List Meant → Type 0) (blocks : ℕ) (world : World) (known : Known) (o : RowOp) (covers : Covers) (asks : List Ask) (place : Place) (args : List Operand) (w : Writing) : Type 0 where
+pub record IsEnteredWhere (Good : LlProgram → MeantWorld → List Meant → Type 0) (blocks : ℕ) (world : World) (known : Known) (o : RowOp) (covers : Covers) (asks : List Ask) (place : Place) (args : List Operand) (w : Writing) : Type 0 where
   pub ops : List LlOp
   pub new : List LlType
   pub asked : (lower_class_op world o place args w).found ≡ all_asked asks w.found
@@ -36,9 +36,9 @@ pub record IsEnteredWhere (Good : MeantWorld → List Meant → Type 0) (blocks 
   pub types : (lower_class_op world o place args w).body.types ≡ w.body.types ++ new
   pub follows : (p : LlProgram) (numbers : Numbers) (raised : ℕ → Value) (arguments : List (List ℕ)) (rest : List LlOp) (e : LlExit) (frames : List Frame) (core : Core) (g : Ghost) (meant : MeantWorld) (vs : List Meant)
       → HasLayout p world.around.layout → AllAsked (Has world p numbers raised core) asks w.found → Represents world.around.layout known g meant.heap meant.left core.blocks core.statics → meant.left ≡ core.steps
-      → length w.body.types + length new ≤ length core.vars → place.variable < length w.body.types → AllBelow (length w.body.types) args → Given known world.around g core args vs → Good meant vs
+      → length w.body.types + length new ≤ length core.vars → place.variable < length w.body.types → AllBelow (length w.body.types) args → Given known world.around g core args vs → Good p meant vs
       → FollowsOrEnters blocks known world.around place p arguments (At (ops ++ rest) e frames core) rest e frames core g raised (references meant.heap vs) (length w.body.types) meant (op known.program covers o vs meant)
 
 -- whatever the values are
 abbrev pub IsEntered : ℕ → World → Known → RowOp → Covers → List Ask → Place → List Operand → Writing → Type 0
-IsEntered = IsEnteredWhere Any
+IsEntered = IsEnteredWhere (λ p. Any)

@@ -1,4 +1,5 @@
 pub mod Calls
 pub mod Done
 pub mod Entered
+pub mod Indirect
 pub mod Raised

@@ -2,6 +2,7 @@
 ghost use Rattle.std.specs.Prelude.{ℕ};
 ghost use Rattle.rpy_meaning.specs.declared.row.RowOp.TheVariants as row;
 ghost use Rattle.call_laws.specs.Calls.{FunctionsAreCalled, InstancesAreInitialised, MethodsAreCalled, ValuesAreCalled};
+ghost use Rattle.call_laws.specs.Indirect.{MethodsAreLookedUp};
 ghost use Rattle.call_laws.specs.Raised.{ExceptionsAreRaised};
 
 /// A call of a function by its name, also of a method by its class, with an argument for each parameter.
@@ -28,4 +29,9 @@ pub fn values_are_called()
 /// An instance that is raised; `None` fails, or raises another exception.
 pub fn exceptions_are_raised()
     ensures { ExceptionsAreRaised }
+{}
+
+/// A method of an instance, or of `None`, where the vtable of the instance has it.
+pub fn methods_are_looked_up()
+    ensures { MethodsAreLookedUp }
 {}

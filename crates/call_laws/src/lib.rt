@@ -6,5 +6,5 @@ mod laws;
 
 pub use laws::{
     exceptions_are_raised, functions_are_called, instances_are_initialised, methods_are_called,
-    values_are_called,
+    methods_are_looked_up, values_are_called,
 };
