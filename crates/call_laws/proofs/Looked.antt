@@ -210,7 +210,7 @@ module _ (site : Option ℕ) (world : World) (known : Known) (of : IsOf world kn
         ∙ ap (λ b. cond b (Sticks IsUnset) (called_as (c_result (type_at world.around place)) (map c_type kinds) number (values_of there all) (waiting there (Some place.variable) rest e ∷ frames) there (slice_get p.graphs number))) set
         ∙ ap (λ o. called_as (c_result (type_at world.around place)) (map c_type kinds) number (values_of there all) (waiting there (Some place.variable) rest e ∷ frames) there o) signed.is
         ∙ ap (λ b. cond b (Goes (Calling number (values_of there all) (waiting there (Some place.variable) rest e ∷ frames) there)) (Sticks Signature))
-          (subst (λ t. (same_result (c_result signed.graph.result) (c_result t) && same_types (param_types signed.graph) (map c_type kinds)) ≡ true) gives signed.fits)) refl
+        (subst (λ t. (same_result (c_result signed.graph.result) (c_result t) && same_types (param_types signed.graph) (map c_type kinds)) ≡ true) gives signed.fits)) refl
 
     module _ (v : Meant) (vs : List Meant) (given : Given known world.around g core args vs) (one_of : Instancing known g class (operand core.vars a.x) v) (f : ℕ) (its : HasAtSlot p world known name like slot a args place one_of.c f) where
       abbrev x : Value

@@ -11,6 +11,7 @@ pub mod Instances
 pub mod Knowing
 pub mod Laying
 pub mod Lines
+pub mod Methods
 pub mod Numbers
 pub mod Order
 pub mod Places

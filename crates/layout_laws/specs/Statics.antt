@@ -1,8 +1,9 @@
 -- The statics of classes, of which the laws of instances take it that they stay.
-use Rattle.std.specs.Prelude.{◌≡◌, ◌<◌, ◌^◌, ℕ, ◌+◌, Bool, false, List, [], ◌∷◌, ◌++◌, length, map, slice_get, Some}
+use Rattle.std.specs.Prelude.{◌≡◌, ◌<◌, ◌^◌, ◌⊎◌, ℕ, ◌+◌, pos, Bool, true, false, List, [], ◌∷◌, ◌++◌, length, map, slice_get, Some}
 use Rattle.ann_element.specs.declared.annotation.Annotation.{Annotation}
 use Rattle.ann_element.specs.declared.element.Element.{Element}
-use Rattle.csub_tree.specs.State.{Static, Block}
+use Rattle.csub_tree.specs.State.{Word, Fun, Static, Block}
+use Rattle.csub_tree.specs.Statement.{read}
 use Rattle.csub_tree.specs.Layout.{constant, shape_at, static_block}
 use Rattle.csub_tree.specs.declared.tree.CStatic.{CStatic}
 use Rattle.ll_code.specs.Machine.{shapes_of}
@@ -11,11 +12,12 @@ use Rattle.ll_code.specs.declared.program.LlStruct.{LlStruct}
 use Rattle.ll_texts.specs.Texts.{found}
 use Rattle.rpy_meaning.specs.Operations.{builtin_classes}
 use Rattle.rpy_resolved.specs.declared.tree.Resolved.{Resolved}
-use Rattle.class_desc.specs.Line.{is_below}
+use Rattle.class_desc.specs.Line.{is_below, method}
 use Rattle.rtyper_layout.specs.declared.classes.Laid.{Laid}
 use Rattle.rtyper_layout.specs.Types.{word}
 use Rattle.rtyper_class.specs.Seen.{World, laid}
-use Rattle.rtyper_class.specs.Vtables.{vtables, exceptions, vtable_at}
+use Rattle.rtyper_class.specs.Calls.{slot_from}
+use Rattle.rtyper_class.specs.Vtables.{vtables, exceptions, vtable_at, names_of}
 use Rattle.object_laws.specs.Known.{vtable_block}
 use Rattle.object_laws.specs.Represents.{shapes}
 use Rattle.layout_laws.specs.Knowing.{vtable_known}
@@ -42,6 +44,17 @@ abbrev pub VtablesStand : Type 0
 VtablesStand = (program : Resolved) (annotation : Annotation) (raises : Bool) (world : World) (reached : List Bool) (p : LlProgram)
     → IsWorldOf program annotation raises world → IsNumbered world → HasStatics world program reached p → (class : ℕ) (l : Laid) → laid world class ≡ Some l
     → found [] (statics_of p) (vtable_known world program reached class).at ≡ Some (vtable_block l.vtable (vtable_known world program reached class))
+
+-- the name is one of these
+abbrev pub IsNamed : List (List ℕ) → List ℕ → Type 0
+IsNamed [] name = ⊥
+IsNamed (each ∷ names) name = (each ≡ name) ⊎ IsNamed names name
+
+-- a method of the class that is reached stands in what is known of the vtable, where the lowering looks for it
+abbrev pub MethodsStand : Type 0
+MethodsStand = (world : World) (program : Resolved) (reached : List Bool) (class f number : ℕ) (l : Laid) (name : List ℕ) → laid world class ≡ Some l → IsNamed (names_of world l.vtable) name → length (names_of world l.vtable) < 2 ^ 63
+    → method world.classes.classes class name ≡ Some f → slice_get reached f ≡ Some true → slice_get world.around.numbers f ≡ Some number
+    → read (Word (pos (vtable_known world program reached class).number) ∷ (vtable_known world program reached class).methods) (slot_from 1 (names_of world l.vtable) name) ≡ Fun number
 
 -- neither the class nor what is above it has attributes
 abbrev pub IsBare : World → ℕ → Type 0

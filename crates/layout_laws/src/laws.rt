@@ -4,7 +4,7 @@ ghost use Rattle.layout_laws.specs.Knowing.{ClassesAreKnown, ProgramsHaveTheirCl
 ghost use Rattle.layout_laws.specs.Layouts.{LayoutsAreHad, LayoutsLayOutClasses};
 ghost use Rattle.layout_laws.specs.Rows.{ExceptionsBegin, HasAttributes, HasClasses, HasShapes, IsKnown, IsStarted};
 ghost use Rattle.layout_laws.specs.Starting.{AttributesAreKnown, BasesAreLaid, InstancesStart, ProgramsHaveTheirConstants};
-ghost use Rattle.layout_laws.specs.Statics.{ExceptionsStand, VtablesStand};
+ghost use Rattle.layout_laws.specs.Statics.{ExceptionsStand, MethodsStand, VtablesStand};
 ghost use Rattle.layout_laws.specs.Typing.{StructsAreTyped};
 
 /// The layout of every program lays out its classes, as the laws of operations on instances take it.
@@ -37,9 +37,11 @@ pub fn new_instances_start()
     ensures whole { InstancesStart }
 {}
 
-/// The statics of vtables and of builtin exceptions hold what is known of them, where it is known.
+/// The statics of vtables and of builtin exceptions hold what is known of them, where it is known; a method that is
+/// reached stands in its vtable where the lowering looks for it.
 pub fn statics_of_classes_stand()
     ensures vtables { VtablesStand }
+    ensures methods { MethodsStand }
     ensures exceptions { ExceptionsStand }
 {}
 
