@@ -1,17 +1,16 @@
 -- Methods are looked up in the vtables of instances, and called.
-use Rattle.std.proofs.Common.{◌≡◌, ◌≢◌, ◌<◌, ◌≤◌, ◌⊎◌, inl, inr, ℕ, ◌+◌, ◌-◌, ◌||◌, ◌&&◌, pos, Bool, true, false, List, [], ◌∷◌, ◌++◌, length, map, Option, Some, None, refl, sym, ap, ◌∙◌, subst, arith, append_assoc, length-append}
+use Rattle.std.proofs.Common.{◌≡◌, ◌≢◌, ◌<◌, ◌≤◌, ◌⊎◌, inl, inr, ℕ, ◌+◌, ◌-◌, ◌||◌, ◌&&◌, Bool, true, false, List, [], ◌∷◌, ◌++◌, length, map, Option, Some, None, refl, sym, ap, ◌∙◌, subst, arith, append_assoc, length-append}
 use Rattle.std.specs.Prelude.{cond, slice_get, if◌then◌else◌}
 use Rattle.ann_element.specs.declared.element.Element.{Element}
 use Rattle.ann_element.specs.declared.element.Element.TheVariants as element
-use Rattle.csub_tree.specs.State.{Value, Word, Fun, Block, Core}
+use Rattle.csub_tree.specs.State.{Value, Fun, Block, Core}
 use Rattle.csub_tree.specs.Layout.{shape_at, begins_with, place as place_of}
 use Rattle.csub_tree.specs.Operation.{is_unset}
 use Rattle.csub_tree.specs.Statement.{read, operand, any_unset, fun_of, same_result, same_types}
 use Rattle.csub_tree.specs.declared.stuck.StuckReason.TheVariants.{Unset as IsUnset, Signature}
 use Rattle.csub_tree.specs.declared.tree.COperand.{COperand}
-use Rattle.ll_code.specs.State.{Frame, State, Calling, At, Goes, Sticks}
+use Rattle.ll_code.specs.State.{Frame, Calling, At, Goes, Sticks}
 use Rattle.ll_code.specs.Machine.{c_result, c_type, called_as, called_value, param_types, shapes_of, waiting}
-use Rattle.ll_code.specs.declared.program.LlGraph.{LlGraph}
 use Rattle.ll_code.specs.declared.program.LlType.{LlType}
 use Rattle.ll_code.specs.declared.program.LlType.TheVariants as type
 use Rattle.ll_code.specs.declared.program.LlOp.{LlOp}
@@ -30,18 +29,17 @@ use Rattle.rpy_meaning.specs.Operations.{op as meant_op, enter, object_method}
 use Rattle.rpy_meaning.specs.World.{World as MeantWorld, Answer, Enters, failure, bad, if_some}
 use Rattle.rpy_tree.specs.Value.{Value as Meant, Ref}
 use Rattle.rtyper_layout.specs.declared.classes.Laid.{Laid}
-use Rattle.rtyper_layout.specs.Types.{type_of as type_of_element, type_seen}
+use Rattle.rtyper_layout.specs.Types.{type_seen}
 use Rattle.rtyper_op.specs.Calls.{arguments}
 use Rattle.rtyper_op.specs.Lowering.{is_never}
 use Rattle.rtyper_data.specs.declared.body.Body.{Body}
 use Rattle.rtyper_data.specs.Converting.{present}
 use Rattle.rtyper_data.specs.Seen.{Around, Operand, Place, type_of, type_at, with_op, with_variable, fresh, Writing, writing}
-use Rattle.rtyper_data.specs.Tuples.{variable_of}
 use Rattle.rtyper_list.specs.Lowering.{lower_list_op}
 use Rattle.rtyper_class.specs.declared.call.Reached.TheVariants as reached
 use Rattle.rtyper_class.specs.Calls.{by_vtable, indirect, indirect_giving, looked_in, looked_up, method, method_by, param_types as types_like, reached_by, receiver, through}
 use Rattle.rtyper_class.specs.Lowering.{lowered, lower_class_op, instance_in, method_of as lower_method, method_on}
-use Rattle.rtyper_class.specs.Seen.{World, laid}
+use Rattle.rtyper_class.specs.Seen.{World}
 use Rattle.lower_laws.specs.Asked.{all_asked}
 use Rattle.lower_laws.specs.Values.{AllBelow, IsBelow}
 use Rattle.lower_laws.proofs.Doing.{after}
@@ -52,7 +50,7 @@ use Rattle.object_laws.specs.Represents.{Represents, InstanceAt, shapes}
 use Rattle.object_laws.specs.Values.{Holds, Made, AllHold, Next, Given}
 use Rattle.object_laws.proofs.Blocks.{found_set, found_there}
 use Rattle.object_laws.proofs.Parts.{reads_part}
-use Rattle.object_laws.proofs.Passing.{Passed, Went, both_passed, is_kept_at, is_set_at, none_passed, operand_kept, sets_more}
+use Rattle.object_laws.proofs.Passing.{Passed, Went, both_passed, is_set_at, operand_kept, sets_more}
 use Rattle.object_laws.proofs.Valued.{Instancing, Gone, instance_or_none, instance_type, missing_instance, stays_held, held_set}
 use Rattle.object_laws.proofs.Variables.{InVariable, in_variable}
 use Rattle.class_laws.specs.Asked.{Has}

@@ -6,7 +6,6 @@ use Rattle.csub_tree.specs.Statement.{read, same_result, same_types}
 use Rattle.ll_code.specs.Machine.{c_result, c_type, param_types}
 use Rattle.ll_code.specs.declared.program.LlGraph.{LlGraph}
 use Rattle.ll_code.specs.declared.program.LlProgram.{LlProgram}
-use Rattle.ll_code.specs.declared.program.LlType.{LlType}
 use Rattle.ll_code.specs.declared.program.LlType.TheVariants as type
 use Rattle.rpy_meaning.specs.Classes.{is_below, method_of}
 use Rattle.rpy_meaning.specs.World.{World as MeantWorld}

@@ -1,5 +1,5 @@
 -- A dict of one entry stands in three blocks.
-use Rattle.std.proofs.Common.{◌≡◌, ◌≢◌, ℕ, zero, suc, ◌+◌, true, false, List, [], ◌∷◌, Some, pos, ℤ, refl, sym, ap, ◌∙◌, subst, arith, inr}
+use Rattle.std.proofs.Common.{◌≡◌, ℕ, zero, suc, true, false, List, [], ◌∷◌, Some, pos, ℤ, refl, sym, ap, ◌∙◌, subst, arith, inr}
 use Rattle.std.specs.Prelude.{slice_get}
 use Rattle.std.specs.Int.{int_wrap}
 use Rattle.std.proofs.lemmas.Int.{ints}
@@ -15,7 +15,7 @@ use Rattle.rtyper_op.specs.Mapped.{mixed}
 use Rattle.dict_laws.specs.Index.{StandsFrom, here}
 use Rattle.dict_laws.specs.Masks.{place_of}
 use Rattle.lower_laws.proofs.Typing.{place_of_words}
-use Rattle.object_laws.specs.Dicts.{DictAt, IsIndex, hash}
+use Rattle.object_laws.specs.Dicts.{DictAt, IsIndex}
 use Rattle.object_laws.specs.Ghost.{Home, Sort, ListOf, InstanceOf, DictOf, Stays, use_of}
 use Rattle.object_laws.specs.Represents.{is_settled}
 use Rattle.object_laws.specs.Rows.{known, words, dict_layout, dict_heap, dict_blocks, dict_ghost, OneEntry}

@@ -1,7 +1,7 @@
 -- When blocks and statics are a dict of a heap: its head, with the number of its entries and that of places for them, and two arrays, which
 -- an empty dict may lack. The entries stand in order of insertion, one place with a key in one array and its value in the other; before
 -- those of the second one stands the index.
-use Rattle.std.specs.Prelude.{◌≡◌, ◌≢◌, ◌<◌, ◌≤◌, ◌^◌, ◌⊎◌, ℕ, ◌+◌, ℤ, pos, Bool, true, false, if◌then◌else◌, List, [], ◌∷◌, ◌++◌, length, map, Option, Some, slice_get}
+use Rattle.std.specs.Prelude.{◌≡◌, ◌<◌, ◌^◌, ◌⊎◌, ℕ, ◌+◌, ℤ, pos, Bool, true, false, if◌then◌else◌, List, [], ◌∷◌, ◌++◌, length, map, Option, Some, slice_get}
 use Rattle.csub_tree.specs.State.{Value, Word, Byte, Flag, Null, Block}
 use Rattle.ll_code.specs.declared.program.LlType.{LlType}
 use Rattle.ll_code.specs.declared.program.LlType.TheVariants as type
