@@ -1,3 +1,5 @@
 mod Entering
 mod Looking
+mod Masked
+mod Placing
 mod Words

@@ -20,13 +20,13 @@ module _ (words : List ℕ) (has : ℕ → Bool) where
       by (suc entry) h rest = by_test entry h rest (has entry) refl
 
   -- what is found has the key
-  found_has : (at : ℕ) (found : Option ℕ) (count : ℕ) → ((place entry : ℕ) → Holds words place entry → entry < count) → Looks words has at found → (entry : ℕ) → found ≡ Some entry → (entry < count) × (has entry ≡ true)
+  pub found_has : (at : ℕ) (found : Option ℕ) (count : ℕ) → ((place entry : ℕ) → Holds words place entry → entry < count) → Looks words has at found → (entry : ℕ) → found ≡ Some entry → (entry < count) × (has entry ≡ true)
   found_has _ _ count known (missed at e) entry q = absurd (cc)
   found_has _ _ count known (met at other h t) entry q = let p : other ≡ entry = cc in (subst (λ x. x < count) p (known at other h), ap has (sym p) ∙ t)
   found_has _ _ count known (passed at other found h t rest) entry q = found_has (next (length words) at) found count known rest entry q
 
   -- an entry that stands there and has the key is not missed
-  not_missed : (at : ℕ) (found : Option ℕ) (entry : ℕ) → Looks words has at found → StandsFrom words entry at → has entry ≡ true → found ≢ None
+  pub not_missed : (at : ℕ) (found : Option ℕ) (entry : ℕ) → Looks words has at found → StandsFrom words entry at → has entry ≡ true → found ≢ None
   not_missed _ _ entry (missed at e) (here _ h) t q = cc
   not_missed _ _ entry (missed at e) (behind _ other h s) t q = cc
   not_missed _ _ entry (met at other h k) s t q = cc

@@ -3,4 +3,7 @@
 
 mod laws;
 
-pub use laws::{entries_are_entered, indices_are_made, keys_are_found};
+pub use laws::{
+    entries_are_entered, indices_are_longer, indices_are_made, keys_are_found, masks_lead,
+    places_are_found,
+};
