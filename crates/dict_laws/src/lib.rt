@@ -1,4 +1,4 @@
-//! Indices of dicts are right: a key is found where it has an entry, and entering keeps that.
+//! Indices of dicts are right, as words alone: a key is found at its place, and an entry that comes in keeps that.
 #![tactic(auto)]
 
 mod laws;

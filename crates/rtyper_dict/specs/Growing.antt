@@ -1,6 +1,5 @@
 -- Room in a dict: where no place is free, both arrays are made anew from the entries. No step is paid meanwhile.
 use Rattle.std.specs.Prelude.{ℕ, ℤ, Bool as Truth, true, false, not, List, [], ◌∷◌, Option, Some, None, pos, codes}
-use Rattle.csub_tree.specs.declared.tree.CBinary.TheVariants.{Add}
 use Rattle.csub_tree.specs.declared.tree.COperand.TheVariants.{Var}
 use Rattle.ll_code.specs.declared.program.LlType.{LlType}
 use Rattle.ll_code.specs.declared.program.LlType.TheVariants.{Signed, Bool, Void, Ptr}

@@ -1,6 +1,6 @@
 -- Hashes of keys. They are those that the dicts of constants have.
 use Rattle.std.specs.Prelude.{ℕ, ◌+◌, ◌==◌, if◌then◌else◌, ℤ, List, [], ◌∷◌, Some, pos, negsuc, codes}
-use Rattle.csub_tree.specs.declared.tree.CBinary.TheVariants.{Mul, Shr, Xor, Lt}
+use Rattle.csub_tree.specs.declared.tree.CBinary.TheVariants.{Mul, Shr, Xor}
 use Rattle.csub_tree.specs.declared.tree.CUnary.TheVariants.{C2S}
 use Rattle.csub_tree.specs.declared.tree.COperand.{COperand}
 use Rattle.csub_tree.specs.declared.tree.COperand.TheVariants.{Var}

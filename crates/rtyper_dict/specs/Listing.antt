@@ -1,5 +1,5 @@
 -- What is read from a dict: values, and lists of the keys, the values or both.
-use Rattle.std.specs.Prelude.{ℕ, Bool as Truth, true, false, not, if◌then◌else◌, List, [], ◌∷◌, ◌++◌, slice_get, unwrap_or, Some, None, pos, codes}
+use Rattle.std.specs.Prelude.{ℕ, Bool as Truth, true, false, not, if◌then◌else◌, List, [], ◌∷◌, ◌++◌, slice_get, unwrap_or, Some, pos, codes}
 use Rattle.csub_tree.specs.declared.tree.CBinary.TheVariants.{Ne, Peq}
 use Rattle.csub_tree.specs.declared.tree.COperand.{COperand}
 use Rattle.csub_tree.specs.declared.tree.COperand.TheVariants.{Var}

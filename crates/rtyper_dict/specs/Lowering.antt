@@ -12,13 +12,12 @@ use Rattle.rpy_meaning.specs.declared.row.RowOp.TheVariants as row
 use Rattle.rpy_tree.specs.declared.syntax.CmpOp.{CmpOp}
 use Rattle.rpy_tree.specs.declared.syntax.CmpOp.TheVariants as compared
 use Rattle.rtyper_data.specs.declared.body.Body.{Body}
-use Rattle.rtyper_data.specs.declared.found.Found.{Found}
 use Rattle.rtyper_data.specs.declared.small.Keyed.{Keyed as Graph}
 use Rattle.rtyper_data.specs.declared.small.Keyed.TheVariants as keyed
 use Rattle.rtyper_data.specs.declared.small.Small.TheVariants.{Keyed}
 use Rattle.rtyper_data.specs.Comparing.{alone, binary_in, opposite_of}
 use Rattle.rtyper_data.specs.Converting.{by_small, default_operand, given, give, give_made}
-use Rattle.rtyper_data.specs.Seen.{Around, Operand, Place, type_of, type_at, Writing, writing, push, set}
+use Rattle.rtyper_data.specs.Seen.{Around, Operand, Place, type_of, type_at, Writing, push, set}
 use Rattle.rtyper_data.specs.Tuples.{variable_of}
 use Rattle.rtyper_op.specs.Lowering.{failure, is_never}
 use Rattle.rtyper_op.specs.Placing.{says_nothing}

@@ -1,5 +1,5 @@
 -- The structs of a dict, and what its graphs are made of.
-use Rattle.std.specs.Prelude.{ℕ, ◌+◌, Bool as Truth, true, false, if◌then◌else◌, List, [], ◌∷◌, ◌++◌, Option, Some, None, pos}
+use Rattle.std.specs.Prelude.{ℕ, Bool as Truth, if◌then◌else◌, List, [], ◌∷◌, ◌++◌, Option, Some, None, pos}
 use Rattle.csub_tree.specs.declared.tree.CBinary.TheVariants.{Add, Sub, And, Lt, Eq, Ne}
 use Rattle.csub_tree.specs.declared.tree.CUnary.TheVariants.{B2S, C2S, S2C}
 use Rattle.csub_tree.specs.declared.tree.COperand.{COperand}

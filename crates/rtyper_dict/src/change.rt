@@ -189,13 +189,14 @@ fn store_blocks(
     grows: u64,
     adds: u64,
     d: DictShape,
-    blocks: &mut Seq<LlBlock>,
-) -> Result<(), NoMem>
-    ensures { OnOk result (blocks.new ≡ blocks.old ++ spec.store_blocks finds grows adds d) }
+) -> Result<Seq<LlBlock>, NoMem>
+    ensures { IfOk result (λ blocks. blocks ≡ spec.store_blocks finds grows adds d) }
 {
+    let mut blocks = Seq::new(alloc);
     blocks.push(store_asks(alloc, finds)?)?;
     blocks.push(store_adds(alloc, grows, adds)?)?;
-    blocks.push(store_puts(alloc, d)?)
+    blocks.push(store_puts(alloc, d)?)?;
+    Ok(blocks)
 }
 
 #[tactic(auto, unfolding(crate::specs::Changing::store_graph))]
@@ -208,8 +209,7 @@ fn store_graph(
 ) -> Result<LlGraph, NoMem>
     ensures { IfOk result (λ made. made ≡ spec.store_graph finds grows adds d) }
 {
-    let mut blocks = Seq::new(alloc);
-    store_blocks(alloc, finds, grows, adds, d, &mut blocks)?;
+    let blocks = store_blocks(alloc, finds, grows, adds, d)?;
     let types = store_types(alloc, d)?;
     graph_of(alloc, b"dict_store", 3, LlType::Void, types, blocks)
 }

@@ -113,21 +113,22 @@ fn text_types(alloc: Global) -> Result<Seq<LlType>, NoMem>
 }
 
 #[tactic(auto, unfolding(crate::specs::Hashing::text_blocks))]
-fn text_blocks(alloc: Global, mixes: u64, blocks: &mut Seq<LlBlock>) -> Result<(), NoMem>
-    ensures { OnOk result (blocks.new ≡ blocks.old ++ spec.text_blocks mixes) }
+fn text_blocks(alloc: Global, mixes: u64) -> Result<Seq<LlBlock>, NoMem>
+    ensures { IfOk result (λ blocks. blocks ≡ spec.text_blocks mixes) }
 {
+    let mut blocks = Seq::new(alloc);
     blocks.push(text_start(alloc)?)?;
     blocks.push(text_asks(alloc)?)?;
     blocks.push(text_turn(alloc)?)?;
-    blocks.push(text_mixed(alloc, mixes)?)
+    blocks.push(text_mixed(alloc, mixes)?)?;
+    Ok(blocks)
 }
 
 #[tactic(auto, unfolding(crate::specs::Hashing::text_graph))]
 fn text_graph(alloc: Global, mixes: u64) -> Result<LlGraph, NoMem>
     ensures { IfOk result (λ made. made ≡ spec.text_graph mixes) }
 {
-    let mut blocks = Seq::new(alloc);
-    text_blocks(alloc, mixes, &mut blocks)?;
+    let blocks = text_blocks(alloc, mixes)?;
     let types = text_types(alloc)?;
     graph_of(alloc, b"hash_text", 1, SIGNED, types, blocks)
 }

@@ -58,22 +58,23 @@ fn size_doubles(alloc: Global) -> Result<LlBlock, NoMem>
 }
 
 #[tactic(auto, unfolding(crate::specs::Indexing::size_blocks))]
-fn size_blocks(alloc: Global, blocks: &mut Seq<LlBlock>) -> Result<(), NoMem>
-    ensures { OnOk result (blocks.new ≡ blocks.old ++ spec.size_blocks) }
+fn size_blocks(alloc: Global) -> Result<Seq<LlBlock>, NoMem>
+    ensures { IfOk result (λ blocks. blocks ≡ spec.size_blocks) }
 {
+    let mut blocks = Seq::new(alloc);
     blocks.push(size_starts(alloc)?)?;
     blocks.push(size_enough(alloc)?)?;
     blocks.push(size_greatest(alloc)?)?;
     blocks.push(size_doubles(alloc)?)?;
-    blocks.push(gives(alloc, 2)?)
+    blocks.push(gives(alloc, 2)?)?;
+    Ok(blocks)
 }
 
 #[tactic(auto, unfolding(crate::specs::Indexing::size))]
 pub fn size(alloc: Global) -> Result<LlGraph, NoMem>
     ensures { IfOk result (λ made. made ≡ spec.size) }
 {
-    let mut blocks = Seq::new(alloc);
-    size_blocks(alloc, &mut blocks)?;
+    let blocks = size_blocks(alloc)?;
     let types = types_of(alloc, [SIGNED, SIGNED, SIGNED, BOOL, SIGNED])?;
     graph_of(alloc, b"index_size", 1, SIGNED, types, blocks)
 }
@@ -109,26 +110,22 @@ fn fill_turn(alloc: Global, array: u64, item: LlType) -> Result<LlBlock, NoMem>
 }
 
 #[tactic(auto, unfolding(crate::specs::Indexing::fill_blocks))]
-fn fill_blocks(
-    alloc: Global,
-    array: u64,
-    item: LlType,
-    blocks: &mut Seq<LlBlock>,
-) -> Result<(), NoMem>
-    ensures { OnOk result (blocks.new ≡ blocks.old ++ spec.fill_blocks array item) }
+fn fill_blocks(alloc: Global, array: u64, item: LlType) -> Result<Seq<LlBlock>, NoMem>
+    ensures { IfOk result (λ blocks. blocks ≡ spec.fill_blocks array item) }
 {
+    let mut blocks = Seq::new(alloc);
     blocks.push(fill_starts(alloc, array)?)?;
     blocks.push(fill_asks(alloc)?)?;
     blocks.push(fill_turn(alloc, array, item)?)?;
-    blocks.push(done(alloc)?)
+    blocks.push(done(alloc)?)?;
+    Ok(blocks)
 }
 
 #[tactic(auto, unfolding(crate::specs::Indexing::fill))]
 pub fn fill(alloc: Global, array: u64, item: LlType) -> Result<LlGraph, NoMem>
     ensures { IfOk result (λ made. made ≡ spec.fill array item) }
 {
-    let mut blocks = Seq::new(alloc);
-    fill_blocks(alloc, array, item, &mut blocks)?;
+    let blocks = fill_blocks(alloc, array, item)?;
     let types = types_of(alloc, [LlType::Ptr(array), SIGNED, SIGNED, BOOL, SIGNED])?;
     graph_of(alloc, b"fill", 2, LlType::Void, types, blocks)
 }
@@ -249,29 +246,25 @@ fn enter_next(alloc: Global) -> Result<LlBlock, NoMem>
 }
 
 #[tactic(auto, unfolding(crate::specs::Indexing::enter_blocks))]
-fn enter_blocks(
-    alloc: Global,
-    hashes: u64,
-    d: DictShape,
-    blocks: &mut Seq<LlBlock>,
-) -> Result<(), NoMem>
-    ensures { OnOk result (blocks.new ≡ blocks.old ++ spec.enter_blocks hashes d) }
+fn enter_blocks(alloc: Global, hashes: u64, d: DictShape) -> Result<Seq<LlBlock>, NoMem>
+    ensures { IfOk result (λ blocks. blocks ≡ spec.enter_blocks hashes d) }
 {
+    let mut blocks = Seq::new(alloc);
     blocks.push(enter_starts(alloc, d)?)?;
     blocks.push(enter_asks(alloc)?)?;
     blocks.push(enter_hashes(alloc, hashes, d)?)?;
     blocks.push(enter_probes(alloc, d)?)?;
     blocks.push(enter_puts(alloc, d)?)?;
     blocks.push(enter_next(alloc)?)?;
-    blocks.push(done(alloc)?)
+    blocks.push(done(alloc)?)?;
+    Ok(blocks)
 }
 
 #[tactic(auto, unfolding(crate::specs::Indexing::enter_graph))]
 fn enter_graph(alloc: Global, hashes: u64, d: DictShape) -> Result<LlGraph, NoMem>
     ensures { IfOk result (λ made. made ≡ spec.enter_graph hashes d) }
 {
-    let mut blocks = Seq::new(alloc);
-    enter_blocks(alloc, hashes, d, &mut blocks)?;
+    let blocks = enter_blocks(alloc, hashes, d)?;
     let types = enter_types(alloc, d)?;
     graph_of(alloc, b"dict_enter", 2, LlType::Void, types, blocks)
 }
@@ -353,26 +346,22 @@ fn index_types(alloc: Global, d: DictShape) -> Result<Seq<LlType>, NoMem>
 }
 
 #[tactic(auto, unfolding(crate::specs::Indexing::index_blocks))]
-fn index_blocks(
-    alloc: Global,
-    enters: u64,
-    d: DictShape,
-    blocks: &mut Seq<LlBlock>,
-) -> Result<(), NoMem>
-    ensures { OnOk result (blocks.new ≡ blocks.old ++ spec.index_blocks enters d) }
+fn index_blocks(alloc: Global, enters: u64, d: DictShape) -> Result<Seq<LlBlock>, NoMem>
+    ensures { IfOk result (λ blocks. blocks ≡ spec.index_blocks enters d) }
 {
+    let mut blocks = Seq::new(alloc);
     blocks.push(index_starts(alloc, d)?)?;
     blocks.push(index_asks(alloc)?)?;
     blocks.push(index_empties(alloc, d)?)?;
-    blocks.push(index_enters(alloc, enters)?)
+    blocks.push(index_enters(alloc, enters)?)?;
+    Ok(blocks)
 }
 
 #[tactic(auto, unfolding(crate::specs::Indexing::index_graph))]
 fn index_graph(alloc: Global, enters: u64, d: DictShape) -> Result<LlGraph, NoMem>
     ensures { IfOk result (λ made. made ≡ spec.index_graph enters d) }
 {
-    let mut blocks = Seq::new(alloc);
-    index_blocks(alloc, enters, d, &mut blocks)?;
+    let blocks = index_blocks(alloc, enters, d)?;
     let types = index_types(alloc, d)?;
     graph_of(alloc, b"dict_index", 1, LlType::Void, types, blocks)
 }

@@ -131,18 +131,14 @@ fn get_given(alloc: Global, x: COperand, ops: Seq<LlOp>) -> Result<LlBlock, NoMe
 }
 
 #[tactic(auto, unfolding(crate::specs::Listing::get_blocks))]
-fn get_blocks(
-    alloc: Global,
-    finds: u64,
-    x: COperand,
-    ops: Seq<LlOp>,
-    blocks: &mut Seq<LlBlock>,
-) -> Result<(), NoMem>
-    ensures { OnOk result (blocks.new ≡ blocks.old ++ spec.get_blocks finds x ops) }
+fn get_blocks(alloc: Global, finds: u64, x: COperand, ops: Seq<LlOp>) -> Result<Seq<LlBlock>, NoMem>
+    ensures { IfOk result (λ blocks. blocks ≡ spec.get_blocks finds x ops) }
 {
+    let mut blocks = Seq::new(alloc);
     blocks.push(get_asks(alloc, finds)?)?;
     blocks.push(gives(alloc, 2)?)?;
-    blocks.push(get_given(alloc, x, ops)?)
+    blocks.push(get_given(alloc, x, ops)?)?;
+    Ok(blocks)
 }
 
 #[tactic(auto, unfolding(crate::specs::Listing::get_graph))]
@@ -156,8 +152,7 @@ fn get_graph(
     ensures { IfOk result (λ made. made ≡ spec.get_graph finds x kind body) }
 {
     let Body { types, ops } = body;
-    let mut blocks = Seq::new(alloc);
-    get_blocks(alloc, finds, x, ops, &mut blocks)?;
+    let blocks = get_blocks(alloc, finds, x, ops)?;
     graph_of(alloc, b"dict_get", 3, kind, types, blocks)
 }
 
@@ -202,12 +197,14 @@ fn truth_counts(alloc: Global, d: DictShape) -> Result<LlBlock, NoMem>
 }
 
 #[tactic(auto, unfolding(crate::specs::Listing::truth_blocks))]
-fn truth_blocks(alloc: Global, d: DictShape, blocks: &mut Seq<LlBlock>) -> Result<(), NoMem>
-    ensures { OnOk result (blocks.new ≡ blocks.old ++ spec.truth_blocks d) }
+fn truth_blocks(alloc: Global, d: DictShape) -> Result<Seq<LlBlock>, NoMem>
+    ensures { IfOk result (λ blocks. blocks ≡ spec.truth_blocks d) }
 {
+    let mut blocks = Seq::new(alloc);
     blocks.push(truth_asks(alloc)?)?;
     blocks.push(answer(alloc, flag(false))?)?;
-    blocks.push(truth_counts(alloc, d)?)
+    blocks.push(truth_counts(alloc, d)?)?;
+    Ok(blocks)
 }
 
 /// Whether a dict, or `None`, has entries.
@@ -215,8 +212,7 @@ fn truth_blocks(alloc: Global, d: DictShape, blocks: &mut Seq<LlBlock>) -> Resul
 pub fn truth(alloc: Global, d: DictShape) -> Result<LlGraph, NoMem>
     ensures { IfOk result (λ made. made ≡ spec.truth d) }
 {
-    let mut blocks = Seq::new(alloc);
-    truth_blocks(alloc, d, &mut blocks)?;
+    let blocks = truth_blocks(alloc, d)?;
     let types = types_of(alloc, [LlType::Ptr(d.dict), BOOL, SIGNED])?;
     graph_of(alloc, b"dict_truth", 1, BOOL, types, blocks)
 }
@@ -486,15 +482,16 @@ fn list_blocks(
     d: DictShape,
     to: Shape,
     ops: Seq<LlOp>,
-    blocks: &mut Seq<LlBlock>,
-) -> Result<(), NoMem>
-    ensures { OnOk result (blocks.new ≡ blocks.old ++ spec.list_blocks makes part d to ops) }
+) -> Result<Seq<LlBlock>, NoMem>
+    ensures { IfOk result (λ blocks. blocks ≡ spec.list_blocks makes part d to ops) }
 {
+    let mut blocks = Seq::new(alloc);
     blocks.push(list_makes(alloc, makes, part, d, to)?)?;
     blocks.push(list_walks(alloc, d)?)?;
     blocks.push(list_asks(alloc)?)?;
     blocks.push(list_turn(alloc, ops)?)?;
-    blocks.push(gives(alloc, 2)?)
+    blocks.push(gives(alloc, 2)?)?;
+    Ok(blocks)
 }
 
 #[tactic(auto, unfolding(crate::specs::Listing::list_graph))]
@@ -509,8 +506,7 @@ fn list_graph(
     ensures { IfOk result (λ made. made ≡ spec.list_graph makes part d to body) }
 {
     let Body { types, ops } = body;
-    let mut blocks = Seq::new(alloc);
-    list_blocks(alloc, makes, part, d, to, ops, &mut blocks)?;
+    let blocks = list_blocks(alloc, makes, part, d, to, ops)?;
     let list = LlType::Ptr(to.list);
     graph_of(alloc, b"dict_list", 1, list, types, blocks)
 }

@@ -150,16 +150,17 @@ fn find_blocks(
     test: VarId,
     d: DictShape,
     ops: Seq<LlOp>,
-    blocks: &mut Seq<LlBlock>,
-) -> Result<(), NoMem>
-    ensures { OnOk result (blocks.new ≡ blocks.old ++ spec.find_blocks hashes test d ops) }
+) -> Result<Seq<LlBlock>, NoMem>
+    ensures { IfOk result (λ blocks. blocks ≡ spec.find_blocks hashes test d ops) }
 {
+    let mut blocks = Seq::new(alloc);
     blocks.push(find_asks(alloc, d)?)?;
     blocks.push(missing(alloc)?)?;
     blocks.push(find_starts(alloc, hashes, d)?)?;
     blocks.push(find_probes(alloc, d)?)?;
     blocks.push(find_compares(alloc, test, ops)?)?;
-    blocks.push(gives(alloc, 12)?)
+    blocks.push(gives(alloc, 12)?)?;
+    Ok(blocks)
 }
 
 #[tactic(auto, unfolding(crate::specs::Looking::find_graph))]
@@ -173,8 +174,7 @@ fn find_graph(
     ensures { IfOk result (λ made. made ≡ spec.find_graph hashes test d body) }
 {
     let Body { types, ops } = body;
-    let mut blocks = Seq::new(alloc);
-    find_blocks(alloc, hashes, test, d, ops, &mut blocks)?;
+    let blocks = find_blocks(alloc, hashes, test, d, ops)?;
     graph_of(alloc, b"dict_find", 2, SIGNED, types, blocks)
 }
 
@@ -259,15 +259,16 @@ fn scan_blocks(
     test: VarId,
     d: DictShape,
     ops: Seq<LlOp>,
-    blocks: &mut Seq<LlBlock>,
-) -> Result<(), NoMem>
-    ensures { OnOk result (blocks.new ≡ blocks.old ++ spec.scan_blocks test d ops) }
+) -> Result<Seq<LlBlock>, NoMem>
+    ensures { IfOk result (λ blocks. blocks ≡ spec.scan_blocks test d ops) }
 {
+    let mut blocks = Seq::new(alloc);
     blocks.push(scan_starts(alloc, d)?)?;
     blocks.push(missing(alloc)?)?;
     blocks.push(scan_asks(alloc)?)?;
     blocks.push(scan_compares(alloc, test, ops)?)?;
-    blocks.push(gives(alloc, 5)?)
+    blocks.push(gives(alloc, 5)?)?;
+    Ok(blocks)
 }
 
 #[tactic(auto, unfolding(crate::specs::Looking::scan_graph))]
@@ -275,8 +276,7 @@ fn scan_graph(alloc: Global, test: VarId, d: DictShape, body: Body) -> Result<Ll
     ensures { IfOk result (λ made. made ≡ spec.scan_graph test d body) }
 {
     let Body { types, ops } = body;
-    let mut blocks = Seq::new(alloc);
-    scan_blocks(alloc, test, d, ops, &mut blocks)?;
+    let blocks = scan_blocks(alloc, test, d, ops)?;
     graph_of(alloc, b"dict_find", 2, SIGNED, types, blocks)
 }
 
@@ -327,25 +327,21 @@ fn entry_asks(alloc: Global, finds: u64) -> Result<LlBlock, NoMem>
 }
 
 #[tactic(auto, unfolding(crate::specs::Looking::entry_blocks))]
-fn entry_blocks(
-    alloc: Global,
-    finds: u64,
-    fails: LlBlock,
-    blocks: &mut Seq<LlBlock>,
-) -> Result<(), NoMem>
-    ensures { OnOk result (blocks.new ≡ blocks.old ++ spec.entry_blocks finds fails) }
+fn entry_blocks(alloc: Global, finds: u64, fails: LlBlock) -> Result<Seq<LlBlock>, NoMem>
+    ensures { IfOk result (λ blocks. blocks ≡ spec.entry_blocks finds fails) }
 {
+    let mut blocks = Seq::new(alloc);
     blocks.push(entry_asks(alloc, finds)?)?;
     blocks.push(fails)?;
-    blocks.push(gives(alloc, 2)?)
+    blocks.push(gives(alloc, 2)?)?;
+    Ok(blocks)
 }
 
 #[tactic(auto, unfolding(crate::specs::Looking::entry_graph))]
 fn entry_graph(alloc: Global, finds: u64, fails: LlBlock, d: DictShape) -> Result<LlGraph, NoMem>
     ensures { IfOk result (λ made. made ≡ spec.entry_graph finds fails d) }
 {
-    let mut blocks = Seq::new(alloc);
-    entry_blocks(alloc, finds, fails, &mut blocks)?;
+    let blocks = entry_blocks(alloc, finds, fails)?;
     let types = types_of(alloc, [LlType::Ptr(d.dict), d.stored_key, SIGNED, BOOL])?;
     graph_of(alloc, b"dict_entry", 2, SIGNED, types, blocks)
 }
