@@ -1,0 +1,5 @@
+pub mod Fronts
+pub mod Growing
+pub mod Helpers
+pub mod Passes
+pub mod Smalls

@@ -1,0 +1,102 @@
+-- Small graphs stand at their numbers, where what is written takes nothing back of what was asked for.
+use Rattle.std.specs.Prelude.{◌≡◌, ◌<◌, ◌^◌, ℕ, ◌+◌, ◌⊎◌, true, List, ◌++◌, length, slice_get, Some, None}
+use Rattle.ll_code.specs.declared.program.LlGraph.{LlGraph}
+use Rattle.ll_code.specs.declared.program.LlProgram.{LlProgram}
+use Rattle.ll_code.specs.declared.program.LlStruct.{LlStruct}
+use Rattle.csub_tree.specs.declared.tree.CStatic.{CStatic}
+use Rattle.ll_build.specs.declared.needs.Helper.{Helper}
+use Rattle.ll_build.specs.declared.needs.Numbers.{Numbers}
+use Rattle.ll_build.specs.Needs.{all_shared, numbers_of}
+use Rattle.ll_build.specs.declared.needs.Need.{Need}
+use Rattle.class_desc.specs.Tables.{Tables}
+use Rattle.flow_graph.specs.declared.graph.Graph.{Graph}
+use Rattle.rpy_meaning.specs.declared.row.Covers.{Covers}
+use Rattle.rtyper_layout.specs.declared.layout.Layout.{Layout}
+use Rattle.ll_helpers.specs.Helpers.{graph_for, helpers}
+use Rattle.rtyper_data.specs.declared.found.Found.{Found}
+use Rattle.rtyper_data.specs.declared.small.Small.{Small}
+use Rattle.rtyper_data.specs.Finding.{failures_of, helper_number, same_small, small_number}
+use Rattle.rtyper_op.specs.Prebuilt.{prebuilt}
+use Rattle.rtyper_layout.specs.Types.{word}
+use Rattle.rtyper_raising.specs.Raising.{raising_blocks, raising_graph}
+use Rattle.rtyper_class.specs.Seen.{World}
+use Rattle.rtyper_class.specs.Vtables.{exceptions, vtables}
+use Rattle.rtyper_program.specs.Graphs.{graph_of}
+use Rattle.rtyper_program.specs.Program.{found_first, pass, small_of, smalls_to, world_behind}
+use Rattle.rtyper_program.specs.Seen.{Known}
+use Rattle.program_asks.specs.Growing.{Grows}
+
+-- the graph at a number is that of the small graph, and what that asks for is asked for in the end
+pub record Stands (graphs : List LlGraph) (world : World) (last : Found) (n : ℕ) (s : Small) : Type 0 where
+  pub made : Found
+  pub graph : slice_get graphs n ≡ Some (small_of world s made).0
+  pub grows : Grows (small_of world s made).1 last
+
+abbrev pub SmallsOnlyAsk : World → Type 0
+SmallsOnlyAsk world = (s : Small) (found : Found) → Grows found (small_of world s found).1
+
+-- of so many small graphs each stands behind what is there before, if they only ask for more
+abbrev pub SmallsStand : Type 0
+SmallsStand = (world : World) → SmallsOnlyAsk world → (count : ℕ) (made : List LlGraph × Found) (n : ℕ) (s : Small)
+    → slice_get (smalls_to world count made).1.smalls count ≡ None → slice_get (smalls_to world count made).1.smalls n ≡ Some s
+    → Stands (smalls_to world count made).0 world (smalls_to world count made).1 (length made.0 + n) s
+
+-- what writes the program only asks for more
+pub record OnlyAsks (known : Known) (world : World) : Type 0 where
+  pub constants : (found : Found) → Grows found (prebuilt world.around known.program.sites known.annotation.same found)
+  pub functions : (n : ℕ) (graph : Graph) (found : Found) → Grows found (graph_of known world n graph found).1
+  pub smalls : SmallsOnlyAsk world
+
+-- what was asked for stands for what is asked for now, where it is the same
+abbrev pub IsAlike : Small → Small → Type 0
+IsAlike met s = (met ≡ s) ⊎ (same_small met s ≡ true)
+
+-- a small graph that is asked for at any moment of a pass, which are those from which it is asked for to the end, stands at its number
+pub record StandsAsked (graphs : List LlGraph) (world : World) (last : Found) (s : Small) (found : Found) : Type 0 where
+  pub met : Small
+  pub alike : IsAlike met s
+  pub stands : Stands graphs world last (small_number s found).0 met
+
+abbrev pub AskedStand : Type 0
+AskedStand = (known : Known) (classes : Tables) (layout : Layout) (needs : List Need) (caught : List Covers) (count : ℕ)
+    → OnlyAsks known (world_behind known classes layout (helpers layout.structs needs))
+    → slice_get (pass known classes layout needs caught count).1.smalls count ≡ None
+    → length (pass known classes layout needs caught count).0.graphs < 2 ^ 64
+    → (s : Small) (found : Found) → Grows (small_number s found).1 (pass known classes layout needs caught count).1
+    → StandsAsked (pass known classes layout needs caught count).0.graphs (world_behind known classes layout (helpers layout.structs needs)) (pass known classes layout needs caught count).1 s found
+
+-- ---- helpers
+
+-- the graph at a number is that of the helper, which raises these of its failures, and what it asks for to raise them is asked for in the end
+pub record HelperStands (graphs : List LlGraph) (numbers : Numbers) (last : Found) (n : ℕ) (h : Helper) (covers : Covers) : Type 0 where
+  pub made : Found
+  pub graph : slice_get graphs n ≡ Some (raising_graph covers (graph_for numbers h) made)
+  pub grows : Grows (raising_blocks covers (graph_for numbers h).blocks made).1 last
+
+-- a helper that is asked for at any moment of a pass that asks for no helper that it was not given stands at its number, and raises those
+-- of its failures that are covered there
+abbrev pub HelpersStand : Type 0
+HelpersStand = (known : Known) (classes : Tables) (layout : Layout) (needs : List Need) (caught : List Covers) (count : ℕ)
+    → OnlyAsks known (world_behind known classes layout (helpers layout.structs needs))
+    → length (pass known classes layout needs caught count).1.needs ≡ length needs
+    → (h : Helper) (found : Found)
+    → Grows (found_first known (world_behind known classes layout (helpers layout.structs needs)) (helpers layout.structs needs) needs caught) found
+    → Grows (helper_number h found).1 (pass known classes layout needs caught count).1
+    → HelperStands (pass known classes layout needs caught count).0.graphs (numbers_of needs all_shared (length layout.structs)) (pass known classes layout needs caught count).1 (helper_number h found).0 h (failures_of h found.covered)
+
+-- ---- structs and statics
+
+-- the structs of the layout come first, and the vtables and behind them the builtin exceptions stand where the lowering looks for them
+pub record HasStatics (known : Known) (world : World) (p : LlProgram) : Type 0 where
+  pub more : List LlStruct
+  pub structs : p.structs ≡ world.around.layout.structs ++ more
+  pub before : List CStatic
+  pub rest : List CStatic
+  pub statics : p.statics ≡ before ++ (vtables world known.program known.annotation.reached ++ (exceptions world ++ rest))
+  pub first : length before ≡ world.first_vtable
+  pub next : world.first_exception ≡ word (world.first_vtable + length world.around.layout.order)
+
+abbrev pub StaticsStand : Type 0
+StaticsStand = (known : Known) (classes : Tables) (layout : Layout) (needs : List Need) (caught : List Covers) (count : ℕ)
+    → OnlyAsks known (world_behind known classes layout (helpers layout.structs needs))
+    → HasStatics known (world_behind known classes layout (helpers layout.structs needs)) (pass known classes layout needs caught count).0
