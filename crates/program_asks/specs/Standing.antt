@@ -22,7 +22,7 @@ use Rattle.rtyper_raising.specs.Raising.{raising_blocks, raising_graph}
 use Rattle.rtyper_class.specs.Seen.{World}
 use Rattle.rtyper_class.specs.Vtables.{exceptions, vtables}
 use Rattle.rtyper_program.specs.Graphs.{graph_of}
-use Rattle.rtyper_program.specs.Program.{found_first, pass, small_of, smalls_to, world_behind}
+use Rattle.rtyper_program.specs.Program.{IsSettled, found_first, pass, small_of, smalls_to, world_behind}
 use Rattle.rtyper_program.specs.Seen.{Known}
 use Rattle.program_asks.specs.Growing.{Grows}
 
@@ -100,3 +100,29 @@ abbrev pub StaticsStand : Type 0
 StaticsStand = (known : Known) (classes : Tables) (layout : Layout) (needs : List Need) (caught : List Covers) (count : ℕ)
     → OnlyAsks known (world_behind known classes layout (helpers layout.structs needs))
     → HasStatics known (world_behind known classes layout (helpers layout.structs needs)) (pass known classes layout needs caught count).0
+
+-- ---- programs that are made
+
+-- around which a program was written, and what it asked for in the end
+abbrev pub world_in : (known : Known) (classes : Tables) (layout : Layout) (p : LlProgram) → IsSettled known classes layout p → World
+world_in known classes layout p r = world_behind known classes layout (helpers layout.structs r.needs)
+
+abbrev pub first_in : (known : Known) (classes : Tables) (layout : Layout) (p : LlProgram) → IsSettled known classes layout p → Found
+first_in known classes layout p r = found_first known (world_in known classes layout p r) (helpers layout.structs r.needs) r.needs r.caught
+
+abbrev pub last_in : (known : Known) (classes : Tables) (layout : Layout) (p : LlProgram) → IsSettled known classes layout p → Found
+last_in known classes layout p r = (pass known classes layout r.needs r.caught r.count).1
+
+abbrev pub numbers_in : (known : Known) (classes : Tables) (layout : Layout) (p : LlProgram) → IsSettled known classes layout p → Numbers
+numbers_in known classes layout p r = numbers_of r.needs all_shared (length layout.structs)
+
+-- each small graph and each helper that is asked for at any moment stands at its number, and the statics of classes stand where they are looked for
+pub record HasAsked (p : LlProgram) (known : Known) (world : World) (numbers : Numbers) (first last : Found) : Type 0 where
+  pub smalls : length p.graphs < 2 ^ 64 → (s : Small) (found : Found) → Grows (small_number s found).1 last → StandsAsked p.graphs world last s found
+  pub helpers : (h : Helper) (found : Found) → Grows first found → Grows (helper_number h found).1 last → HelperStands p.graphs numbers last (helper_number h found).0 h (failures_of h found.covered)
+  pub statics : HasStatics known world p
+
+-- of every program that is made of flow graphs
+abbrev pub ProgramsHaveAsked : Type 0
+ProgramsHaveAsked = (known : Known) (classes : Tables) (layout : Layout) (p : LlProgram) (r : IsSettled known classes layout p) → OnlyAsks known (world_in known classes layout p r)
+    → HasAsked p known (world_in known classes layout p r) (numbers_in known classes layout p r) (first_in known classes layout p r) (last_in known classes layout p r)

@@ -1,6 +1,6 @@
 // Laws of what a program asks for while it is written.
 ghost use Rattle.program_asks.specs.Growing.{GrowthIsOne, HelpersGrow, SmallsGrow, StaticsGrow};
-ghost use Rattle.program_asks.specs.Standing.{AskedStand, HelpersStand, SmallsStand, StaticsStand};
+ghost use Rattle.program_asks.specs.Standing.{AskedStand, HelpersStand, ProgramsHaveAsked, SmallsStand, StaticsStand};
 
 /// What asks for a helper, a small graph or a static takes nothing back of what was asked for, and neither
 /// does what asks for several.
@@ -31,4 +31,9 @@ pub fn helpers_stand()
 /// them.
 pub fn statics_stand()
     ensures { StaticsStand }
+{}
+
+/// All this holds of every program that `rtype` makes.
+pub fn programs_have_asked()
+    ensures { ProgramsHaveAsked }
 {}
