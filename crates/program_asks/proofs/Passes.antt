@@ -1,5 +1,5 @@
 -- A pass only asks for more, and its small graphs stand behind those of functions.
-use Rattle.std.proofs.Common.{◌≡◌, ◌<◌, ◌≤◌, ◌^◌, ℕ, zero, suc, ◌+◌, Bool, true, false, List, [], ◌∷◌, ◌++◌, length, slice_get, Option, Some, None, inl, inr, refl, sym, ap, subst, ◌∙◌, arith}
+use Rattle.std.proofs.Common.{◌≡◌, ◌<◌, ◌≤◌, ◌^◌, ℕ, zero, suc, ◌+◌, Bool, true, false, List, [], ◌∷◌, ◌++◌, length, slice_get, Option, Some, None, refl, sym, ap, subst, ◌∙◌, arith}
 use Rattle.std.specs.Prelude.{if◌then◌else◌}
 use Rattle.std.proofs.lemmas.Option.{slice_get_within}
 use Rattle.ll_code.specs.declared.program.LlGraph.{LlGraph}
@@ -23,7 +23,8 @@ use Rattle.rtyper_program.specs.Graphs.{graph_of}
 use Rattle.rtyper_program.specs.Program.{all_graphs, arguments_number, found_first, functions_from, next_number, number_behind, pass, plain_graphs, small_of, smalls_to, with_function, with_small, world_behind}
 use Rattle.rtyper_program.specs.Seen.{Known, is_reached}
 use Rattle.program_asks.specs.Growing.{Grows}
-use Rattle.program_asks.specs.Standing.{IsAlike, OnlyAsks, SmallsOnlyAsk, Stands, StandsAsked}
+use Rattle.program_asks.specs.Standing.{OnlyAsks, SmallsOnlyAsk, Stands, StandsAsked}
+use Rattle.program_asks.proofs.Alike.{small_is}
 use Rattle.program_asks.proofs.Fronts.{in_front, last_one, longer, stays}
 use Rattle.program_asks.proofs.Growing.{growth_is_one, same_found, smalls_grow}
 use Rattle.program_asks.proofs.Smalls.{smalls_stand}
@@ -113,14 +114,14 @@ module _ (world : World) (keeps : SmallsOnlyAsk world) where
 pub record At (smalls : List Small) (s : Small) (i : ℕ) : Type 0 where
   pub met : Small
   pub there : slice_get smalls i ≡ Some met
-  pub alike : IsAlike met s
+  pub is : met ≡ s
 
 at_one : (k : ℕ) (t : Small) (smalls : List Small) (s : Small) (n : ℕ) (b : Bool) → same_small t s ≡ b
     → (small_from (k + 1) smalls s ≡ Some n → (i : ℕ) × (n ≡ k + 1 + i) × At smalls s i) → (if b then Some k else small_from (k + 1) smalls s) ≡ Some n → (i : ℕ) × (n ≡ k + i) × At (t ∷ smalls) s i
-at_one k t smalls s n true f further g = (0, (let q : Some k ≡ Some n = g in let r : k ≡ n = cc in omega (arith, r)), record { met = t; there = refl; alike = inr f })
+at_one k t smalls s n true f further g = (0, (let q : Some k ≡ Some n = g in let r : k ≡ n = cc in omega (arith, r)), record { met = t; there = refl; is = small_is t s f })
 at_one k t smalls s n false f further g =
     let r = further g in
-    (suc r.0, (let q : n ≡ k + 1 + r.0 = r.1 in omega (arith, q)), record { met = r.2.met; there = r.2.there; alike = r.2.alike })
+    (suc r.0, (let q : n ≡ k + 1 + r.0 = r.1 in omega (arith, q)), record { met = r.2.met; there = r.2.there; is = r.2.is })
 
 at_from : (k : ℕ) (smalls : List Small) (s : Small) (n : ℕ) → small_from k smalls s ≡ Some n → (i : ℕ) × (n ≡ k + i) × At smalls s i
 at_from k [] s n e = absurd (let f : None ≡ Some n = e in cc)
@@ -130,7 +131,7 @@ at_from k (t ∷ smalls) s n e = at_one k t smalls s n (same_small t s) refl (λ
 placed_at : (s : Small) (found : Found) (o : Option ℕ) → small_from 0 found.smalls s ≡ o
     → (i : ℕ) × ((asked s found o).0 ≡ word (found.first_small + i)) × At (asked s found o).1.smalls s i
 placed_at s found (Some n) e = let r = at_from 0 found.smalls s n e in (r.0, (let q : n ≡ 0 + r.0 = r.1 in let p : n ≡ r.0 = omega (arith, q) in ap (λ i. word (found.first_small + i)) p), r.2)
-placed_at s found None e = (length found.smalls, refl, record { met = s; there = last_one found.smalls s; alike = inl refl })
+placed_at s found None e = (length found.smalls, refl, record { met = s; there = last_one found.smalls s; is = refl })
 
 pub number_at : (s : Small) (found : Found) → (i : ℕ) × ((small_number s found).0 ≡ word (found.first_small + i)) × At (small_number s found).1.smalls s i
 unfolding small_number
@@ -184,11 +185,7 @@ module _ (known : Known) (world : World) (only : OnlyAsks known world) (helped :
         let there : slice_get all.1.smalls r.0 ≡ Some r.2.met = stays (small_number s found).1.smalls all.1.smalls r.0 r.2.met grows.smalls r.2.there in
         let stood = smalls_stand world only.smalls count (plain.0, (arguments_number world plain.1).1) r.0 r.2.met none there in
         let e : all.1.first_small ≡ found.first_small = grows.first ∙ (smalls_grow s found).first in
-        record {
-          met = r.2.met;
-          alike = r.2.alike;
-          stands = at_number g (small_number s found).0 r.0 r.2.met f few stood (r.1 ∙ ap (λ k. word (k + r.0)) (sym e));
-        }
+        subst (λ t. Stands (all.0 ++ g ∷ []) world all.1 (small_number s found).0 t) r.2.is (at_number g (small_number s found).0 r.0 r.2.met f few stood (r.1 ∙ ap (λ k. word (k + r.0)) (sym e)))
 
 pub asked_stand : (known : Known) (classes : Tables) (layout : Layout) (needs : List Need) (caught : List Covers) (count : ℕ)
     → OnlyAsks known (world_behind known classes layout (helpers layout.structs needs))

@@ -1,5 +1,5 @@
 -- Small graphs stand at their numbers, where what is written takes nothing back of what was asked for.
-use Rattle.std.specs.Prelude.{◌≡◌, ◌<◌, ◌^◌, ℕ, ◌+◌, ◌⊎◌, true, List, ◌++◌, length, slice_get, Some, None}
+use Rattle.std.specs.Prelude.{◌≡◌, ◌<◌, ◌^◌, ℕ, ◌+◌, List, ◌++◌, length, slice_get, Some, None}
 use Rattle.ll_code.specs.declared.program.LlGraph.{LlGraph}
 use Rattle.ll_code.specs.declared.program.LlProgram.{LlProgram}
 use Rattle.ll_code.specs.declared.program.LlStruct.{LlStruct}
@@ -15,7 +15,7 @@ use Rattle.rtyper_layout.specs.declared.layout.Layout.{Layout}
 use Rattle.ll_helpers.specs.Helpers.{graph_for, helpers}
 use Rattle.rtyper_data.specs.declared.found.Found.{Found}
 use Rattle.rtyper_data.specs.declared.small.Small.{Small}
-use Rattle.rtyper_data.specs.Finding.{failures_of, helper_number, same_small, small_number}
+use Rattle.rtyper_data.specs.Finding.{failures_of, helper_number, small_number}
 use Rattle.rtyper_op.specs.Prebuilt.{prebuilt}
 use Rattle.rtyper_layout.specs.Types.{word}
 use Rattle.rtyper_raising.specs.Raising.{raising_blocks, raising_graph}
@@ -47,15 +47,9 @@ pub record OnlyAsks (known : Known) (world : World) : Type 0 where
   pub functions : (n : ℕ) (graph : Graph) (found : Found) → Grows found (graph_of known world n graph found).1
   pub smalls : SmallsOnlyAsk world
 
--- what was asked for stands for what is asked for now, where it is the same
-abbrev pub IsAlike : Small → Small → Type 0
-IsAlike met s = (met ≡ s) ⊎ (same_small met s ≡ true)
-
 -- a small graph that is asked for at any moment of a pass, which are those from which it is asked for to the end, stands at its number
-pub record StandsAsked (graphs : List LlGraph) (world : World) (last : Found) (s : Small) (found : Found) : Type 0 where
-  pub met : Small
-  pub alike : IsAlike met s
-  pub stands : Stands graphs world last (small_number s found).0 met
+abbrev pub StandsAsked : List LlGraph → World → Found → Small → Found → Type 0
+StandsAsked graphs world last s found = Stands graphs world last (small_number s found).0 s
 
 abbrev pub AskedStand : Type 0
 AskedStand = (known : Known) (classes : Tables) (layout : Layout) (needs : List Need) (caught : List Covers) (count : ℕ)
