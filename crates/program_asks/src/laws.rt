@@ -1,0 +1,39 @@
+// Laws of what a program asks for while it is written.
+ghost use Rattle.program_asks.specs.Growing.{GrowthIsOne, HelpersGrow, SmallsGrow, StaticsGrow};
+ghost use Rattle.program_asks.specs.Standing.{AskedStand, HelpersStand, ProgramsHaveAsked, SmallsStand, StaticsStand};
+
+/// What asks for a helper, a small graph or a static takes nothing back of what was asked for, and neither
+/// does what asks for several.
+pub fn asking_only_grows()
+    ensures helpers { HelpersGrow }
+    ensures smalls { SmallsGrow }
+    ensures statics { StaticsGrow }
+    ensures several { GrowthIsOne }
+{}
+
+/// Each small graph that is asked for has its graph, behind those of the ones before it.
+pub fn small_graphs_are_written()
+    ensures { SmallsStand }
+{}
+
+/// In what a pass writes a small graph that is asked for stands at its number, with what it asks for itself.
+pub fn small_graphs_stand()
+    ensures { AskedStand }
+{}
+
+/// In what a pass writes that asks for no helper that it was not given, a helper that is asked for stands at
+/// its number, and raises those of its failures that are covered where it is asked for.
+pub fn helpers_stand()
+    ensures { HelpersStand }
+{}
+
+/// What a pass writes has the structs of the layout, and the statics of classes where the lowering looks for
+/// them.
+pub fn statics_stand()
+    ensures { StaticsStand }
+{}
+
+/// All this holds of every program that `rtype` makes.
+pub fn programs_have_asked()
+    ensures { ProgramsHaveAsked }
+{}

@@ -1,0 +1,10 @@
+//! Laws of what a program asks for while it is written: it stands at its numbers, where what writes the
+//! program takes nothing back of what was asked for.
+#![tactic(auto)]
+
+mod laws;
+
+pub use laws::{
+    asking_only_grows, helpers_stand, programs_have_asked, small_graphs_are_written,
+    small_graphs_stand, statics_stand,
+};
