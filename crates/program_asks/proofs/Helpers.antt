@@ -27,10 +27,10 @@ use Rattle.rtyper_program.specs.Entry.{entry_graph}
 use Rattle.rtyper_program.specs.Graphs.{graph_of}
 use Rattle.rtyper_program.specs.Program.{all_graphs, arguments_number, found_first, functions_from, pass, plain_graphs, small_of, smalls_to, with_function, with_small, world_behind}
 use Rattle.rtyper_program.specs.Seen.{Known, is_reached}
-use Rattle.program_asks.specs.Growing.{Grows}
+use Rattle.growth_laws.specs.Growing.{Grows}
 use Rattle.program_asks.specs.Standing.{HasStatics, HelperStands, OnlyAsks}
-use Rattle.program_asks.proofs.Fronts.{in_front, longer, no_shorter, stays, whole}
-use Rattle.program_asks.proofs.Growing.{growth_is_one, same_found}
+use Rattle.growth_laws.proofs.Fronts.{in_front, longer, no_shorter, stays, whole}
+use Rattle.growth_laws.proofs.Growing.{growth_is_one, same_found}
 use Rattle.program_asks.proofs.Passes.{all, all_grow, blocks_grow, functions_grow, helpers_grow, plain, plain_to_all}
 
 -- ---- which need is asked for

@@ -22,11 +22,11 @@ use Rattle.rtyper_program.specs.Entry.{entry_graph}
 use Rattle.rtyper_program.specs.Graphs.{graph_of}
 use Rattle.rtyper_program.specs.Program.{all_graphs, arguments_number, found_first, functions_from, next_number, number_behind, pass, plain_graphs, small_of, smalls_to, with_function, with_small, world_behind}
 use Rattle.rtyper_program.specs.Seen.{Known, is_reached}
-use Rattle.program_asks.specs.Growing.{Grows}
+use Rattle.growth_laws.specs.Growing.{Grows}
 use Rattle.program_asks.specs.Standing.{OnlyAsks, SmallsOnlyAsk, Stands, StandsAsked}
 use Rattle.program_asks.proofs.Alike.{small_is}
-use Rattle.program_asks.proofs.Fronts.{in_front, last_one, longer, stays}
-use Rattle.program_asks.proofs.Growing.{growth_is_one, same_found, smalls_grow}
+use Rattle.growth_laws.proofs.Fronts.{in_front, last_one, longer, stays}
+use Rattle.growth_laws.proofs.Growing.{growth_is_one, same_found, smalls_grow}
 use Rattle.program_asks.proofs.Smalls.{smalls_stand}
 
 -- ---- helpers

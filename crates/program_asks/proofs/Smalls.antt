@@ -5,10 +5,10 @@ use Rattle.rtyper_data.specs.declared.found.Found.{Found}
 use Rattle.rtyper_data.specs.declared.small.Small.{Small}
 use Rattle.rtyper_class.specs.Seen.{World}
 use Rattle.rtyper_program.specs.Program.{small_of, smalls_to, with_small}
-use Rattle.program_asks.specs.Growing.{Grows}
+use Rattle.growth_laws.specs.Growing.{Grows}
 use Rattle.program_asks.specs.Standing.{SmallsOnlyAsk, Stands}
-use Rattle.program_asks.proofs.Fronts.{in_front, last_one, longer, stays}
-use Rattle.program_asks.proofs.Growing.{growth_is_one, same_found}
+use Rattle.growth_laws.proofs.Fronts.{in_front, last_one, longer, stays}
+use Rattle.growth_laws.proofs.Growing.{growth_is_one, same_found}
 
 -- where there is no item none is behind it
 none_behind : {A : Type 0} (xs : List A) (n m : ℕ) (x : A) → slice_get xs n ≡ None → n ≤ m → slice_get xs m ≡ Some x → ⊥

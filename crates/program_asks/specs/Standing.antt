@@ -24,7 +24,7 @@ use Rattle.rtyper_class.specs.Vtables.{exceptions, vtables}
 use Rattle.rtyper_program.specs.Graphs.{graph_of}
 use Rattle.rtyper_program.specs.Program.{IsSettled, found_first, pass, small_of, smalls_to, world_behind}
 use Rattle.rtyper_program.specs.Seen.{Known}
-use Rattle.program_asks.specs.Growing.{Grows}
+use Rattle.growth_laws.specs.Growing.{Grows}
 
 -- the graph at a number is that of the small graph, and what that asks for is asked for in the end
 pub record Stands (graphs : List LlGraph) (world : World) (last : Found) (n : ℕ) (s : Small) : Type 0 where

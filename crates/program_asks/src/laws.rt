@@ -1,15 +1,5 @@
 // Laws of what a program asks for while it is written.
-ghost use Rattle.program_asks.specs.Growing.{GrowthIsOne, HelpersGrow, SmallsGrow, StaticsGrow};
 ghost use Rattle.program_asks.specs.Standing.{AskedStand, HelpersStand, ProgramsHaveAsked, SmallsStand, StaticsStand};
-
-/// What asks for a helper, a small graph or a static takes nothing back of what was asked for, and neither
-/// does what asks for several.
-pub fn asking_only_grows()
-    ensures helpers { HelpersGrow }
-    ensures smalls { SmallsGrow }
-    ensures statics { StaticsGrow }
-    ensures several { GrowthIsOne }
-{}
 
 /// Each small graph that is asked for has its graph, behind those of the ones before it.
 pub fn small_graphs_are_written()

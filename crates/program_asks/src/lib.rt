@@ -5,6 +5,5 @@
 mod laws;
 
 pub use laws::{
-    asking_only_grows, helpers_stand, programs_have_asked, small_graphs_are_written,
-    small_graphs_stand, statics_stand,
+    helpers_stand, programs_have_asked, small_graphs_are_written, small_graphs_stand, statics_stand,
 };

@@ -1,5 +1,5 @@
-use Rattle.program_asks.proofs.Growing.{growth_is_one, helpers_grow, smalls_grow, statics_grow}
-use Rattle.program_asks.proofs.laws.asking_only_grows.Goals as goal
+use Rattle.growth_laws.proofs.Growing.{growth_is_one, helpers_grow, smalls_grow, statics_grow}
+use Rattle.growth_laws.proofs.laws.asking_only_grows.Goals as goal
 
 pub returns-clause-helpers : goal.returns-clause-helpers
 returns-clause-helpers c = helpers_grow

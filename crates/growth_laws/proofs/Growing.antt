@@ -6,8 +6,8 @@ use Rattle.rpy_meaning.specs.declared.row.Covers.{Covers}
 use Rattle.rtyper_data.specs.declared.found.Found.{Found}
 use Rattle.rtyper_data.specs.declared.small.Small.{Small}
 use Rattle.rtyper_data.specs.Finding.{asked, failures_of, helper_number, need_from, needed, placed, small_from, small_number, static_from, static_of}
-use Rattle.program_asks.specs.Growing.{Grows}
-use Rattle.program_asks.proofs.Fronts.{itself, longer, one_more, further}
+use Rattle.growth_laws.specs.Growing.{Grows}
+use Rattle.growth_laws.proofs.Fronts.{itself, longer, one_more, further}
 
 pub same_found : (found : Found) → Grows found found
 same_found found = record { needs = itself found.needs; caught = itself found.caught; together = refl; statics = itself found.statics; smalls = itself found.smalls; first = refl }

@@ -1,0 +1,11 @@
+// Laws of what is asked for while a program is written.
+ghost use Rattle.growth_laws.specs.Growing.{GrowthIsOne, HelpersGrow, SmallsGrow, StaticsGrow};
+
+/// What asks for a helper, a small graph or a static takes nothing back of what was asked for, and neither
+/// does what asks for several.
+pub fn asking_only_grows()
+    ensures helpers { HelpersGrow }
+    ensures smalls { SmallsGrow }
+    ensures statics { StaticsGrow }
+    ensures several { GrowthIsOne }
+{}

@@ -1,0 +1,6 @@
+//! What is lowered only asks for more: nothing is taken back of what was asked for.
+#![tactic(auto)]
+
+mod laws;
+
+pub use laws::asking_only_grows;
