@@ -59,12 +59,12 @@ same_itself n = grind (arith, nat_tests)
 pub not_same : (m n : ℕ) → (m ≡ n → ⊥) → (m == n) ≡ false
 not_same m n h = grind (arith, nat_tests, h)
 
-names_itself : (g : Ghost) (x : Value) (u : Use) → use_of g x ≡ Some u → compared x x ≡ Ok (Flag true)
+pub names_itself : (g : Ghost) (x : Value) (u : Use) → use_of g x ≡ Some u → compared x x ≡ Ok (Flag true)
 names_itself g (Ptr n) u h = ap (λ b. Ok (Flag b)) (same_itself n)
 names_itself g (Static n) u h = ap (λ b. Ok (Flag b)) (same_itself n)
 names_itself g _ u h = absurd (cc)
 
-names_other : (g : Ghost) (x y : Value) (u v : Use) → use_of g x ≡ Some u → use_of g y ≡ Some v → (x ≡ y → ⊥) → compared x y ≡ Ok (Flag false)
+pub names_other : (g : Ghost) (x y : Value) (u v : Use) → use_of g x ≡ Some u → use_of g y ≡ Some v → (x ≡ y → ⊥) → compared x y ≡ Ok (Flag false)
 names_other g (Ptr m) (Ptr n) u v h k apart = ap (λ b. Ok (Flag b)) (not_same m n (λ e. apart (ap Ptr e)))
 names_other g (Static m) (Static n) u v h k apart = ap (λ b. Ok (Flag b)) (not_same m n (λ e. apart (ap Static e)))
 names_other g (Ptr m) (Static n) u v h k apart = refl
@@ -73,7 +73,7 @@ names_other g (Ptr m) _ u v h k apart = absurd (cc)
 names_other g (Static m) _ u v h k apart = absurd (cc)
 names_other g _ y u v h k apart = absurd (cc)
 
-null_first : (g : Ghost) (y : Value) (u : Use) → use_of g y ≡ Some u → compared Null y ≡ Ok (Flag false)
+pub null_first : (g : Ghost) (y : Value) (u : Use) → use_of g y ≡ Some u → compared Null y ≡ Ok (Flag false)
 null_first g (Ptr n) u h = refl
 null_first g (Static n) u h = refl
 null_first g _ u h = absurd (cc)
@@ -81,13 +81,13 @@ null_first g _ u h = absurd (cc)
 -- ---- a comparison
 
 -- what the test of two operands tells
-record Tests (x y : COperand) (core : Core) (vs : List Meant) : Type 0 where
-  truth : Bool
-  low : compared (operand core.vars x) (operand core.vars y) ≡ Ok (Flag truth)
-  first : Meant
-  second : Meant
-  values : vs ≡ first ∷ second ∷ []
-  high : meant_identical first second ≡ Some truth
+pub record Tests (x y : COperand) (core : Core) (vs : List Meant) : Type 0 where
+  pub truth : Bool
+  pub low : compared (operand core.vars x) (operand core.vars y) ≡ Ok (Flag truth)
+  pub first : Meant
+  pub second : Meant
+  pub values : vs ≡ first ∷ second ∷ []
+  pub high : meant_identical first second ≡ Some truth
 
 module _ (around : Around) (known : Known) (place : Place) (a b : Operand) (w : Writing) (covers : Covers) (flags : kind_seen place.element ≡ kind.Flag) (ha : Comes a) (hb : Comes b) (x y : COperand)
     (written : identical around a b w.body ≡ binary_in binary.Peq type.Bool x y w.body)
@@ -153,7 +153,7 @@ module _ (around : Around) (known : Known) (place : Place) (a b : Operand) (w : 
         (on (turns (Flag t) (ap (unary_of unary.Not) (is_set_at core m (Flag it.truth) (omega (arith, room)))))
         (sets (Flag t) (is_set_at core1 m2 (Flag t) (let q = passed.room in omega (arith, room, m2_is, q))) refl))))
 
-  is_done : IsTold known around (row.Compare compare_op.Is) covers [] place (a ∷ b ∷ []) w
+  pub is_done : IsTold known around (row.Compare compare_op.Is) covers [] place (a ∷ b ∷ []) w
   is_done = record {
     ops = asks_it ∷ op.Set place.variable (Var m) ∷ [];
     new = type.Bool ∷ [];
@@ -163,7 +163,7 @@ module _ (around : Around) (known : Known) (place : Place) (a b : Operand) (w : 
     follows = λ p numbers raised arguments rest e frames core g world vs structs has stands left room inside below given good. is_follows p raised arguments rest e frames core g world (references world.heap vs) stands left inside vs given room;
   }
 
-  is_not_done : IsTold known around (row.Compare compare_op.IsNot) covers [] place (a ∷ b ∷ []) w
+  pub is_not_done : IsTold known around (row.Compare compare_op.IsNot) covers [] place (a ∷ b ∷ []) w
   is_not_done = record {
     ops = asks_it ∷ turns_it ∷ op.Set place.variable (Var m2) ∷ [];
     new = type.Bool ∷ type.Bool ∷ [];
