@@ -34,6 +34,7 @@ use Rattle.growth_laws.proofs.Fronts.{itself}
 use Rattle.growth_laws.proofs.Growing.{same_found}
 use Rattle.program_asks.specs.Asking.{LoweringOnlyAsks}
 use Rattle.program_asks.specs.Standing.{OnlyAsks}
+use Rattle.program_asks.proofs.WritingConstants.{prebuilt_grows}
 use Rattle.program_asks.proofs.WritingLinks.{branch_grows, either, give_back_grows, link_grows, taken_grows, then_grows}
 
 -- ---- exits
@@ -108,7 +109,7 @@ module _ (dicts : DictGraphsOnlyAsk) (classes : ClassGraphsOnlyAsk) where
 
 pub programs_only_ask : LoweringOnlyAsks → (known : Known) (world : World) → OnlyAsks known world
 programs_only_ask below known world = record {
-  constants = λ found. below.constants world.around known.program.sites known.annotation.same found;
+  constants = prebuilt_grows world.around known.program.sites known.annotation.same;
   functions = graph_grows below.dicts below.classes known world;
   smalls = small_of_grows below.dict_graphs below.class_graphs world;
 }
