@@ -1,2 +1,4 @@
+pub mod Data
 pub mod Fronts
 pub mod Growing
+pub mod Raising
