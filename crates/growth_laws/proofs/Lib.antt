@@ -1,2 +1,5 @@
+pub mod Data
 pub mod Fronts
 pub mod Growing
+pub mod Operating
+pub mod Raising
