@@ -1,2 +1,6 @@
+pub mod Data
+pub mod DictGraphs
+pub mod Dicts
 pub mod Fronts
 pub mod Growing
+pub mod ListGraphs
