@@ -4,3 +4,4 @@ pub mod Dicts
 pub mod Fronts
 pub mod Growing
 pub mod ListGraphs
+pub mod Raising
