@@ -1,5 +1,8 @@
 pub mod Data
+pub mod DictGraphs
+pub mod Dicts
 pub mod Fronts
 pub mod Growing
+pub mod ListGraphs
 pub mod Operating
 pub mod Raising

@@ -3,4 +3,4 @@
 
 mod laws;
 
-pub use laws::asking_only_grows;
+pub use laws::{asking_only_grows, dicts_only_ask, graphs_only_ask};
