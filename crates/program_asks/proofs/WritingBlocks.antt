@@ -30,12 +30,13 @@ use Rattle.rtyper_program.specs.Raises.{catches}
 use Rattle.rtyper_program.specs.Seen.{Known, Lowered, is_block_reached, operand_of, place_of}
 use Rattle.growth_laws.specs.Asking.{ClassGraphsOnlyAsk, ClassesOnlyAsk, DictGraphsOnlyAsk, DictsOnlyAsk}
 use Rattle.growth_laws.specs.Growing.{Grows}
+use Rattle.growth_laws.proofs.Data.{then_grows}
 use Rattle.growth_laws.proofs.Fronts.{itself}
 use Rattle.growth_laws.proofs.Growing.{same_found}
 use Rattle.program_asks.specs.Asking.{LoweringOnlyAsks}
 use Rattle.program_asks.specs.Standing.{OnlyAsks}
 use Rattle.program_asks.proofs.WritingConstants.{prebuilt_grows}
-use Rattle.program_asks.proofs.WritingLinks.{branch_grows, either, give_back_grows, link_grows, taken_grows, then_grows}
+use Rattle.program_asks.proofs.WritingLinks.{branch_grows, either, give_back_grows, link_grows, taken_grows}
 
 -- ---- exits
 

@@ -20,9 +20,10 @@ use Rattle.rtyper_op.specs.Constants.{constant_of, constant_step, parts_of, stat
 use Rattle.rtyper_op.specs.Mapped.{array_of, dict_cells, entries_from, entry_of, first_array, first_cells, mapped, mapped_by, prebuilt_by, second_array, second_cells, stored, with_entry}
 use Rattle.rtyper_op.specs.Prebuilt.{all_ready, array_cells, contents, contents_if, is_made, item_type, listed, made, prebuilt, round, rounds, site_by, site_made, sites_from, type_of_site, values_from}
 use Rattle.growth_laws.specs.Growing.{Grows}
+use Rattle.growth_laws.proofs.Data.{then_grows}
 use Rattle.growth_laws.proofs.Fronts.{itself, one_more}
 use Rattle.growth_laws.proofs.Growing.{same_found, statics_grow}
-use Rattle.program_asks.proofs.WritingLinks.{either, then_grows}
+use Rattle.program_asks.proofs.WritingLinks.{either}
 
 -- ---- constants
 

@@ -1,100 +1,38 @@
 -- The links of a graph, and the ways that an exception may take, only ask for more.
-use Rattle.std.proofs.Common.{ℕ, ◌+◌, ◌==◌, ◌&&◌, Bool, true, false, List, [], ◌∷◌, slice_get, Option, Some, None}
+use Rattle.std.proofs.Common.{ℕ, ◌+◌, Bool, true, false, List, [], ◌∷◌, slice_get, Option, Some, None}
 use Rattle.std.specs.Prelude.{if◌then◌else◌}
 use Rattle.csub_tree.specs.declared.tree.COperand.{COperand}
 use Rattle.ll_code.specs.declared.program.LlType.{LlType}
 use Rattle.ll_code.specs.declared.program.LlType.TheVariants as type
 use Rattle.ll_code.specs.declared.program.LlLink.{LlLink}
-use Rattle.ll_build.specs.declared.needs.Helper.{Helper}
-use Rattle.ll_build.specs.declared.needs.Helper.TheVariants as helper
 use Rattle.flow_graph.specs.declared.graph.Link.{Link}
-use Rattle.rtyper_layout.specs.declared.kind.Kind.{Kind}
-use Rattle.rtyper_layout.specs.declared.kind.Kind.TheVariants as kind
-use Rattle.rtyper_layout.specs.declared.layout.Layout.{Layout}
-use Rattle.rtyper_layout.specs.Layout.{is_tuple}
 use Rattle.rtyper_data.specs.declared.body.Body.{Body}
 use Rattle.rtyper_data.specs.declared.found.Found.{Found}
-use Rattle.rtyper_data.specs.declared.small.Small.{Small}
-use Rattle.rtyper_data.specs.declared.small.Small.TheVariants as small
-use Rattle.rtyper_data.specs.declared.small.Listed.TheVariants as listed
-use Rattle.rtyper_data.specs.declared.small.Keyed.TheVariants as keyed
-use Rattle.rtyper_data.specs.Converting.{by_small, converted, default_operand, helped, value_as}
 use Rattle.rtyper_data.specs.Finding.{same_type}
-use Rattle.rtyper_data.specs.Seen.{Around, Operand, Writing, kind_of, type_of, writing}
+use Rattle.rtyper_data.specs.Seen.{Writing, type_of, writing}
 use Rattle.rtyper_op.specs.declared.text.Test.{Test}
 use Rattle.rtyper_op.specs.declared.text.Test.TheVariants.{Known, By}
-use Rattle.rtyper_op.specs.Texts.{dict_truth, list_truth, truth_by, truth_of}
+use Rattle.rtyper_op.specs.Texts.{truth_of}
 use Rattle.rtyper_program.specs.declared.links.Caught.{Caught}
 use Rattle.rtyper_program.specs.Handlers.{Work, any_other, handler, handlers, land, landing, taken, test_of, tested}
 use Rattle.rtyper_program.specs.Links.{arguments, branch, by_flag, by_test, flag_of, give_as, give_back, inputs_at, link_of, passed, read_as, with_argument, with_passed}
 use Rattle.rtyper_program.specs.Seen.{Lowered, operand_of, type_at}
 use Rattle.growth_laws.specs.Growing.{Grows}
-use Rattle.growth_laws.proofs.Growing.{growth_is_one, helpers_grow, same_found, smalls_grow}
-
-pub then_grows : {a b c : Found} → Grows a b → Grows b c → Grows a c
-then_grows {a} {b} {c} g h = growth_is_one a b c g h
+use Rattle.growth_laws.proofs.Data.{then_grows, value_as_grows}
+use Rattle.growth_laws.proofs.Growing.{same_found, smalls_grow}
+use Rattle.growth_laws.proofs.Operating.{truth_of_grows}
 
 -- by whichever is taken
 pub either : {A : Type 0} (before : Found) (f : A → Found) (b : Bool) (x y : A) → Grows before (f x) → Grows before (f y) → Grows before (f (if b then x else y))
 either before f true x y g h = g
 either before f false x y g h = h
 
--- ---- values
-
-helped_grows : (h : Helper) (gives : LlType) (xs : List COperand) (w : Writing) → Grows w.found (helped h gives xs w).1.found
-unfolding helped
-helped_grows h gives xs w = helpers_grow h w.found
-
-by_small_grows : (s : Small) (gives : LlType) (xs : List COperand) (w : Writing) → Grows w.found (by_small s gives xs w).1.found
-unfolding by_small
-by_small_grows s gives xs w = smalls_grow s w.found
-
-converted_grows : (layout : Layout) (x : COperand) (from to : LlType) (w : Writing) → Grows w.found (converted layout x from to w).1.found
-converted_grows layout x type.Char (type.Ptr n) w =
-    either w.found (λ made. made.1.found) (n == 0) (helped helper.StrOfChar (type.Ptr n) (x ∷ []) w) (default_operand (type.Ptr n), w) (helped_grows helper.StrOfChar (type.Ptr n) (x ∷ []) w) (same_found w.found)
-converted_grows layout x (type.Ptr m) (type.Ptr n) w =
-    either w.found (λ made. made.1.found) (is_tuple layout m && is_tuple layout n) (by_small (small.Cast m n) (type.Ptr n) (x ∷ []) w) (default_operand (type.Ptr n), w)
-    (by_small_grows (small.Cast m n) (type.Ptr n) (x ∷ []) w) (same_found w.found)
-converted_grows layout x from to w = same_found w.found
-
-value_grows : (layout : Layout) (x : COperand) (from to : LlType) (w : Writing) → Grows w.found (value_as layout x from to w).1.found
-unfolding value_as
-value_grows layout x from to w = either w.found (λ made. made.1.found) (same_type from to) (x, w) (converted layout x from to w) (same_found w.found) (converted_grows layout x from to w)
-
--- ---- truth
-
-list_truth_grows : (t : LlType) (x : COperand) (w : Writing) → Grows w.found (list_truth t x w).1.found
-list_truth_grows (type.Ptr n) x w = by_small_grows (small.Listed (listed.Truth n)) type.Bool (x ∷ []) w
-list_truth_grows t x w = same_found w.found
-
-dict_truth_grows : (t : LlType) (x : COperand) (w : Writing) → Grows w.found (dict_truth t x w).1.found
-dict_truth_grows (type.Ptr n) x w = by_small_grows (small.Keyed (keyed.Truth n)) type.Bool (x ∷ []) w
-dict_truth_grows t x w = same_found w.found
-
-truth_by_grows : (k : Kind) (around : Around) (a : Operand) (w : Writing) → Grows w.found (truth_by k around a w).1.found
-truth_by_grows kind.Word around a w = same_found w.found
-truth_by_grows kind.Flag around a w = same_found w.found
-truth_by_grows kind.Nothing around a w = same_found w.found
-truth_by_grows kind.Text around a w = helped_grows helper.StrTruth type.Bool (a.x ∷ []) w
-truth_by_grows kind.MaybeText around a w = helped_grows helper.StrTruth type.Bool (a.x ∷ []) w
-truth_by_grows kind.MaybeInstance around a w = same_found w.found
-truth_by_grows kind.MaybeFunction around a w = same_found w.found
-truth_by_grows kind.List around a w = list_truth_grows (type_of around a) a.x w
-truth_by_grows kind.MaybeList around a w = list_truth_grows (type_of around a) a.x w
-truth_by_grows kind.Dict around a w = dict_truth_grows (type_of around a) a.x w
-truth_by_grows kind.MaybeDict around a w = dict_truth_grows (type_of around a) a.x w
-truth_by_grows _ around a w = same_found w.found
-
-truth_grows : (around : Around) (a : Operand) (w : Writing) → Grows w.found (truth_of around a w).1.found
-unfolding truth_of
-truth_grows around a w = truth_by_grows (kind_of a) around a w
-
 module _ (l : Lowered) where
   -- ---- links
 
   passed_grows : (caught : Option Caught) (v : Option ℕ) (to : LlType) (w : Writing) → Grows w.found (passed l caught v to w).1.found
   passed_grows caught None to w = same_found w.found
-  passed_grows caught (Some v) to w = value_grows l.world.around.layout (read_as l caught v).0 (read_as l caught v).1 to w
+  passed_grows caught (Some v) to w = value_as_grows l.world.around.layout (read_as l caught v).0 (read_as l caught v).1 to w
 
   argument_grows : (caught : Option Caught) (v : Option ℕ) (to : LlType) (made : List COperand × Writing) → Grows made.1.found (with_argument l caught v to made).1.found
   argument_grows caught v to made =
@@ -122,11 +60,11 @@ module _ (l : Lowered) where
   pub branch_grows : (v : ℕ) (there elsewhere : Link) (w : Writing) → Grows w.found (branch l v there elsewhere w).1.found
   unfolding branch
   branch_grows v there elsewhere w =
-      then_grows (truth_grows l.world.around (operand_of l v) w) (test_grows there elsewhere (truth_of l.world.around (operand_of l v) w).0 (truth_of l.world.around (operand_of l v) w).1)
+      then_grows (truth_of_grows l.world.around (operand_of l v) w) (test_grows there elsewhere (truth_of l.world.around (operand_of l v) w).0 (truth_of l.world.around (operand_of l v) w).1)
 
   give_as_grows : (v : ℕ) (to : LlType) (w : Writing) → Grows w.found (give_as l v to w).1.found
   give_as_grows v type.Void w = same_found w.found
-  give_as_grows v to w = value_grows l.world.around.layout (operand_of l v).x (type_of l.world.around (operand_of l v)) to w
+  give_as_grows v to w = value_as_grows l.world.around.layout (operand_of l v).x (type_of l.world.around (operand_of l v)) to w
 
   pub give_back_grows : (v : ℕ) (w : Writing) → Grows w.found (give_back l v w).1.found
   unfolding give_back
