@@ -28,9 +28,11 @@ use Rattle.rtyper_program.specs.Links.{link_of}
 use Rattle.rtyper_program.specs.Program.{small_of}
 use Rattle.rtyper_program.specs.Raises.{catches}
 use Rattle.rtyper_program.specs.Seen.{Known, Lowered, is_block_reached, operand_of, place_of}
-use Rattle.growth_laws.specs.Asking.{ClassGraphsOnlyAsk, ClassesOnlyAsk, DictGraphsOnlyAsk, DictsOnlyAsk}
+use Rattle.growth_laws.specs.Asking.{ClassGraphsOnlyAsk, ClassesOnlyAsk}
 use Rattle.growth_laws.specs.Growing.{Grows}
 use Rattle.growth_laws.proofs.Data.{then_grows}
+use Rattle.growth_laws.proofs.DictGraphs.{dict_graph_grows}
+use Rattle.growth_laws.proofs.Dicts.{lower_dict_op_grows}
 use Rattle.growth_laws.proofs.Fronts.{itself}
 use Rattle.growth_laws.proofs.Growing.{same_found}
 use Rattle.program_asks.specs.Asking.{LoweringOnlyAsks}
@@ -65,9 +67,9 @@ module _ (l : Lowered) where
 covered_grows : (c : Covers) (w : Writing) → Grows w.found (with_covered c w).found
 covered_grows c w = record { needs = itself w.found.needs; caught = itself w.found.caught; together = refl; statics = itself w.found.statics; smalls = itself w.found.smalls; first = refl }
 
-module _ (dicts : DictsOnlyAsk) (classes : ClassesOnlyAsk) where
+module _ (classes : ClassesOnlyAsk) where
   lowered_grows : (world : World) (o : RowOp) (place : Place) (args : List Operand) (w : Writing) → Grows w.found (lowered world o place args w).found
-  lowered_grows world o place args w = either w.found (λ (made : Writing). made.found) _ _ _ (dicts world.around o place args w) (classes world o place args w)
+  lowered_grows world o place args w = either w.found (λ (made : Writing). made.found) _ _ _ (lower_dict_op_grows world.around o place args w) (classes world o place args w)
 
   module _ (l : Lowered) where
     op_grows : (o : Op) (w : Writing) → Grows w.found (op_of l o w).found
@@ -101,9 +103,9 @@ module _ (dicts : DictsOnlyAsk) (classes : ClassesOnlyAsk) where
   graph_grows known world n graph found =
       blocks_grow (lowered_graph known world n graph) 0 graph.blocks ([], work (writing found (record { types = variables known world n; ops = [] })) (nothing_behind graph.blocks))
 
-module _ (dicts : DictGraphsOnlyAsk) (classes : ClassGraphsOnlyAsk) where
+module _ (classes : ClassGraphsOnlyAsk) where
   pub small_of_grows : (world : World) (s : Small) (found : Found) → Grows found (small_of world s found).1
-  small_of_grows world (small.Keyed keyed) found = dicts world.around.layout keyed found
+  small_of_grows world (small.Keyed keyed) found = dict_graph_grows world.around.layout keyed found
   small_of_grows world other found = classes world other found
 
 -- ---- programs
@@ -111,6 +113,6 @@ module _ (dicts : DictGraphsOnlyAsk) (classes : ClassGraphsOnlyAsk) where
 pub programs_only_ask : LoweringOnlyAsks → (known : Known) (world : World) → OnlyAsks known world
 programs_only_ask below known world = record {
   constants = prebuilt_grows world.around known.program.sites known.annotation.same;
-  functions = graph_grows below.dicts below.classes known world;
-  smalls = small_of_grows below.dict_graphs below.class_graphs world;
+  functions = graph_grows below.classes known world;
+  smalls = small_of_grows below.class_graphs world;
 }

@@ -1,14 +1,12 @@
 -- What the premise that a program's writing only asks for more comes down to.
 use Rattle.rtyper_class.specs.Seen.{World}
 use Rattle.rtyper_program.specs.Seen.{Known}
-use Rattle.growth_laws.specs.Asking.{ClassGraphsOnlyAsk, ClassesOnlyAsk, DictGraphsOnlyAsk, DictsOnlyAsk}
+use Rattle.growth_laws.specs.Asking.{ClassGraphsOnlyAsk, ClassesOnlyAsk}
 use Rattle.program_asks.specs.Standing.{OnlyAsks}
 
--- of what is below `rtyper_program`, the operations and the graphs of dicts and classes only ask for more
+-- the operations and the graphs of classes only ask for more
 pub record LoweringOnlyAsks : Type 0 where
-  pub dicts : DictsOnlyAsk
   pub classes : ClassesOnlyAsk
-  pub dict_graphs : DictGraphsOnlyAsk
   pub class_graphs : ClassGraphsOnlyAsk
 
 -- so does all that writes a program

@@ -29,8 +29,7 @@ pub fn programs_have_asked()
     ensures { ProgramsHaveAsked }
 {}
 
-/// Where the operations and the graphs of dicts and classes only ask for more, so does all that writes a
-/// program.
+/// Where the operations and the graphs of classes only ask for more, so does all that writes a program.
 pub fn programs_only_ask()
     ensures { ProgramsOnlyAsk }
 {}
