@@ -4,4 +4,5 @@ pub mod Dicts
 pub mod Fronts
 pub mod Growing
 pub mod ListGraphs
+pub mod Lists
 pub mod Raising
