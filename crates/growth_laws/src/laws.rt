@@ -1,4 +1,5 @@
 // Laws of what is asked for while a program is written.
+ghost use Rattle.growth_laws.specs.Asking.{OperationsOnlyAsk, RaisingOnlyAsks};
 ghost use Rattle.growth_laws.specs.Growing.{GrowthIsOne, HelpersGrow, SmallsGrow, StaticsGrow};
 
 /// What asks for a helper, a small graph or a static takes nothing back of what was asked for, and neither
@@ -8,4 +9,14 @@ pub fn asking_only_grows()
     ensures smalls { SmallsGrow }
     ensures statics { StaticsGrow }
     ensures several { GrowthIsOne }
+{}
+
+/// What an operation is lowered to asks for helpers, small graphs and statics, and takes back none that was asked for.
+pub fn operations_only_ask()
+    ensures { OperationsOnlyAsk }
+{}
+
+/// A helper whose failures raise exceptions asks for the graphs that raise them, and takes back nothing that was asked for.
+pub fn raising_only_asks()
+    ensures { RaisingOnlyAsks }
 {}

@@ -3,4 +3,4 @@
 
 mod laws;
 
-pub use laws::asking_only_grows;
+pub use laws::{asking_only_grows, operations_only_ask, raising_only_asks};
