@@ -1,3 +1,5 @@
+pub mod ClassGraphs
+pub mod Classes
 pub mod Data
 pub mod DictGraphs
 pub mod Dicts
@@ -5,4 +7,5 @@ pub mod Fronts
 pub mod Growing
 pub mod ListGraphs
 pub mod Lists
+pub mod Operating
 pub mod Raising

@@ -21,12 +21,12 @@ use Rattle.rtyper_list.specs.Displays.{bounds, but_last, but_last_to, comprehens
 use Rattle.rtyper_list.specs.Items.{delete, has_item, index, is_within, len, placed, pop, shape_in, store, walk, walk_item, within}
 use Rattle.rtyper_list.specs.Methods.{append, extend, extend_by, extend_if, extended, insert, item_given, join, method, of_one as method_of_one, of_three as method_of_three, of_two as method_of_two, reverse, split, split_to, text_there}
 use Rattle.rtyper_list.specs.Lowering.{fails, first_is_list, first_of_one, first_of_three, first_of_two, joined, joins, lower_list_op, lowered, lowered_unless, method_of, method_of_list, method_of_two as any_method_of_two, of_one, of_some, of_three, of_two, other, second_of_two, slice_or, split_by, splits, sum, sum_or, within_or}
-use Rattle.growth_laws.specs.Asking.{OperationsOnlyAsk}
 use Rattle.growth_laws.specs.Growing.{Grows}
 use Rattle.growth_laws.proofs.Growing.{same_found}
 use Rattle.growth_laws.proofs.Data.{by_small_grows, give_binary_grows, give_grows, given_grows, if_written, present_grows, then_grows}
 use Rattle.growth_laws.proofs.DictGraphs.{listed_grows}
 use Rattle.growth_laws.proofs.Dicts.{nothing_fails}
+use Rattle.growth_laws.proofs.Operating.{lower_op_grows}
 
 -- ---- lists, and calls of their graphs
 
@@ -237,112 +237,111 @@ split_grows around place a byte w = split_to_grows around place a byte (list_at 
 
 -- ---- by the operands; where no operand is a list, an operation is lowered as others are
 
-module _ (lower_op_grows : OperationsOnlyAsk) where
-  method_of_list_grows : (around : Around) (o : RowOp) (place : Place) (name : List ℕ) (args : List Operand) (w : Writing) → Grows w.found (method_of_list around o place name args w).found
-  unfolding method_of_list
-  method_of_list_grows around o place name args w = if_written _ _ (first_is_list args) (method_grows around place name args w) (lower_op_grows around o place args w)
+method_of_list_grows : (around : Around) (o : RowOp) (place : Place) (name : List ℕ) (args : List Operand) (w : Writing) → Grows w.found (method_of_list around o place name args w).found
+unfolding method_of_list
+method_of_list_grows around o place name args w = if_written _ _ (first_is_list args) (method_grows around place name args w) (lower_op_grows around o place args w)
 
-  joined_grows : (around : Around) (o : RowOp) (place : Place) (a b : Operand) (w : Writing) → Grows w.found (joined around o place a b w).found
-  unfolding joined
-  joined_grows around o place a b w = if_written _ _ (joins a b) (join_grows around place a b w) (lower_op_grows around o place (a ∷ b ∷ []) w)
+joined_grows : (around : Around) (o : RowOp) (place : Place) (a b : Operand) (w : Writing) → Grows w.found (joined around o place a b w).found
+unfolding joined
+joined_grows around o place a b w = if_written _ _ (joins a b) (join_grows around place a b w) (lower_op_grows around o place (a ∷ b ∷ []) w)
 
-  split_by_grows : (around : Around) (o : RowOp) (place : Place) (a b : Operand) (w : Writing) → Grows w.found (split_by around o place a b w).found
-  unfolding split_by
-  split_by_grows around o place a b w = if_written _ _ (splits a b) (split_grows around place a b.x w) (lower_op_grows around o place (a ∷ b ∷ []) w)
+split_by_grows : (around : Around) (o : RowOp) (place : Place) (a b : Operand) (w : Writing) → Grows w.found (split_by around o place a b w).found
+unfolding split_by
+split_by_grows around o place a b w = if_written _ _ (splits a b) (split_grows around place a b.x w) (lower_op_grows around o place (a ∷ b ∷ []) w)
 
-  any_method_of_two_grows : (around : Around) (o : RowOp) (place : Place) (name : List ℕ) (a b : Operand) (w : Writing) → Grows w.found (any_method_of_two around o place name a b w).found
-  unfolding any_method_of_two
-  any_method_of_two_grows around o place name a b w =
-      if_written _ _ (bytes_eq name (codes "join")) (joined_grows around o place a b w)
-      (if_written _ _ (bytes_eq name (codes "split")) (split_by_grows around o place a b w) (method_of_list_grows around o place name (a ∷ b ∷ []) w))
+any_method_of_two_grows : (around : Around) (o : RowOp) (place : Place) (name : List ℕ) (a b : Operand) (w : Writing) → Grows w.found (any_method_of_two around o place name a b w).found
+unfolding any_method_of_two
+any_method_of_two_grows around o place name a b w =
+    if_written _ _ (bytes_eq name (codes "join")) (joined_grows around o place a b w)
+    (if_written _ _ (bytes_eq name (codes "split")) (split_by_grows around o place a b w) (method_of_list_grows around o place name (a ∷ b ∷ []) w))
 
-  method_of_grows : (around : Around) (o : RowOp) (place : Place) (name : List ℕ) (args : List Operand) (w : Writing) → Grows w.found (method_of around o place name args w).found
-  unfolding method_of
-  method_of_grows around o place name (a ∷ b ∷ []) w = any_method_of_two_grows around o place name a b w
-  method_of_grows around o place name args w = method_of_list_grows around o place name args w
+method_of_grows : (around : Around) (o : RowOp) (place : Place) (name : List ℕ) (args : List Operand) (w : Writing) → Grows w.found (method_of around o place name args w).found
+unfolding method_of
+method_of_grows around o place name (a ∷ b ∷ []) w = any_method_of_two_grows around o place name a b w
+method_of_grows around o place name args w = method_of_list_grows around o place name args w
 
-  first_of_one_grows : (around : Around) (o : RowOp) (place : Place) (a : Operand) (w : Writing) → Grows w.found (first_of_one around o place a w).found
-  unfolding first_of_one
-  first_of_one_grows around row.Len place a w = len_grows around place a w
-  first_of_one_grows around (row.AllButLast site) place a w = but_last_grows around place a w
-  first_of_one_grows around (row.Walk site) place a w = walk_grows around place a w
-  first_of_one_grows around o place a w = lower_op_grows around o place (a ∷ []) w
+first_of_one_grows : (around : Around) (o : RowOp) (place : Place) (a : Operand) (w : Writing) → Grows w.found (first_of_one around o place a w).found
+unfolding first_of_one
+first_of_one_grows around row.Len place a w = len_grows around place a w
+first_of_one_grows around (row.AllButLast site) place a w = but_last_grows around place a w
+first_of_one_grows around (row.Walk site) place a w = walk_grows around place a w
+first_of_one_grows around o place a w = lower_op_grows around o place (a ∷ []) w
 
-  sum_grows : (around : Around) (place : Place) (a b : Operand) (w : Writing) → Grows w.found (sum around place a b w).found
-  unfolding sum
-  sum_grows around place a b w = if_written _ _ (is_list a && is_list b) (concat_grows around place a b w) (nothing_fails around place w)
+sum_grows : (around : Around) (place : Place) (a b : Operand) (w : Writing) → Grows w.found (sum around place a b w).found
+unfolding sum
+sum_grows around place a b w = if_written _ _ (is_list a && is_list b) (concat_grows around place a b w) (nothing_fails around place w)
 
-  within_or_grows : (around : Around) (o : RowOp) (place : Place) (reversed : Bool) (a b : Operand) (w : Writing) → Grows w.found (within_or around o place reversed a b w).found
-  unfolding within_or
-  within_or_grows around o place reversed a b w = if_written _ _ (is_list b) (within_grows around place reversed a b w) (lower_op_grows around o place (a ∷ b ∷ []) w)
+within_or_grows : (around : Around) (o : RowOp) (place : Place) (reversed : Bool) (a b : Operand) (w : Writing) → Grows w.found (within_or around o place reversed a b w).found
+unfolding within_or
+within_or_grows around o place reversed a b w = if_written _ _ (is_list b) (within_grows around place reversed a b w) (lower_op_grows around o place (a ∷ b ∷ []) w)
 
-  sum_or_grows : (around : Around) (o : RowOp) (place : Place) (a b : Operand) (w : Writing) → Grows w.found (sum_or around o place a b w).found
-  unfolding sum_or
-  sum_or_grows around o place a b w = if_written _ _ (is_list b && is_none a) (nothing_fails around place w) (lower_op_grows around o place (a ∷ b ∷ []) w)
+sum_or_grows : (around : Around) (o : RowOp) (place : Place) (a b : Operand) (w : Writing) → Grows w.found (sum_or around o place a b w).found
+unfolding sum_or
+sum_or_grows around o place a b w = if_written _ _ (is_list b && is_none a) (nothing_fails around place w) (lower_op_grows around o place (a ∷ b ∷ []) w)
 
-  second_of_two_grows : (around : Around) (o : RowOp) (place : Place) (a b : Operand) (w : Writing) → Grows w.found (second_of_two around o place a b w).found
-  unfolding second_of_two
-  second_of_two_grows around (row.Compare compared.Within) place a b w = within_or_grows around (row.Compare compared.Within) place false a b w
-  second_of_two_grows around (row.Compare compared.NotWithin) place a b w = within_or_grows around (row.Compare compared.NotWithin) place true a b w
-  second_of_two_grows around (row.Binary bin.Add site) place a b w = sum_or_grows around (row.Binary bin.Add site) place a b w
-  second_of_two_grows around row.AddTo place a b w = sum_or_grows around row.AddTo place a b w
-  second_of_two_grows around o place a b w = lower_op_grows around o place (a ∷ b ∷ []) w
+second_of_two_grows : (around : Around) (o : RowOp) (place : Place) (a b : Operand) (w : Writing) → Grows w.found (second_of_two around o place a b w).found
+unfolding second_of_two
+second_of_two_grows around (row.Compare compared.Within) place a b w = within_or_grows around (row.Compare compared.Within) place false a b w
+second_of_two_grows around (row.Compare compared.NotWithin) place a b w = within_or_grows around (row.Compare compared.NotWithin) place true a b w
+second_of_two_grows around (row.Binary bin.Add site) place a b w = sum_or_grows around (row.Binary bin.Add site) place a b w
+second_of_two_grows around row.AddTo place a b w = sum_or_grows around row.AddTo place a b w
+second_of_two_grows around o place a b w = lower_op_grows around o place (a ∷ b ∷ []) w
 
-  first_of_two_grows : (around : Around) (o : RowOp) (place : Place) (a b : Operand) (w : Writing) → Grows w.found (first_of_two around o place a b w).found
-  unfolding first_of_two
-  first_of_two_grows around (row.Index i) place a b w = index_grows around place a b.x w
-  first_of_two_grows around row.DeleteIndex place a b w = delete_grows around place a b.x w
-  first_of_two_grows around (row.Binary bin.Add site) place a b w = sum_grows around place a b w
-  first_of_two_grows around (row.Binary bin.Mul site) place a b w = repeat_grows around place a b.x w
-  first_of_two_grows around row.AddTo place a b w = extend_grows around place a b true w
-  first_of_two_grows around row.AddItem place a b w = append_grows around place a b w
-  first_of_two_grows around (row.HasItem None) place a b w = has_item_grows around place a b.x w
-  first_of_two_grows around (row.Item None) place a b w = walk_item_grows around place a b.x w
-  first_of_two_grows around o place a b w = second_of_two_grows around o place a b w
+first_of_two_grows : (around : Around) (o : RowOp) (place : Place) (a b : Operand) (w : Writing) → Grows w.found (first_of_two around o place a b w).found
+unfolding first_of_two
+first_of_two_grows around (row.Index i) place a b w = index_grows around place a b.x w
+first_of_two_grows around row.DeleteIndex place a b w = delete_grows around place a b.x w
+first_of_two_grows around (row.Binary bin.Add site) place a b w = sum_grows around place a b w
+first_of_two_grows around (row.Binary bin.Mul site) place a b w = repeat_grows around place a b.x w
+first_of_two_grows around row.AddTo place a b w = extend_grows around place a b true w
+first_of_two_grows around row.AddItem place a b w = append_grows around place a b w
+first_of_two_grows around (row.HasItem None) place a b w = has_item_grows around place a b.x w
+first_of_two_grows around (row.Item None) place a b w = walk_item_grows around place a b.x w
+first_of_two_grows around o place a b w = second_of_two_grows around o place a b w
 
-  of_two_grows : (around : Around) (o : RowOp) (place : Place) (a b : Operand) (w : Writing) → Grows w.found (of_two around o place a b w).found
-  unfolding of_two
-  of_two_grows around o place a b w = if_written _ _ (is_list a) (first_of_two_grows around o place a b w) (second_of_two_grows around o place a b w)
+of_two_grows : (around : Around) (o : RowOp) (place : Place) (a b : Operand) (w : Writing) → Grows w.found (of_two around o place a b w).found
+unfolding of_two
+of_two_grows around o place a b w = if_written _ _ (is_list a) (first_of_two_grows around o place a b w) (second_of_two_grows around o place a b w)
 
-  of_one_grows : (around : Around) (o : RowOp) (place : Place) (a : Operand) (w : Writing) → Grows w.found (of_one around o place a w).found
-  unfolding of_one
-  of_one_grows around o place a w = if_written _ _ (is_list a) (first_of_one_grows around o place a w) (lower_op_grows around o place (a ∷ []) w)
+of_one_grows : (around : Around) (o : RowOp) (place : Place) (a : Operand) (w : Writing) → Grows w.found (of_one around o place a w).found
+unfolding of_one
+of_one_grows around o place a w = if_written _ _ (is_list a) (first_of_one_grows around o place a w) (lower_op_grows around o place (a ∷ []) w)
 
-  first_of_three_grows : (around : Around) (o : RowOp) (place : Place) (a b c : Operand) (w : Writing) → Grows w.found (first_of_three around o place a b c w).found
-  unfolding first_of_three
-  first_of_three_grows around row.StoreIndex place a b c w = store_grows around place a b.x c w
-  first_of_three_grows around o place a b c w = lower_op_grows around o place (a ∷ b ∷ c ∷ []) w
+first_of_three_grows : (around : Around) (o : RowOp) (place : Place) (a b c : Operand) (w : Writing) → Grows w.found (first_of_three around o place a b c w).found
+unfolding first_of_three
+first_of_three_grows around row.StoreIndex place a b c w = store_grows around place a b.x c w
+first_of_three_grows around o place a b c w = lower_op_grows around o place (a ∷ b ∷ c ∷ []) w
 
-  of_three_grows : (around : Around) (o : RowOp) (place : Place) (a b c : Operand) (w : Writing) → Grows w.found (of_three around o place a b c w).found
-  unfolding of_three
-  of_three_grows around o place a b c w = if_written _ _ (is_list a) (first_of_three_grows around o place a b c w) (lower_op_grows around o place (a ∷ b ∷ c ∷ []) w)
+of_three_grows : (around : Around) (o : RowOp) (place : Place) (a b c : Operand) (w : Writing) → Grows w.found (of_three around o place a b c w).found
+unfolding of_three
+of_three_grows around o place a b c w = if_written _ _ (is_list a) (first_of_three_grows around o place a b c w) (lower_op_grows around o place (a ∷ b ∷ c ∷ []) w)
 
-  other_grows : (around : Around) (o : RowOp) (place : Place) (args : List Operand) (w : Writing) → Grows w.found (other around o place args w).found
-  unfolding other
-  other_grows around o place args w = lower_op_grows around o place args w
+other_grows : (around : Around) (o : RowOp) (place : Place) (args : List Operand) (w : Writing) → Grows w.found (other around o place args w).found
+unfolding other
+other_grows around o place args w = lower_op_grows around o place args w
 
-  of_some_grows : (around : Around) (o : RowOp) (place : Place) (args : List Operand) (w : Writing) → Grows w.found (of_some around o place args w).found
-  unfolding of_some
-  of_some_grows around o place (a ∷ []) w = of_one_grows around o place a w
-  of_some_grows around o place (a ∷ b ∷ []) w = of_two_grows around o place a b w
-  of_some_grows around o place (a ∷ b ∷ c ∷ []) w = of_three_grows around o place a b c w
-  of_some_grows around o place args w = other_grows around o place args w
+of_some_grows : (around : Around) (o : RowOp) (place : Place) (args : List Operand) (w : Writing) → Grows w.found (of_some around o place args w).found
+unfolding of_some
+of_some_grows around o place (a ∷ []) w = of_one_grows around o place a w
+of_some_grows around o place (a ∷ b ∷ []) w = of_two_grows around o place a b w
+of_some_grows around o place (a ∷ b ∷ c ∷ []) w = of_three_grows around o place a b c w
+of_some_grows around o place args w = other_grows around o place args w
 
-  slice_or_grows : (around : Around) (o : RowOp) (place : Place) (low high : Bool) (args : List Operand) (w : Writing) → Grows w.found (slice_or around o place low high args w).found
-  unfolding slice_or
-  slice_or_grows around o place low high args w = if_written _ _ (first_is_list args) (slice_grows around place low high args w) (lower_op_grows around o place args w)
+slice_or_grows : (around : Around) (o : RowOp) (place : Place) (low high : Bool) (args : List Operand) (w : Writing) → Grows w.found (slice_or around o place low high args w).found
+unfolding slice_or
+slice_or_grows around o place low high args w = if_written _ _ (first_is_list args) (slice_grows around place low high args w) (lower_op_grows around o place args w)
 
-  lowered_grows : (around : Around) (o : RowOp) (place : Place) (args : List Operand) (w : Writing) → Grows w.found (lowered around o place args w).found
-  unfolding lowered
-  lowered_grows around (row.List site) place args w = display_grows around place args w
-  lowered_grows around (row.Comprehension site) place args w = comprehension_grows around place w
-  lowered_grows around (row.Method name site) place args w = method_of_grows around (row.Method name site) place name args w
-  lowered_grows around (row.Slice site low high) place args w = slice_or_grows around (row.Slice site low high) place low high args w
-  lowered_grows around o place args w = of_some_grows around o place args w
+lowered_grows : (around : Around) (o : RowOp) (place : Place) (args : List Operand) (w : Writing) → Grows w.found (lowered around o place args w).found
+unfolding lowered
+lowered_grows around (row.List site) place args w = display_grows around place args w
+lowered_grows around (row.Comprehension site) place args w = comprehension_grows around place w
+lowered_grows around (row.Method name site) place args w = method_of_grows around (row.Method name site) place name args w
+lowered_grows around (row.Slice site low high) place args w = slice_or_grows around (row.Slice site low high) place low high args w
+lowered_grows around o place args w = of_some_grows around o place args w
 
-  lowered_unless_grows : (c : Bool) (around : Around) (o : RowOp) (place : Place) (args : List Operand) (w : Writing) → Grows w.found (lowered_unless c around o place args w).found
-  lowered_unless_grows true around o place args w = nothing_fails around place w
-  lowered_unless_grows false around o place args w = lowered_grows around o place args w
+lowered_unless_grows : (c : Bool) (around : Around) (o : RowOp) (place : Place) (args : List Operand) (w : Writing) → Grows w.found (lowered_unless c around o place args w).found
+lowered_unless_grows true around o place args w = nothing_fails around place w
+lowered_unless_grows false around o place args w = lowered_grows around o place args w
 
-  pub lower_list_op_grows : (around : Around) (o : RowOp) (place : Place) (args : List Operand) (w : Writing) → Grows w.found (lower_list_op around o place args w).found
-  lower_list_op_grows around o place args w = if_written _ _ (is_never args) (lower_op_grows around o place args w) (lowered_unless_grows (fails o args) around o place args w)
+pub lower_list_op_grows : (around : Around) (o : RowOp) (place : Place) (args : List Operand) (w : Writing) → Grows w.found (lower_list_op around o place args w).found
+lower_list_op_grows around o place args w = if_written _ _ (is_never args) (lower_op_grows around o place args w) (lowered_unless_grows (fails o args) around o place args w)
