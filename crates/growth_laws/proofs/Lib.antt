@@ -1,8 +1,11 @@
+pub mod ClassGraphs
+pub mod Classes
 pub mod Data
 pub mod DictGraphs
 pub mod Dicts
 pub mod Fronts
 pub mod Growing
 pub mod ListGraphs
+pub mod Lists
 pub mod Operating
 pub mod Raising

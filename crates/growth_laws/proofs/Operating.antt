@@ -25,14 +25,12 @@ use Rattle.rtyper_layout.specs.declared.kind.Kind.TheVariants as kind
 use Rattle.rtyper_layout.specs.Kinds.{is_text, is_text_or_none}
 use Rattle.rtyper_layout.specs.Layout.{is_tuple}
 use Rattle.rtyper_layout.specs.Types.{type_of as type_of_element, type_seen}
-use Rattle.rtyper_data.specs.declared.body.Body.{Body}
 use Rattle.rtyper_data.specs.declared.found.Found.{Found}
 use Rattle.rtyper_data.specs.declared.small.Small.TheVariants as small
 use Rattle.rtyper_data.specs.declared.small.Listed.TheVariants as listed
 use Rattle.rtyper_data.specs.declared.small.Keyed.TheVariants as keyed
 use Rattle.rtyper_data.specs.Comparing.{compare, flag}
 use Rattle.rtyper_data.specs.Converting.{by_small, give_helped, given, landing}
-use Rattle.rtyper_data.specs.Finding.{helper_number}
 use Rattle.rtyper_data.specs.Numbers.{binary_of, word}
 use Rattle.rtyper_data.specs.Seen.{Around, Operand, Place, kind_of, operand_at, push, type_at, type_of, Writing}
 use Rattle.rtyper_data.specs.Tuples.{fields_of, length_of, place_of}
@@ -40,7 +38,7 @@ use Rattle.rtyper_op.specs.declared.text.Test.{Test}
 use Rattle.rtyper_op.specs.declared.text.Test.TheVariants.{Known, By}
 use Rattle.rtyper_op.specs.Calls.{argument, argument_if, arguments, arguments_for, arguments_from, call, call_giving, constant_for, number_of, stand_in}
 use Rattle.rtyper_op.specs.Constants.{constant_of, constant_step, parts_of, static_text, text, text_cells, tuple}
-use Rattle.rtyper_op.specs.Lowering.{all_but_last, binary_to, checked, checked_small, constant_to, conversion, conversion_by, failure, give_constant, give_text, if_words, is_never, least, literal, lower_op, lowered, method_by, method_to, of_one, of_some, of_two, same, text_to, unpack_by}
+use Rattle.rtyper_op.specs.Lowering.{all_but_last, binary_to, checked, checked_small, constant_to, conversion, conversion_by, failure, give_constant, give_text, if_words, is_never, least, literal, lowered, method_by, method_to, of_one, of_some, of_two, same, text_to, unpack_by}
 use Rattle.rtyper_op.specs.Placing.{advance, has_item, index, index_by, len, len_by, product, product_by, says_nothing, sum, sum_by, walk, walk_by, walk_item}
 use Rattle.rtyper_op.specs.Texts.{byte_method, byte_method_by, dict_truth, list_truth, lower, method, of_byte, of_text, of_text_and_word, of_texts, print, printed_by, put, put_all, put_by, put_more, slice, strip, strip_unless, tested_to, text_method, text_method_by, text_type, to_str, to_str_by, truth_by, truth_of, truth_to, upper, write}
 use Rattle.rtyper_op.specs.Texts.{of_two as two_of}
@@ -293,7 +291,7 @@ pub arguments_from_grows : (around : Around) (f : Option Function) (args : List 
 arguments_from_grows around f args i [] done = same_found done.1.found
 arguments_from_grows around f args i (p ∷ params) done =
     then_grows (argument_if_grows around f i (slice_get args i) (type_of_element around.layout p) done.1)
-        (arguments_from_grows around f args (i + 1) params (done.0 ++ (argument_if around f i (slice_get args i) (type_of_element around.layout p) done.1).0, (argument_if around f i (slice_get args i) (type_of_element around.layout p) done.1).1))
+    (arguments_from_grows around f args (i + 1) params (done.0 ++ (argument_if around f i (slice_get args i) (type_of_element around.layout p) done.1).0, (argument_if around f i (slice_get args i) (type_of_element around.layout p) done.1).1))
 
 pub arguments_for_grows : (around : Around) (params : Option (List Element)) (number : ℕ) (args : List Operand) (w : Writing) → Grows w.found (arguments_for around params number args w).1.found
 arguments_for_grows around None number args w = same_found w.found
