@@ -4,5 +4,4 @@ pub mod Passes
 pub mod Programs
 pub mod Smalls
 pub mod WritingBlocks
-pub mod WritingConstants
 pub mod WritingLinks

@@ -1,4 +1,4 @@
--- The graphs of functions only ask for more, where operations do.
+-- The graphs of functions only ask for more.
 use Rattle.std.proofs.Common.{ℕ, ◌+◌, List, [], ◌∷◌, length, map, Option, None, refl}
 use Rattle.ll_code.specs.declared.program.LlBlock.{LlBlock}
 use Rattle.ll_code.specs.declared.program.LlExit.{LlExit}
@@ -28,16 +28,16 @@ use Rattle.rtyper_program.specs.Links.{link_of}
 use Rattle.rtyper_program.specs.Program.{small_of}
 use Rattle.rtyper_program.specs.Raises.{catches}
 use Rattle.rtyper_program.specs.Seen.{Known, Lowered, is_block_reached, operand_of, place_of}
-use Rattle.growth_laws.specs.Asking.{ClassGraphsOnlyAsk, ClassesOnlyAsk}
 use Rattle.growth_laws.specs.Growing.{Grows}
+use Rattle.growth_laws.proofs.ClassGraphs.{class_graph_grows}
+use Rattle.growth_laws.proofs.Classes.{lower_class_op_grows}
 use Rattle.growth_laws.proofs.Data.{then_grows}
 use Rattle.growth_laws.proofs.DictGraphs.{dict_graph_grows}
 use Rattle.growth_laws.proofs.Dicts.{lower_dict_op_grows}
 use Rattle.growth_laws.proofs.Fronts.{itself}
 use Rattle.growth_laws.proofs.Growing.{same_found}
-use Rattle.program_asks.specs.Asking.{LoweringOnlyAsks}
+use Rattle.growth_laws.proofs.Prebuilding.{prebuilt_grows}
 use Rattle.program_asks.specs.Standing.{OnlyAsks}
-use Rattle.program_asks.proofs.WritingConstants.{prebuilt_grows}
 use Rattle.program_asks.proofs.WritingLinks.{branch_grows, either, give_back_grows, link_grows, taken_grows}
 
 -- ---- exits
@@ -67,52 +67,50 @@ module _ (l : Lowered) where
 covered_grows : (c : Covers) (w : Writing) → Grows w.found (with_covered c w).found
 covered_grows c w = record { needs = itself w.found.needs; caught = itself w.found.caught; together = refl; statics = itself w.found.statics; smalls = itself w.found.smalls; first = refl }
 
-module _ (classes : ClassesOnlyAsk) where
-  lowered_grows : (world : World) (o : RowOp) (place : Place) (args : List Operand) (w : Writing) → Grows w.found (lowered world o place args w).found
-  lowered_grows world o place args w = either w.found (λ (made : Writing). made.found) _ _ _ (lower_dict_op_grows world.around o place args w) (classes world o place args w)
+lowered_grows : (world : World) (o : RowOp) (place : Place) (args : List Operand) (w : Writing) → Grows w.found (lowered world o place args w).found
+lowered_grows world o place args w = either w.found (λ (made : Writing). made.found) _ _ _ (lower_dict_op_grows world.around o place args w) (lower_class_op_grows world o place args w)
 
-  module _ (l : Lowered) where
-    op_grows : (o : Op) (w : Writing) → Grows w.found (op_of l o w).found
-    unfolding op_of
-    op_grows o w =
-        then_grows (covered_grows o.covered w) (then_grows (lowered_grows l.world o.op (place_of l o.result) (map (operand_of l) o.args) (with_covered o.covered w))
-        (covered_grows nothing (lowered l.world o.op (place_of l o.result) (map (operand_of l) o.args) (with_covered o.covered w))))
+module _ (l : Lowered) where
+  op_grows : (o : Op) (w : Writing) → Grows w.found (op_of l o w).found
+  unfolding op_of
+  op_grows o w =
+      then_grows (covered_grows o.covered w) (then_grows (lowered_grows l.world o.op (place_of l o.result) (map (operand_of l) o.args) (with_covered o.covered w))
+      (covered_grows nothing (lowered l.world o.op (place_of l o.result) (map (operand_of l) o.args) (with_covered o.covered w))))
 
-    ops_grow : (ops : List Op) (made : ℕ × Writing) → Grows made.1.found (ops_from l ops made).1.found
-    ops_grow [] made = same_found made.1.found
-    ops_grow (o ∷ ops) made = then_grows (op_grows o made.1) (ops_grow ops (length made.1.body.ops, op_of l o made.1))
+  ops_grow : (ops : List Op) (made : ℕ × Writing) → Grows made.1.found (ops_from l ops made).1.found
+  ops_grow [] made = same_found made.1.found
+  ops_grow (o ∷ ops) made = then_grows (op_grows o made.1) (ops_grow ops (length made.1.body.ops, op_of l o made.1))
 
-    block_grows : (block : Block) (w : Work) → Grows w.writing.found (block_of l block w).1.writing.found
-    unfolding block_of
-    block_grows block w =
-        let ops : ℕ × Writing = ops_of l block.ops w.writing in
-        then_grows (ops_grow block.ops (length w.writing.body.ops, w.writing)) (exit_grows l block.exit ops.0 (work ops.1 w.extra))
+  block_grows : (block : Block) (w : Work) → Grows w.writing.found (block_of l block w).1.writing.found
+  unfolding block_of
+  block_grows block w =
+      let ops : ℕ × Writing = ops_of l block.ops w.writing in
+      then_grows (ops_grow block.ops (length w.writing.body.ops, w.writing)) (exit_grows l block.exit ops.0 (work ops.1 w.extra))
 
-    block_at_grows : (n : ℕ) (block : Block) (w : Work) → Grows w.writing.found (block_at l n block w).1.writing.found
-    block_at_grows n block w =
-        either w.writing.found (λ (made : LlBlock × Work). made.1.writing.found) (is_block_reached l.known.annotation l.number n) _ _ (block_grows block (paid n w)) (same_found w.writing.found)
+  block_at_grows : (n : ℕ) (block : Block) (w : Work) → Grows w.writing.found (block_at l n block w).1.writing.found
+  block_at_grows n block w =
+      either w.writing.found (λ (made : LlBlock × Work). made.1.writing.found) (is_block_reached l.known.annotation l.number n) _ _ (block_grows block (paid n w)) (same_found w.writing.found)
 
-    blocks_grow : (n : ℕ) (blocks : List Block) (made : List LlBlock × Work) → Grows made.1.writing.found (blocks_from l n blocks made).1.writing.found
-    blocks_grow n [] made = same_found made.1.writing.found
-    blocks_grow n (block ∷ blocks) made = then_grows (block_at_grows n block made.1) (blocks_grow (n + 1) blocks (with_block made.0 (block_at l n block made.1)))
+  blocks_grow : (n : ℕ) (blocks : List Block) (made : List LlBlock × Work) → Grows made.1.writing.found (blocks_from l n blocks made).1.writing.found
+  blocks_grow n [] made = same_found made.1.writing.found
+  blocks_grow n (block ∷ blocks) made = then_grows (block_at_grows n block made.1) (blocks_grow (n + 1) blocks (with_block made.0 (block_at l n block made.1)))
 
-  -- ---- graphs
+-- ---- graphs
 
-  pub graph_grows : (known : Known) (world : World) (n : ℕ) (graph : Graph) (found : Found) → Grows found (graph_of known world n graph found).1
-  unfolding graph_of blocks_of
-  graph_grows known world n graph found =
-      blocks_grow (lowered_graph known world n graph) 0 graph.blocks ([], work (writing found (record { types = variables known world n; ops = [] })) (nothing_behind graph.blocks))
+pub graph_grows : (known : Known) (world : World) (n : ℕ) (graph : Graph) (found : Found) → Grows found (graph_of known world n graph found).1
+unfolding graph_of blocks_of
+graph_grows known world n graph found =
+    blocks_grow (lowered_graph known world n graph) 0 graph.blocks ([], work (writing found (record { types = variables known world n; ops = [] })) (nothing_behind graph.blocks))
 
-module _ (classes : ClassGraphsOnlyAsk) where
-  pub small_of_grows : (world : World) (s : Small) (found : Found) → Grows found (small_of world s found).1
-  small_of_grows world (small.Keyed keyed) found = dict_graph_grows world.around.layout keyed found
-  small_of_grows world other found = classes world other found
+pub small_of_grows : (world : World) (s : Small) (found : Found) → Grows found (small_of world s found).1
+small_of_grows world (small.Keyed keyed) found = dict_graph_grows world.around.layout keyed found
+small_of_grows world other found = class_graph_grows world other found
 
 -- ---- programs
 
-pub programs_only_ask : LoweringOnlyAsks → (known : Known) (world : World) → OnlyAsks known world
-programs_only_ask below known world = record {
+pub programs_only_ask : (known : Known) (world : World) → OnlyAsks known world
+programs_only_ask known world = record {
   constants = prebuilt_grows world.around known.program.sites known.annotation.same;
-  functions = graph_grows below.classes known world;
-  smalls = small_of_grows below.class_graphs world;
+  functions = graph_grows known world;
+  smalls = small_of_grows world;
 }

@@ -29,7 +29,7 @@ pub fn programs_have_asked()
     ensures { ProgramsHaveAsked }
 {}
 
-/// Where the operations and the graphs of classes only ask for more, so does all that writes a program.
+/// What writes a program takes nothing back of what was asked for.
 pub fn programs_only_ask()
     ensures { ProgramsOnlyAsk }
 {}
