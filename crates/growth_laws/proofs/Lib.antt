@@ -1,2 +1,12 @@
+pub mod ClassGraphs
+pub mod Classes
+pub mod Data
+pub mod DictGraphs
+pub mod Dicts
 pub mod Fronts
 pub mod Growing
+pub mod ListGraphs
+pub mod Lists
+pub mod Operating
+pub mod Prebuilding
+pub mod Raising

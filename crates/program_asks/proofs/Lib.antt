@@ -3,3 +3,5 @@ pub mod Helpers
 pub mod Passes
 pub mod Programs
 pub mod Smalls
+pub mod WritingBlocks
+pub mod WritingLinks

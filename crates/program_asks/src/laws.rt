@@ -1,4 +1,5 @@
 // Laws of what a program asks for while it is written.
+ghost use Rattle.program_asks.specs.Asking.{ProgramsOnlyAsk};
 ghost use Rattle.program_asks.specs.Standing.{AskedStand, HelpersStand, ProgramsHaveAsked, SmallsStand, StaticsStand};
 
 /// Each small graph that is asked for has its graph, behind those of the ones before it.
@@ -26,4 +27,9 @@ pub fn statics_stand()
 /// All this holds of every program that `rtype` makes.
 pub fn programs_have_asked()
     ensures { ProgramsHaveAsked }
+{}
+
+/// What writes a program takes nothing back of what was asked for.
+pub fn programs_only_ask()
+    ensures { ProgramsOnlyAsk }
 {}

@@ -5,5 +5,6 @@
 mod laws;
 
 pub use laws::{
-    helpers_stand, programs_have_asked, small_graphs_are_written, small_graphs_stand, statics_stand,
+    helpers_stand, programs_have_asked, programs_only_ask, small_graphs_are_written,
+    small_graphs_stand, statics_stand,
 };
