@@ -1,0 +1,1 @@
+// Laws of the programs that are made of flow graphs.
