@@ -8,4 +8,5 @@ pub mod Growing
 pub mod ListGraphs
 pub mod Lists
 pub mod Operating
+pub mod Prebuilding
 pub mod Raising
