@@ -1,5 +1,5 @@
 -- The graphs of classes only ask for more.
-use Rattle.std.proofs.Common.{ℕ, zero, suc, ◌+◌, ◌==◌, Bool, true, false, if◌then◌else◌, List, [], ◌∷◌, length, Option, Some, None}
+use Rattle.std.proofs.Common.{ℕ, zero, suc, ◌+◌, ◌==◌, Bool, false, List, [], ◌∷◌, length, Option, Some, None}
 use Rattle.ll_code.specs.declared.program.LlType.{LlType}
 use Rattle.ann_element.specs.declared.element.Element.{Element}
 use Rattle.class_desc.specs.declared.classes.Initial.{Initial}

@@ -26,14 +26,13 @@ use Rattle.rtyper_class.specs.Seen.{World, laid}
 use Rattle.growth_laws.specs.Growing.{Grows}
 use Rattle.growth_laws.proofs.Growing.{same_found, smalls_grow}
 use Rattle.growth_laws.proofs.Data.{by_small_grows, give_grows, given_grows, if_written, landed_grows, present_grows, then_grows}
-use Rattle.growth_laws.proofs.Dicts.{nothing_fails}
 use Rattle.growth_laws.proofs.Lists.{lower_list_op_grows}
-use Rattle.growth_laws.proofs.Operating.{arguments_grows, call_grows}
+use Rattle.growth_laws.proofs.Operating.{arguments_grows, call_grows, failure_op_grows}
 
 -- ---- attributes
 
 read_as_grows : (world : World) (place : Place) (at : Standing) (t : LlType) (x : COperand × Writing) → Grows x.1.found (read_as world place at t x).found
-read_as_grows world place at type.Void x = nothing_fails world.around place x.1
+read_as_grows world place at type.Void x = failure_op_grows world.around place x.1
 read_as_grows world place at kind x = then_grows (by_small_grows _ _ _ x.1) (give_grows world.around place _ kind _)
 
 read_at_grows : (world : World) (place : Place) (at : Option Standing) (x : COperand × Writing) → Grows x.1.found (read_at world place at x).found
@@ -130,7 +129,7 @@ unfolding is_instance
 is_instance_grows world place of a class w = is_instance_by_grows world place (range world.classes.classes of) a (laid world class) w
 
 attribute_of_grows : (world : World) (place : Place) (name : List ℕ) (a : Operand) (i : Option (ℕ × Bool)) (w : Writing) → Grows w.found (attribute_of world place name a i w).found
-attribute_of_grows world place name a None w = nothing_fails world.around place w
+attribute_of_grows world place name a None w = failure_op_grows world.around place w
 attribute_of_grows world place name a (Some i) w = read_grows world place name a i.0 i.1 w
 
 attribute_grows : (world : World) (place : Place) (name : List ℕ) (a : Operand) (w : Writing) → Grows w.found (attribute world place name a w).found
@@ -138,7 +137,7 @@ unfolding attribute
 attribute_grows world place name a w = attribute_of_grows world place name a (instance_of a) w
 
 set_attribute_of_grows : (world : World) (place : Place) (name : List ℕ) (a b : Operand) (i : Option (ℕ × Bool)) (w : Writing) → Grows w.found (set_attribute_of world place name a b i w).found
-set_attribute_of_grows world place name a b None w = nothing_fails world.around place w
+set_attribute_of_grows world place name a b None w = failure_op_grows world.around place w
 set_attribute_of_grows world place name a b (Some i) w = store_grows world place name a b i.0 i.1 w
 
 set_attribute_grows : (world : World) (place : Place) (name : List ℕ) (a b : Operand) (w : Writing) → Grows w.found (set_attribute world place name a b w).found
@@ -146,7 +145,7 @@ unfolding set_attribute
 set_attribute_grows world place name a b w = set_attribute_of_grows world place name a b (instance_of a) w
 
 value_call_of_grows : (world : World) (place : Place) (a : Operand) (fs : Option (List ℕ × Bool)) (args : List Operand) (w : Writing) → Grows w.found (value_call_of world place a fs args w).found
-value_call_of_grows world place a None args w = nothing_fails world.around place w
+value_call_of_grows world place a None args w = failure_op_grows world.around place w
 value_call_of_grows world place a (Some fs) args w = call_value_grows world.around place a fs.0 fs.1 args w
 
 value_call_grows : (world : World) (place : Place) (args : List Operand) (w : Writing) → Grows w.found (value_call world place args w).found
@@ -155,7 +154,7 @@ value_call_grows world place [] w = same_found w.found
 value_call_grows world place (a ∷ args) w = value_call_of_grows world place a (functions_of a) args w
 
 raise_on_grows : (world : World) (place : Place) (a : Operand) (i : Option (ℕ × Bool)) (w : Writing) → Grows w.found (raise_on world place a i w).found
-raise_on_grows world place a None w = nothing_fails world.around place w
+raise_on_grows world place a None w = failure_op_grows world.around place w
 raise_on_grows world place a (Some i) w = raise_grows world.around place a i.1 w
 
 -- ---- what is no instance is lowered as on lists

@@ -1,9 +1,8 @@
 -- The graphs of dicts only ask for more.
-use Rattle.std.proofs.Common.{ℕ, Bool, true, false, not, List, [], ◌∷◌, ◌==◌, ◌+◌, if◌then◌else◌}
+use Rattle.std.proofs.Common.{ℕ, Bool, true, false, List, [], ◌∷◌, ◌==◌, ◌+◌}
 use Rattle.csub_tree.specs.declared.tree.COperand.{COperand}
 use Rattle.ll_code.specs.declared.program.LlType.{LlType}
 use Rattle.ll_code.specs.declared.program.LlType.TheVariants as type
-use Rattle.ll_code.specs.declared.program.LlGraph.{LlGraph}
 use Rattle.ll_build.specs.declared.needs.Helper.TheVariants.{WordMin}
 use Rattle.rtyper_layout.specs.declared.layout.Layout.{Layout}
 use Rattle.rtyper_data.specs.declared.found.Found.{Found}
@@ -29,7 +28,7 @@ use Rattle.rtyper_dict.specs.Listing.{got, get, key_as, value_of, pair, pair_as,
 use Rattle.rtyper_dict.specs.Graphs.{changing, dict_graph}
 use Rattle.growth_laws.specs.Growing.{Grows}
 use Rattle.growth_laws.proofs.Growing.{same_found, helpers_grow, smalls_grow}
-use Rattle.growth_laws.proofs.Data.{by_small_grows, equal_grows, failing_grows, then_grows, value_as_grows}
+use Rattle.growth_laws.proofs.Data.{by_small_grows, equal_grows, failing_grows, if_asked, then_grows, value_as_grows}
 
 pub keyed_grows : (graph : Keyed) (found : Found) → Grows found (keyed_number graph found).1
 keyed_grows graph found = smalls_grow (small.Keyed graph) found
@@ -70,11 +69,7 @@ of_tuple_grows layout n found = then_grows (tuple_mixed_grows layout n (writing 
 
 hash_graph_grows : (layout : Layout) (t : LlType) (found : Found) → Grows found (hash_graph layout t found).1
 unfolding hash_graph
-hash_graph_grows layout (type.Ptr n) found = by (n == 0)
-  where
-    by : (c : Bool) → Grows found (if c then of_text found else of_tuple layout n found).1
-    by true = of_text_grows found
-    by false = of_tuple_grows layout n found
+hash_graph_grows layout (type.Ptr n) found = if_asked _ _ (n == 0) (of_text_grows found) (of_tuple_grows layout n found)
 hash_graph_grows layout _ found = same_found found
 
 -- ---- keys that are looked for
@@ -93,11 +88,7 @@ find_by_scan_grows layout d found = is_key_grows layout d 6 _
 
 find_grows : (layout : Layout) (d : DictShape) (found : Found) → Grows found (find layout d found).1
 unfolding find
-find_grows layout d found = by d.is_indexed
-  where
-    by : (c : Bool) → Grows found (if c then find_by_index layout d found else find_by_scan layout d found).1
-    by true = find_by_index_grows layout d found
-    by false = find_by_scan_grows layout d found
+find_grows layout d found = if_asked _ _ d.is_indexed (find_by_index_grows layout d found) (find_by_scan_grows layout d found)
 
 entry_grows : (d : DictShape) (found : Found) → Grows found (entry d found).1
 unfolding entry

@@ -1,5 +1,5 @@
 -- The lowering of operations on dicts only asks for more.
-use Rattle.std.proofs.Common.{ℕ, Bool, true, false, List, [], ◌∷◌, Option, Some, None}
+use Rattle.std.proofs.Common.{ℕ, Bool, List, [], ◌∷◌, Option, Some, None}
 use Rattle.std.specs.Prelude.{codes}
 use Rattle.std.specs.Str.{bytes_eq}
 use Rattle.csub_tree.specs.declared.tree.COperand.{COperand}
@@ -10,20 +10,15 @@ use Rattle.rpy_meaning.specs.declared.row.RowOp.{RowOp}
 use Rattle.rpy_meaning.specs.declared.row.RowOp.TheVariants as row
 use Rattle.rtyper_data.specs.declared.small.Keyed.{Keyed as Graph}
 use Rattle.rtyper_data.specs.declared.small.Keyed.TheVariants as keyed
-use Rattle.rtyper_data.specs.declared.small.Small.TheVariants as small
 use Rattle.rtyper_data.specs.Seen.{Around, Operand, Place, type_of, type_at, Writing}
-use Rattle.rtyper_op.specs.Lowering.{failure}
 use Rattle.rtyper_dict.specs.declared.parts.DictShape.{DictShape}
 use Rattle.rtyper_dict.specs.Operands.{dict_of, done_by, entry_in, key_in, list_at, there, value_in}
 use Rattle.rtyper_dict.specs.Lowering.{compare, delete, display, display_to, get, get_as, get_if, get_to, index, is_there, is_reversed, len, list, list_if, list_named, list_to, lower_dict_op, method_of_one, of_dict, of_dict_or, of_first, of_one, of_second, of_three, of_two, other_value, store, within, within_or}
 use Rattle.growth_laws.specs.Growing.{Grows}
-use Rattle.growth_laws.proofs.Growing.{same_found, smalls_grow}
+use Rattle.growth_laws.proofs.Growing.{same_found}
 use Rattle.growth_laws.proofs.Data.{by_small_grows, give_grows, given_grows, if_written, present_grows, then_grows}
 use Rattle.growth_laws.proofs.DictGraphs.{keyed_grows}
-
-pub nothing_fails : (around : Around) (place : Place) (w : Writing) → Grows w.found (failure around place w).found
-unfolding failure
-nothing_fails around place w = smalls_grow (small.Fail w.found.covered.attribute) w.found
+use Rattle.growth_laws.proofs.Operating.{failure_op_grows}
 
 -- ---- dicts, keys and values
 
@@ -147,7 +142,7 @@ of_dict_grows around o place d (a ∷ b ∷ c ∷ []) w = of_three_grows around 
 of_dict_grows around o place d _ w = same_found w.found
 
 of_dict_or_grows : (around : Around) (o : RowOp) (place : Place) (d : Option DictShape) (args : List Operand) (w : Writing) → Grows w.found (of_dict_or around o place d args w).found
-of_dict_or_grows around o place None args w = nothing_fails around place w
+of_dict_or_grows around o place None args w = failure_op_grows around place w
 of_dict_or_grows around o place (Some d) args w = of_dict_grows around o place d args w
 
 of_first_grows : (around : Around) (o : RowOp) (place : Place) (args : List Operand) (w : Writing) → Grows w.found (of_first around o place args w).found
@@ -156,7 +151,7 @@ of_first_grows around o place [] w = same_found w.found
 of_first_grows around o place (a ∷ args) w = of_dict_or_grows around o place (dict_of around a) (a ∷ args) w
 
 within_or_grows : (around : Around) (place : Place) (d : Option DictShape) (reversed : Bool) (a b : Operand) (w : Writing) → Grows w.found (within_or around place d reversed a b w).found
-within_or_grows around place None reversed a b w = nothing_fails around place w
+within_or_grows around place None reversed a b w = failure_op_grows around place w
 within_or_grows around place (Some d) reversed a b w = within_grows around place d reversed a b w
 
 of_second_grows : (around : Around) (c : CmpOp) (place : Place) (a b : Operand) (w : Writing) → Grows w.found (of_second around c place a b w).found

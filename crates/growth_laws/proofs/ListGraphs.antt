@@ -1,15 +1,13 @@
 -- The graphs of lists only ask for more.
-use Rattle.std.proofs.Common.{ℕ, List, [], ◌∷◌}
-use Rattle.csub_tree.specs.declared.tree.COperand.{COperand}
+use Rattle.std.proofs.Common.{ℕ}
 use Rattle.ll_code.specs.declared.program.LlType.{LlType}
 use Rattle.ll_code.specs.declared.program.LlType.TheVariants.{Ptr}
-use Rattle.ll_code.specs.declared.program.LlBlock.{LlBlock}
 use Rattle.ll_build.specs.declared.needs.Helper.TheVariants.{StrOfChar}
 use Rattle.rtyper_layout.specs.declared.layout.Layout.{Layout}
 use Rattle.rtyper_data.specs.declared.found.Found.{Found}
 use Rattle.rtyper_data.specs.declared.small.Listed.{Listed}
 use Rattle.rtyper_data.specs.declared.small.Listed.TheVariants as listed
-use Rattle.rtyper_data.specs.Seen.{Writing, writing}
+use Rattle.rtyper_data.specs.Seen.{Writing}
 use Rattle.list_shape.specs.declared.shape.Shape.{Shape}
 use Rattle.list_shape.specs.Shapes.{item_of, shape_of}
 use Rattle.list_loops.specs.Changing.{remove, room, append, insert, extend}
@@ -106,7 +104,6 @@ counted_grows layout s w = item_text_grows layout s w
 put_grows : (layout : Layout) (s : Shape) (copies : ℕ) (w : Writing) → Grows w.found (put layout s copies w).1.found
 unfolding put
 put_grows layout s copies w = item_text_grows layout s w
-
 
 join_grows : (layout : Layout) (s : Shape) (found : Found) → Grows found (join layout s found).1
 unfolding join

@@ -15,7 +15,7 @@ use Rattle.rtyper_data.specs.declared.small.Listed.TheVariants as listed
 use Rattle.rtyper_data.specs.Numbers.{word}
 use Rattle.rtyper_data.specs.Seen.{Around, Operand, Place, type_of, Writing}
 use Rattle.list_shape.specs.Shapes.{shape_of}
-use Rattle.rtyper_op.specs.Lowering.{failure, is_never, lower_op}
+use Rattle.rtyper_op.specs.Lowering.{is_never}
 use Rattle.rtyper_list.specs.Operands.{done_by, give_listed, is_list, is_none, list_at, list_of, there, there_in}
 use Rattle.rtyper_list.specs.Displays.{bounds, but_last, but_last_to, comprehension, comprehension_to, concat, concat_to, display, display_of, display_to, items_as, made, repeat, repeat_to, slice, slice_between, slice_of}
 use Rattle.rtyper_list.specs.Items.{delete, has_item, index, is_within, len, placed, pop, shape_in, store, walk, walk_item, within}
@@ -25,8 +25,7 @@ use Rattle.growth_laws.specs.Growing.{Grows}
 use Rattle.growth_laws.proofs.Growing.{same_found}
 use Rattle.growth_laws.proofs.Data.{by_small_grows, give_binary_grows, give_grows, given_grows, if_written, present_grows, then_grows}
 use Rattle.growth_laws.proofs.DictGraphs.{listed_grows}
-use Rattle.growth_laws.proofs.Dicts.{nothing_fails}
-use Rattle.growth_laws.proofs.Operating.{lower_op_grows}
+use Rattle.growth_laws.proofs.Operating.{failure_op_grows, lower_op_grows}
 
 -- ---- lists, and calls of their graphs
 
@@ -77,7 +76,7 @@ unfolding comprehension
 comprehension_grows around place w = comprehension_to_grows around place (list_at around place) _
 
 concat_to_grows : (around : Around) (place : Place) (a b : Operand) (r : Option ℕ) (w : Writing) → Grows w.found (concat_to around place a b r w).found
-concat_to_grows around place a b None w = nothing_fails around place w
+concat_to_grows around place a b None w = failure_op_grows around place w
 concat_to_grows around place a b (Some r) w = then_grows (there_grows around a w) (then_grows (there_grows around b _) (give_listed_grows around place _ _ _ _))
 
 concat_grows : (around : Around) (place : Place) (a b : Operand) (w : Writing) → Grows w.found (concat around place a b w).found
@@ -85,7 +84,7 @@ unfolding concat
 concat_grows around place a b w = concat_to_grows around place a b (list_at around place) w
 
 repeat_to_grows : (around : Around) (place : Place) (a : Operand) (times : COperand) (r : Option ℕ) (w : Writing) → Grows w.found (repeat_to around place a times r w).found
-repeat_to_grows around place a times None w = nothing_fails around place w
+repeat_to_grows around place a times None w = failure_op_grows around place w
 repeat_to_grows around place a times (Some r) w = then_grows (there_grows around a w) (give_listed_grows around place _ _ _ _)
 
 repeat_grows : (around : Around) (place : Place) (a : Operand) (times : COperand) (w : Writing) → Grows w.found (repeat around place a times w).found
@@ -93,7 +92,7 @@ unfolding repeat
 repeat_grows around place a times w = repeat_to_grows around place a times (list_at around place) w
 
 slice_between_grows : (around : Around) (place : Place) (a : Operand) (ends : COperand × COperand) (r : Option ℕ) (w : Writing) → Grows w.found (slice_between around place a ends r w).found
-slice_between_grows around place a ends None w = nothing_fails around place w
+slice_between_grows around place a ends None w = failure_op_grows around place w
 slice_between_grows around place a ends (Some r) w = then_grows (there_grows around a w) (give_listed_grows around place _ _ _ _)
 
 slice_of_grows : (around : Around) (place : Place) (a : Operand) (ends : COperand × COperand) (w : Writing) → Grows w.found (slice_of around place a ends w).found
@@ -102,11 +101,11 @@ slice_of_grows around place a ends w = slice_between_grows around place a ends (
 
 slice_grows : (around : Around) (place : Place) (low high : Bool) (args : List Operand) (w : Writing) → Grows w.found (slice around place low high args w).found
 unfolding slice
-slice_grows around place low high [] w = nothing_fails around place w
+slice_grows around place low high [] w = failure_op_grows around place w
 slice_grows around place low high (a ∷ args) w = slice_of_grows around place a (bounds low high args) w
 
 but_last_to_grows : (around : Around) (place : Place) (a : Operand) (r : Option ℕ) (w : Writing) → Grows w.found (but_last_to around place a r w).found
-but_last_to_grows around place a None w = nothing_fails around place w
+but_last_to_grows around place a None w = failure_op_grows around place w
 but_last_to_grows around place a (Some r) w = then_grows (there_grows around a w) (give_listed_grows around place _ _ _ _)
 
 but_last_grows : (around : Around) (place : Place) (a : Operand) (w : Writing) → Grows w.found (but_last around place a w).found
@@ -183,7 +182,7 @@ extend_by_grows around place a x b gives w = then_grows (there_grows around b w)
 
 extend_if_grows : (c : Bool) (around : Around) (place : Place) (a : Operand) (x : COperand) (b : Operand) (gives : Bool) (w : Writing) → Grows w.found (extend_if c around place a x b gives w).found
 extend_if_grows true around place a x b gives w = extend_by_grows around place a x b gives w
-extend_if_grows false around place a x b gives w = nothing_fails around place w
+extend_if_grows false around place a x b gives w = failure_op_grows around place w
 
 extend_grows : (around : Around) (place : Place) (a b : Operand) (gives : Bool) (w : Writing) → Grows w.found (extend around place a b gives w).found
 unfolding extend
@@ -228,7 +227,7 @@ unfolding text_there
 text_there_grows around a w = then_grows (present_grows around a _ w) (given_grows around _ (Ptr 0) _)
 
 split_to_grows : (around : Around) (place : Place) (a : Operand) (byte : COperand) (r : Option ℕ) (w : Writing) → Grows w.found (split_to around place a byte r w).found
-split_to_grows around place a byte None w = nothing_fails around place w
+split_to_grows around place a byte None w = failure_op_grows around place w
 split_to_grows around place a byte (Some r) w = then_grows (text_there_grows around a w) (give_listed_grows around place _ _ _ _)
 
 split_grows : (around : Around) (place : Place) (a : Operand) (byte : COperand) (w : Writing) → Grows w.found (split around place a byte w).found
@@ -269,7 +268,7 @@ first_of_one_grows around o place a w = lower_op_grows around o place (a ∷ [])
 
 sum_grows : (around : Around) (place : Place) (a b : Operand) (w : Writing) → Grows w.found (sum around place a b w).found
 unfolding sum
-sum_grows around place a b w = if_written _ _ (is_list a && is_list b) (concat_grows around place a b w) (nothing_fails around place w)
+sum_grows around place a b w = if_written _ _ (is_list a && is_list b) (concat_grows around place a b w) (failure_op_grows around place w)
 
 within_or_grows : (around : Around) (o : RowOp) (place : Place) (reversed : Bool) (a b : Operand) (w : Writing) → Grows w.found (within_or around o place reversed a b w).found
 unfolding within_or
@@ -277,7 +276,7 @@ within_or_grows around o place reversed a b w = if_written _ _ (is_list b) (with
 
 sum_or_grows : (around : Around) (o : RowOp) (place : Place) (a b : Operand) (w : Writing) → Grows w.found (sum_or around o place a b w).found
 unfolding sum_or
-sum_or_grows around o place a b w = if_written _ _ (is_list b && is_none a) (nothing_fails around place w) (lower_op_grows around o place (a ∷ b ∷ []) w)
+sum_or_grows around o place a b w = if_written _ _ (is_list b && is_none a) (failure_op_grows around place w) (lower_op_grows around o place (a ∷ b ∷ []) w)
 
 second_of_two_grows : (around : Around) (o : RowOp) (place : Place) (a b : Operand) (w : Writing) → Grows w.found (second_of_two around o place a b w).found
 unfolding second_of_two
@@ -340,7 +339,7 @@ lowered_grows around (row.Slice site low high) place args w = slice_or_grows aro
 lowered_grows around o place args w = of_some_grows around o place args w
 
 lowered_unless_grows : (c : Bool) (around : Around) (o : RowOp) (place : Place) (args : List Operand) (w : Writing) → Grows w.found (lowered_unless c around o place args w).found
-lowered_unless_grows true around o place args w = nothing_fails around place w
+lowered_unless_grows true around o place args w = failure_op_grows around place w
 lowered_unless_grows false around o place args w = lowered_grows around o place args w
 
 pub lower_list_op_grows : (around : Around) (o : RowOp) (place : Place) (args : List Operand) (w : Writing) → Grows w.found (lower_list_op around o place args w).found

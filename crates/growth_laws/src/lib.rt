@@ -3,4 +3,7 @@
 
 mod laws;
 
-pub use laws::{asking_only_grows, classes_only_ask, dicts_only_ask, graphs_only_ask, lists_only_ask, operations_only_ask, raising_only_asks};
+pub use laws::{
+    asking_only_grows, classes_only_ask, dicts_only_ask, graphs_only_ask, lists_only_ask,
+    operations_only_ask, raising_only_asks,
+};
