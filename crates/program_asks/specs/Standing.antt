@@ -1,4 +1,4 @@
--- Small graphs stand at their numbers, where what is written takes nothing back of what was asked for.
+-- What is asked for stands at its numbers: what is written takes nothing back of what was asked for.
 use Rattle.std.specs.Prelude.{◌≡◌, ◌<◌, ◌^◌, ℕ, ◌+◌, List, ◌++◌, length, slice_get, Some, None}
 use Rattle.ll_code.specs.declared.program.LlGraph.{LlGraph}
 use Rattle.ll_code.specs.declared.program.LlProgram.{LlProgram}
@@ -35,9 +35,9 @@ pub record Stands (graphs : List LlGraph) (world : World) (last : Found) (n : �
 abbrev pub SmallsOnlyAsk : World → Type 0
 SmallsOnlyAsk world = (s : Small) (found : Found) → Grows found (small_of world s found).1
 
--- of so many small graphs each stands behind what is there before, if they only ask for more
+-- of so many small graphs each stands behind what is there before
 abbrev pub SmallsStand : Type 0
-SmallsStand = (world : World) → SmallsOnlyAsk world → (count : ℕ) (made : List LlGraph × Found) (n : ℕ) (s : Small)
+SmallsStand = (world : World) (count : ℕ) (made : List LlGraph × Found) (n : ℕ) (s : Small)
     → slice_get (smalls_to world count made).1.smalls count ≡ None → slice_get (smalls_to world count made).1.smalls n ≡ Some s
     → Stands (smalls_to world count made).0 world (smalls_to world count made).1 (length made.0 + n) s
 
@@ -53,7 +53,6 @@ StandsAsked graphs world last s found = Stands graphs world last (small_number s
 
 abbrev pub AskedStand : Type 0
 AskedStand = (known : Known) (classes : Tables) (layout : Layout) (needs : List Need) (caught : List Covers) (count : ℕ)
-    → OnlyAsks known (world_behind known classes layout (helpers layout.structs needs))
     → slice_get (pass known classes layout needs caught count).1.smalls count ≡ None
     → length (pass known classes layout needs caught count).0.graphs < 2 ^ 64
     → (s : Small) (found : Found) → Grows (small_number s found).1 (pass known classes layout needs caught count).1
@@ -71,7 +70,6 @@ pub record HelperStands (graphs : List LlGraph) (numbers : Numbers) (last : Foun
 -- of its failures that are covered there
 abbrev pub HelpersStand : Type 0
 HelpersStand = (known : Known) (classes : Tables) (layout : Layout) (needs : List Need) (caught : List Covers) (count : ℕ)
-    → OnlyAsks known (world_behind known classes layout (helpers layout.structs needs))
     → length (pass known classes layout needs caught count).1.needs ≡ length needs
     → (h : Helper) (found : Found)
     → Grows (found_first known (world_behind known classes layout (helpers layout.structs needs)) (helpers layout.structs needs) needs caught) found
@@ -92,7 +90,6 @@ pub record HasStatics (known : Known) (world : World) (p : LlProgram) : Type 0 w
 
 abbrev pub StaticsStand : Type 0
 StaticsStand = (known : Known) (classes : Tables) (layout : Layout) (needs : List Need) (caught : List Covers) (count : ℕ)
-    → OnlyAsks known (world_behind known classes layout (helpers layout.structs needs))
     → HasStatics known (world_behind known classes layout (helpers layout.structs needs)) (pass known classes layout needs caught count).0
 
 -- ---- programs that are made
@@ -118,5 +115,5 @@ pub record HasAsked (p : LlProgram) (known : Known) (world : World) (numbers : N
 
 -- of every program that is made of flow graphs
 abbrev pub ProgramsHaveAsked : Type 0
-ProgramsHaveAsked = (known : Known) (classes : Tables) (layout : Layout) (p : LlProgram) (r : IsSettled known classes layout p) → OnlyAsks known (world_in known classes layout p r)
+ProgramsHaveAsked = (known : Known) (classes : Tables) (layout : Layout) (p : LlProgram) (r : IsSettled known classes layout p)
     → HasAsked p known (world_in known classes layout p r) (numbers_in known classes layout p r) (first_in known classes layout p r) (last_in known classes layout p r)

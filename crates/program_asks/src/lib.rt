@@ -1,4 +1,4 @@
-//! Laws of what a program asks for while it is written: it stands at its numbers, where what writes the
+//! Laws of what a program asks for while it is written: it stands at its numbers, since what writes the
 //! program takes nothing back of what was asked for.
 #![tactic(auto)]
 
