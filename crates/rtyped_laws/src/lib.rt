@@ -4,4 +4,4 @@
 
 mod laws;
 
-pub use laws::{};
+pub use laws::programs_have_their_layouts;
