@@ -4,4 +4,6 @@
 
 mod laws;
 
-pub use laws::programs_have_their_layouts;
+pub use laws::{
+    memory_of_programs_begins, programs_have_their_classes, programs_have_their_layouts,
+};
