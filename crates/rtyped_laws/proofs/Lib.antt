@@ -1,2 +1,5 @@
-pub mod Objects
 pub mod Asking
+pub mod Helping
+pub mod Objects
+pub mod Raised
+pub mod Values

@@ -4,4 +4,7 @@
 
 mod laws;
 
-pub use laws::{};
+pub use laws::{
+    classes_have_theirs, dicts_have_theirs, helpers_have_theirs, lists_have_theirs,
+    values_have_theirs,
+};
