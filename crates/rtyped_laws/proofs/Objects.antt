@@ -1,5 +1,5 @@
--- Graphs of lists that are asked for stand at their numbers, with those that they ask for.
-use Rattle.std.proofs.Common.{◌≢◌, ◌<◌, ◌^◌, ℕ, ◌+◌, Bool, true, false, length, refl}
+-- Graphs of lists, classes and dicts that are asked for stand at their numbers; those of lists with those that they ask for.
+use Rattle.std.proofs.Common.{◌≢◌, ◌<◌, ◌^◌, ℕ, ◌+◌, Bool, true, false, length}
 use Rattle.csub_tree.specs.State.{Core}
 use Rattle.ll_code.specs.declared.program.LlType.{LlType}
 use Rattle.ll_code.specs.declared.program.LlType.TheVariants as type
@@ -17,8 +17,8 @@ use Rattle.rtyper_data.specs.Graphs.{failing}
 use Rattle.list_helpers.specs.Listing.{list_graph}
 use Rattle.list_loops.specs.Making.{concat, repeat, slice, but_last}
 use Rattle.list_loops.specs.Changing.{remove, room, append, insert, extend}
-use Rattle.rtyper_class.specs.Instances.{attribute, builtin_instance, raise, root_in}
-use Rattle.rtyper_class.specs.Seen.{World, laid}
+use Rattle.rtyper_class.specs.Instances.{attribute}
+use Rattle.rtyper_class.specs.Seen.{World}
 use Rattle.rtyper_program.specs.Program.{small_of}
 use Rattle.rtyper_program.specs.Seen.{Known}
 use Rattle.lower_laws.specs.Asked.{Make, AllRaise, Raises, if_raised}
@@ -31,6 +31,7 @@ use Rattle.growth_laws.proofs.Growing.{smalls_grow}
 use Rattle.program_asks.specs.Standing.{HasAsked, Stands}
 use Rattle.rtyped_laws.specs.Having.{raised_in}
 use Rattle.rtyped_laws.specs.Objects.{LooksForNoText}
+use Rattle.rtyped_laws.proofs.Raised.{one_raises}
 
 module _ (p : LlProgram) (known : Known) (world : World) (numbers : Numbers) (first last : Found) (has : HasAsked p known world numbers first last) (few : length p.graphs < 2 ^ 64) where
   abbrev pub Asked : Small → Found → Type 0
@@ -41,8 +42,7 @@ module _ (p : LlProgram) (known : Known) (world : World) (numbers : Numbers) (fi
 
   -- what raises the instance of a builtin class
   raises : (class : ℕ) (found : Found) → Asked (small.Raise class) found → Raises p (small_number (small.Raise class) found).0 (raised_in world class)
-  unfolding raise builtin_instance
-  raises class found late = record { struct = root_in (laid world 0); instance = word (world.first_exception + class); graph = (stands (small.Raise class) found late).graph; value = refl }
+  raises class found late = one_raises p world last class (small_number (small.Raise class) found).0 (stands (small.Raise class) found late)
 
   -- a block that fails raises what it asks for
   block_raises : (number class : ℕ) (c : Bool) (found : Found) → Grows (failing number class c found).1 last → AllRaise p (raised_in world) (if_raised c class) found
