@@ -5,5 +5,7 @@
 mod laws;
 
 pub use laws::{
+    classes_have_theirs, dicts_have_theirs, helpers_have_theirs, lists_have_theirs,
     memory_of_programs_begins, programs_have_their_classes, programs_have_their_layouts,
+    values_have_theirs,
 };

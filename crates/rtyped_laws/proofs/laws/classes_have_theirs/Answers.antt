@@ -1,0 +1,10 @@
+use Rattle.rtyped_laws.proofs.Asking.{class_asks, class_smalls}
+use Rattle.rtyped_laws.proofs.Helping.{helpers_have_theirs}
+use Rattle.rtyped_laws.proofs.Values.{values_have_theirs}
+use Rattle.rtyped_laws.proofs.laws.classes_have_theirs.Goals as goal
+
+pub returns-clause-graphs : goal.returns-clause-graphs
+returns-clause-graphs c = class_smalls values_have_theirs helpers_have_theirs
+
+pub returns-clause-asks : goal.returns-clause-asks
+returns-clause-asks c = class_asks values_have_theirs helpers_have_theirs
