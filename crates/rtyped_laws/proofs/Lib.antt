@@ -1,0 +1,3 @@
+pub mod Helping
+pub mod Raised
+pub mod Values

@@ -4,4 +4,4 @@
 
 mod laws;
 
-pub use laws::{};
+pub use laws::{helpers_have_theirs, values_have_theirs};
