@@ -7,8 +7,7 @@ use Rattle.ll_code.specs.declared.program.LlProgram.{LlProgram}
 use Rattle.ll_helpers.specs.Helpers.{graph_for}
 use Rattle.rpy_meaning.specs.declared.row.Covers.{Covers}
 use Rattle.rtyper_data.specs.declared.found.Found.{Found}
-use Rattle.rtyper_data.specs.declared.small.Small.TheVariants as small
-use Rattle.rtyper_data.specs.Finding.{failures_of, helper_number, small_number}
+use Rattle.rtyper_data.specs.Finding.{failures_of, helper_number}
 use Rattle.rtyper_raising.specs.Raising.{failing_with, raised_in as classes_in, raising_block, raising_blocks, with_class}
 use Rattle.rtyper_class.specs.Seen.{World}
 use Rattle.rtyper_program.specs.Seen.{Known}

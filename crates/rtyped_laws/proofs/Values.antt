@@ -1,5 +1,5 @@
 -- Small graphs of values stand at their numbers, and what they raise is raised.
-use Rattle.std.proofs.Common.{◌≡◌, ◌<◌, ◌^◌, ℕ, Bool, [], ◌∷◌, true, false, length, Some, subst, refl}
+use Rattle.std.proofs.Common.{◌≡◌, ◌<◌, ◌^◌, ℕ, Bool, [], ◌∷◌, true, false, length, subst, refl}
 use Rattle.csub_tree.specs.declared.tree.CBinary.{CBinary}
 use Rattle.csub_tree.specs.declared.tree.CBinary.TheVariants as binary
 use Rattle.ll_code.specs.declared.program.LlType.{LlType}
