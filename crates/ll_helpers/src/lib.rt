@@ -5,6 +5,7 @@ mod loops;
 mod print;
 mod statics;
 mod strings_ask;
+mod strings_cut;
 mod strings_make;
 mod whole;
 mod words;

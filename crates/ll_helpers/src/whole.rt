@@ -12,10 +12,8 @@ use crate::strings_ask::{
     print_str, str_contains, str_ends_with, str_equal, str_find, str_has_item, str_index, str_item,
     str_len, str_less, str_starts_with, str_truth, str_walk, str_write,
 };
-use crate::strings_make::{
-    str_add, str_but_last, str_mul, str_of_bool, str_of_char, str_of_word, str_slice, str_strip,
-    string_part,
-};
+use crate::strings_cut::{str_but_last, str_slice, str_strip};
+use crate::strings_make::{str_add, str_mul, str_of_bool, str_of_char, str_of_word, string_part};
 use crate::words::{
     is_alpha, is_digit, is_space, range_down, range_up, word_chr, word_div, word_max, word_min,
     word_mod, word_shl, word_shr,
