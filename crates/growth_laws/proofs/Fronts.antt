@@ -1,13 +1,10 @@
 -- Lists that begin with others.
 use Rattle.std.proofs.Common.{◌≡◌, ◌≤◌, ℕ, zero, suc, ◌+◌, List, [], ◌∷◌, ◌++◌, length, slice_get, Some, None, refl, sym, ap, subst, ◌∙◌, arith, append_assoc, length-append}
+use Rattle.std.proofs.lemmas.List.{append-nil}
 use Rattle.growth_laws.specs.Growing.{Begins}
 
-pub append_nil : {A : Type 0} (xs : List A) → xs ++ [] ≡ xs
-append_nil [] = refl
-append_nil (x ∷ xs) = ap (λ l. x ∷ l) (append_nil xs)
-
 pub itself : {A : Type 0} (xs : List A) → Begins xs xs
-itself xs = ([], append_nil xs)
+itself xs = ([], append-nil xs)
 
 pub one_more : {A : Type 0} (xs : List A) (x : A) → Begins xs (xs ++ x ∷ [])
 one_more xs x = (x ∷ [], refl)
@@ -34,7 +31,7 @@ longer (y ∷ xs) x = let e : length (xs ++ x ∷ []) ≡ length xs + 1 = longer
 
 -- a list that begins with another of its length is that
 pub whole : {A : Type 0} (xs ys : List A) → Begins xs ys → length ys ≡ length xs → xs ≡ ys
-whole xs ys b e = sym (append_nil xs) ∙ (ap (λ l. xs ++ l) (sym (empty b.0 (let q : length xs + length b.0 ≡ length xs = sym (length-append xs b.0) ∙ (ap length b.1 ∙ e) in omega (arith, q)))) ∙ b.1)
+whole xs ys b e = sym (append-nil xs) ∙ (ap (λ l. xs ++ l) (sym (empty b.0 (let q : length xs + length b.0 ≡ length xs = sym (length-append xs b.0) ∙ (ap length b.1 ∙ e) in omega (arith, q)))) ∙ b.1)
   where
     empty : {A : Type 0} (more : List A) → length more ≡ 0 → more ≡ []
     empty [] h = refl
