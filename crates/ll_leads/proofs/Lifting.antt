@@ -57,7 +57,7 @@ module _ (below : List Frame) where
     caught_by_over value frames core (exit.Fail n) = refl
     caught_by_over value frames core (exit.Raised a) = refl
 
-    caught_over : (value : Value) (ops : List LlOp) (e : LlExit) (frames : List Frame) (core : Core) → caught p value ops e (frames ++ below) core ≡ next_over below (caught p value ops e frames core)
+    pub caught_over : (value : Value) (ops : List LlOp) (e : LlExit) (frames : List Frame) (core : Core) → caught p value ops e (frames ++ below) core ≡ next_over below (caught p value ops e frames core)
     caught_over value [] e frames core = caught_by_over value frames core e
     caught_over value (o ∷ ops) e frames core = refl
 
@@ -69,7 +69,7 @@ module _ (below : List Frame) where
     called_value_over result params None values frames core = refl
     called_value_over result params (Some f) values frames core = called_as_over result params f values frames core (slice_get p.graphs f)
 
-    entered_over : (f : ℕ) (values : List Value) (frames : List Frame) (core : Core) (o : Option LlGraph) → entered f values (frames ++ below) core o ≡ next_over below (entered f values frames core o)
+    pub entered_over : (f : ℕ) (values : List Value) (frames : List Frame) (core : Core) (o : Option LlGraph) → entered f values (frames ++ below) core o ≡ next_over below (entered f values frames core o)
     entered_over f values frames core None = refl
     entered_over f values frames core (Some graph) = one (slice_get graph.blocks 0)
       where
@@ -80,7 +80,7 @@ module _ (below : List Frame) where
     given_over : (frames : List Frame) (value : Value) (go come : Value → Next) → come value ≡ next_over below (go value) → given value come ≡ next_over below (given value go)
     given_over frames value go come h = either (is_unset value) (Sticks IsUnset) (go value) (Sticks IsUnset) (come value) refl h
 
-    operates_over : (o : LlOp) (ops : List LlOp) (e : LlExit) (frames : List Frame) (core : Core) → operates p args o ops e (frames ++ below) core ≡ next_over below (operates p args o ops e frames core)
+    pub operates_over : (o : LlOp) (ops : List LlOp) (e : LlExit) (frames : List Frame) (core : Core) → operates p args o ops e (frames ++ below) core ≡ next_over below (operates p args o ops e frames core)
     operates_over (op.Call into f xs) ops e frames core = either (any_unset (operands core.vars xs)) (Sticks IsUnset) _ (Sticks IsUnset) _ refl refl
     operates_over (op.CallFn into result params b xs) ops e frames core =
         either (is_unset (read core.vars b) || any_unset (operands core.vars xs)) (Sticks IsUnset) _ (Sticks IsUnset) _ refl (called_value_over (c_result result) (map c_type params) (fun_of (read core.vars b)) (operands core.vars xs) (waiting core into ops e ∷ frames) core)
@@ -105,7 +105,7 @@ module _ (below : List Frame) where
     operates_over (op.Arg a x y) ops e frames core = after_over ops e frames (does p args core (op.Arg a x y))
     operates_over (op.Put x) ops e frames core = after_over ops e frames (does p args core (op.Put x))
 
-    leaves_over : (e : LlExit) (frames : List Frame) (core : Core) → leaves p e (frames ++ below) core ≡ next_over below (leaves p e frames core)
+    pub leaves_over : (e : LlExit) (frames : List Frame) (core : Core) → leaves p e (frames ++ below) core ≡ next_over below (leaves p e frames core)
     leaves_over (exit.Goto link) frames core = jump_over frames core link
     leaves_over (exit.If a there elsewhere) frames core = branch_over frames core there elsewhere (flag_of (read core.vars a))
     leaves_over (exit.OnRaise a by without) frames core = jump_over frames core without
@@ -137,7 +137,7 @@ module _ (below : List Frame) where
 
     -- ---- ways
 
-    stored_over : (s : State) → stored (over below s) ≡ stored s
+    pub stored_over : (s : State) → stored (over below s) ≡ stored s
     stored_over (Calling f values frames core) = refl
     stored_over (Returning value frames core) = refl
     stored_over (Throwing value frames core) = refl
