@@ -78,7 +78,7 @@ module _ (world : World) (known : Known) (class : ℕ) (r : Bool) (l : Laid) (pl
 
     -- what fails or throws elsewhere
     elsewhere : (c : Bool) → Follows 0 known world.around place p arguments (At (it.ops ++ (at.ops ++ (raises ∷ rest))) e frames core) rest e frames core g raised 0 (length w.body.types) meant (failure c 9 fail.Attribute meant) → Did (failure c 9 fail.Attribute meant)
-    elsewhere true h = inr h
+    elsewhere true h = inr (omega arith, h)
     elsewhere false h = h
 
     long : length (it.new ++ at.new) ≡ length it.new + length at.new

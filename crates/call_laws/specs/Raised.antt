@@ -15,7 +15,7 @@ use Rattle.ll_leads.specs.Path.{Leads}
 use Rattle.ll_texts.specs.Follows.{FailedAs}
 use Rattle.rpy_meaning.specs.declared.row.Covers.{Covers}
 use Rattle.rpy_meaning.specs.declared.row.RowOp.TheVariants as row
-use Rattle.rpy_meaning.specs.Operations.{op as meant_op}
+use Rattle.rpy_meaning.specs.Operations.{op as meant_op, builtin_classes}
 use Rattle.rpy_meaning.specs.World.{World as MeantWorld, Answer, Gives, Throws, Fails, Lacks, Enters, Bad}
 use Rattle.rpy_tree.specs.Value.{Value as Meant}
 use Rattle.rtyper_layout.specs.declared.classes.Laid.{Laid}
@@ -48,9 +48,9 @@ pub record Raised (p : LlProgram) (args : List (List ℕ)) (s : State) (rest : L
   pub block : end.block ≡ core.block
   pub same : w' ≡ w
 
--- what `raise` answers: an exception is raised here, or by what was asked whether it is there; or it fails
+-- what `raise` answers: an exception is raised here, or a builtin one by what was asked whether it is there; or it fails
 abbrev pub Raises : LlProgram → List (List ℕ) → State → List LlOp → LlExit → List Frame → Core → Ghost → (ℕ → Value) → ℕ → MeantWorld → Answer → Type 0
-Raises p args s rest e frames core g raised below w (Throws exception w') = Raised p args s rest e frames core g exception below w w' ⊎ Threw p args s rest e frames core (raised exception) below w w'
+Raises p args s rest e frames core g raised below w (Throws exception w') = Raised p args s rest e frames core g exception below w w' ⊎ ((exception < builtin_classes) × Threw p args s rest e frames core (raised exception) below w w')
 Raises p args s rest e frames core g raised below w (Fails name) = FailedAs p args s name
 Raises p args s rest e frames core g raised below w (Gives v w') = ⊥
 Raises p args s rest e frames core g raised below w Lacks = ⊥

@@ -125,7 +125,7 @@ module _ (known : Known) (world : World) where
   function_front n g made i x true e = in_front made.0 ((graph_of known world n g made.1).0 ∷ []) i x e
   function_front n g made i x false e = e
 
-  functions_front : (n : ℕ) (gs : List Graph) (made : List LlGraph × Found) (i : ℕ) (x : LlGraph) → slice_get made.0 i ≡ Some x → slice_get (functions_from known world n gs made).0 i ≡ Some x
+  pub functions_front : (n : ℕ) (gs : List Graph) (made : List LlGraph × Found) (i : ℕ) (x : LlGraph) → slice_get made.0 i ≡ Some x → slice_get (functions_from known world n gs made).0 i ≡ Some x
   functions_front n [] made i x e = e
   functions_front n (g ∷ gs) made i x e = functions_front (n + 1) gs (with_function known world n g made) i x (function_front n g made i x (is_reached known.annotation g.function) e)
 
@@ -133,7 +133,7 @@ module _ (known : Known) (world : World) where
   small_front None made i x e = e
   small_front (Some s) made i x e = in_front made.0 ((small_of world s made.1).0 ∷ []) i x e
 
-  smalls_front : (count : ℕ) (made : List LlGraph × Found) (i : ℕ) (x : LlGraph) → slice_get made.0 i ≡ Some x → slice_get (smalls_to world count made).0 i ≡ Some x
+  pub smalls_front : (count : ℕ) (made : List LlGraph × Found) (i : ℕ) (x : LlGraph) → slice_get made.0 i ≡ Some x → slice_get (smalls_to world count made).0 i ≡ Some x
   smalls_front zero made i x e = e
   smalls_front (suc n) made i x e = small_front (slice_get (smalls_to world n made).1.smalls n) (smalls_to world n made) i x (smalls_front n made i x e)
 

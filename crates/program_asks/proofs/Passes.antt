@@ -66,12 +66,12 @@ module _ (known : Known) (world : World) (functions : (n : ℕ) (graph : Graph) 
 
 -- the numbers of functions are counted as their graphs are, where they are words
 module _ (known : Known) (world : World) where
-  counted_one : (n k : ℕ) (g : Graph) (made : List LlGraph × Found) (b : Bool) → length made.0 ≡ k
+  pub counted_one : (n k : ℕ) (g : Graph) (made : List LlGraph × Found) (b : Bool) → length made.0 ≡ k
       → length (if b then (made.0 ++ (graph_of known world n g made.1).0 ∷ [], (graph_of known world n g made.1).1) else made).0 ≡ (if b then k + 1 else k)
   counted_one n k g made true e = longer made.0 (graph_of known world n g made.1).0 ∙ ap (λ i. i + 1) e
   counted_one n k g made false e = e
 
-  no_less : (n : ℕ) (gs : List Graph) (made : List LlGraph × Found) → length made.0 ≤ length (functions_from known world n gs made).0
+  pub no_less : (n : ℕ) (gs : List Graph) (made : List LlGraph × Found) → length made.0 ≤ length (functions_from known world n gs made).0
   no_less n [] made = omega arith
   no_less n (g ∷ gs) made =
       let e : length made.0 ≤ length (with_function known world n g made).0 = one (is_reached known.annotation g.function) (counted_one n (length made.0) g made (is_reached known.annotation g.function) refl) in
@@ -83,7 +83,7 @@ module _ (known : Known) (world : World) where
       one true h = omega (arith, h)
       one false h = omega (arith, h)
 
-  next_is : (k m : ℕ) (b : Bool) → m ≡ (if b then k + 1 else k) → m < 2 ^ 64 → (if b then word (k + 1) else k) ≡ m
+  pub next_is : (k m : ℕ) (b : Bool) → m ≡ (if b then k + 1 else k) → m < 2 ^ 64 → (if b then word (k + 1) else k) ≡ m
   next_is k m true e h = omega (arith, e, h)
   next_is k m false e h = sym e
 

@@ -71,27 +71,27 @@ lowered_grows : (world : World) (o : RowOp) (place : Place) (args : List Operand
 lowered_grows world o place args w = either w.found (λ (made : Writing). made.found) _ _ _ (lower_dict_op_grows world.around o place args w) (lower_class_op_grows world o place args w)
 
 module _ (l : Lowered) where
-  op_grows : (o : Op) (w : Writing) → Grows w.found (op_of l o w).found
+  pub op_grows : (o : Op) (w : Writing) → Grows w.found (op_of l o w).found
   unfolding op_of
   op_grows o w =
       then_grows (covered_grows o.covered w) (then_grows (lowered_grows l.world o.op (place_of l o.result) (map (operand_of l) o.args) (with_covered o.covered w))
       (covered_grows nothing (lowered l.world o.op (place_of l o.result) (map (operand_of l) o.args) (with_covered o.covered w))))
 
-  ops_grow : (ops : List Op) (made : ℕ × Writing) → Grows made.1.found (ops_from l ops made).1.found
+  pub ops_grow : (ops : List Op) (made : ℕ × Writing) → Grows made.1.found (ops_from l ops made).1.found
   ops_grow [] made = same_found made.1.found
   ops_grow (o ∷ ops) made = then_grows (op_grows o made.1) (ops_grow ops (length made.1.body.ops, op_of l o made.1))
 
-  block_grows : (block : Block) (w : Work) → Grows w.writing.found (block_of l block w).1.writing.found
+  pub block_grows : (block : Block) (w : Work) → Grows w.writing.found (block_of l block w).1.writing.found
   unfolding block_of
   block_grows block w =
       let ops : ℕ × Writing = ops_of l block.ops w.writing in
       then_grows (ops_grow block.ops (length w.writing.body.ops, w.writing)) (exit_grows l block.exit ops.0 (work ops.1 w.extra))
 
-  block_at_grows : (n : ℕ) (block : Block) (w : Work) → Grows w.writing.found (block_at l n block w).1.writing.found
+  pub block_at_grows : (n : ℕ) (block : Block) (w : Work) → Grows w.writing.found (block_at l n block w).1.writing.found
   block_at_grows n block w =
       either w.writing.found (λ (made : LlBlock × Work). made.1.writing.found) (is_block_reached l.known.annotation l.number n) _ _ (block_grows block (paid n w)) (same_found w.writing.found)
 
-  blocks_grow : (n : ℕ) (blocks : List Block) (made : List LlBlock × Work) → Grows made.1.writing.found (blocks_from l n blocks made).1.writing.found
+  pub blocks_grow : (n : ℕ) (blocks : List Block) (made : List LlBlock × Work) → Grows made.1.writing.found (blocks_from l n blocks made).1.writing.found
   blocks_grow n [] made = same_found made.1.writing.found
   blocks_grow n (block ∷ blocks) made = then_grows (block_at_grows n block made.1) (blocks_grow (n + 1) blocks (with_block made.0 (block_at l n block made.1)))
 

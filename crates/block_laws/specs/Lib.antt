@@ -1,0 +1,4 @@
+pub mod Escaping
+pub mod Exits
+pub mod Links
+pub mod Operations

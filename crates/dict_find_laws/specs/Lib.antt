@@ -1,0 +1,5 @@
+pub mod Asked
+pub mod Finding
+pub mod Listings
+pub mod Lookups
+pub mod Pairs

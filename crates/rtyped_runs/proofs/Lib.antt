@@ -1,0 +1,6 @@
+pub mod Blocks
+pub mod Functions
+pub mod Graphs
+pub mod Operations
+pub mod Taking
+pub mod Whole

@@ -1,0 +1,4 @@
+pub mod Does
+pub mod Points
+pub mod Runs
+pub mod States

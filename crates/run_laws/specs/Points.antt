@@ -1,0 +1,80 @@
+-- What is known of flow graphs and of the low-level program that is made of them, and how the variables of the one stand in the other.
+use Rattle.std.specs.Prelude.{◌≡◌, ◌≢◌, ℕ, Bool, true, List, length, map, slice_get, Option, Some, None}
+use Rattle.ann_element.specs.declared.element.Element.{Element}
+use Rattle.csub_tree.specs.State.{Value, Core}
+use Rattle.csub_tree.specs.Statement.{read}
+use Rattle.ll_code.specs.State.{State}
+use Rattle.ll_code.specs.declared.program.LlBlock.{LlBlock}
+use Rattle.ll_code.specs.declared.program.LlGraph.{LlGraph}
+use Rattle.ll_code.specs.declared.program.LlProgram.{LlProgram}
+use Rattle.ll_leads.specs.Path.{Leads}
+use Rattle.ll_live.specs.Live.{among}
+use Rattle.rpy_tree.specs.Value.{Value as Meant}
+use Rattle.rpy_meaning.specs.World.{World}
+use Rattle.flow_graph.specs.declared.graph.Block.{Block}
+use Rattle.flow_graph.specs.declared.graph.Graphs.{Graphs}
+use Rattle.flow_meaning.specs.Machine.{Bound, look, block_in}
+use Rattle.rtyper_data.specs.Seen.{Around}
+use Rattle.rtyper_layout.specs.Types.{type_seen}
+use Rattle.object_laws.specs.Ghost.{Ghost, InstanceOf}
+use Rattle.object_laws.specs.Known.{Known}
+use Rattle.object_laws.specs.Represents.{Represents}
+use Rattle.object_laws.specs.Values.{Holds}
+use Rattle.conversion_laws.specs.Converted.{Blank}
+
+-- The flow graphs of a program; the low-level program, and the arguments with which it runs; what is known around it, and of its objects; and
+-- of each graph what is known of its variables, which of its blocks are reached, and how many variables the low-level graph has.
+pub record Setting : Type 0 where
+  pub graphs : Graphs
+  pub low : LlProgram
+  pub arguments : List (List ℕ)
+  pub around : Around
+  pub known : Known
+  pub element : ℕ → ℕ → Option Element
+  pub reached : ℕ → ℕ → Bool
+  pub size : ℕ → ℕ
+
+-- ---- variables
+
+-- the variables of the block that runs
+abbrev pub names_of : List Bound → List ℕ
+names_of env = map (λ (b : Bound). b.variable) env
+
+module _ (s : Setting) where
+  -- a variable that is bound has what stands for its value, by what is known of it, and one that is not bound has what stands for nothing
+  pub record Stand (g : Ghost) (f : ℕ) (env : List Bound) (vars : List Value) : Type 0 where
+    pub bound : (v : ℕ) (x : Meant) → look env v ≡ Some x → Holds s.around.layout s.known g (s.element f v) (read vars v) x
+    pub blank : (v : ℕ) → among v (names_of env) ≡ true → look env v ≡ None → Blank g (type_seen s.around.layout (s.element f v)) (read vars v)
+
+  -- a run stands in the graph of a function, in a block of which these variables have been set so, and memory represents the heap
+  pub record IsAt (g : Ghost) (f : ℕ) (names : List ℕ) (env : List Bound) (w : World) (core : Core) : Type 0 where
+    pub named : names_of env ≡ names
+    pub stands : Represents s.around.layout s.known g w.heap w.left core.blocks core.statics
+    pub left : w.left ≡ core.steps
+    pub variables : Stand g f env core.vars
+    pub runs : s.known.graph f ≡ Some core.function
+    pub room : length core.vars ≡ s.size f
+
+  -- ---- ways
+
+  -- some steps of the low-level program lead from the one state to the other, and put this text
+  pub record Way (from : State) (text : List ℕ) (to : State) : Type 0 where
+    pub most : ℕ
+    pub leads : Leads s.low s.arguments most from text to
+
+  -- ---- blocks
+
+  -- a block of a flow graph that is reached, and the block with its number in the low-level graph; no way leads back to the first one
+  pub record BlockAt (f n : ℕ) (b : Block) (low : LlBlock) : Type 0 where
+    pub flow : block_in (slice_get s.graphs.graphs f) n ≡ Some b
+    pub number : ℕ
+    pub is : s.known.graph f ≡ Some number
+    pub graph : LlGraph
+    pub stands : slice_get s.low.graphs number ≡ Some graph
+    pub block : slice_get graph.blocks n ≡ Some low
+    pub reached : s.reached f n ≡ true
+    pub later : n ≢ 0
+
+-- the value is the home of this object, which is an exception
+abbrev pub IsException : Ghost → ℕ → Value → Type 0
+IsException g r x = (class : ℕ) × (slice_get g.homes r ≡ Some (record { sort = InstanceOf class; head = x }))
