@@ -2,5 +2,6 @@ pub mod Blocks
 pub mod Functions
 pub mod Graphs
 pub mod Operations
+pub mod Premises
 pub mod Taking
 pub mod Whole

@@ -2,6 +2,7 @@
 ghost use Rattle.dict_change_laws.specs.Changed.{CanStore, KeysAreThere};
 ghost use Rattle.dict_find_laws.specs.Lookups.{FirstIsThere, SecondIsThere};
 ghost use Rattle.rtyped_runs.specs.Laws.{CopiedOperationsAreWritten, DoneOperationsAreWritten, EnteredOperationsAreWritten, GivenOperationsAreWritten, KeyedOperationsAreWritten, ListedOperationsAreWritten, RaisedOperationsAreWritten, of_changes, of_classes, of_conversions, of_dicts, of_lists, of_lookups, of_values};
+ghost use Rattle.rtyped_runs.specs.Premises.{GraphsAreKnown, VariablesHaveTypes};
 ghost use Rattle.rtyped_runs.specs.Programs.{ProgramsAreLowered, ProgramsRunOn};
 
 /// Every program that is made of flow graphs does what they do, block by block, where what its operations and exits are written as
@@ -34,4 +35,14 @@ pub fn operations_are_written()
     ensures given { GivenOperationsAreWritten }
     ensures entered { EnteredOperationsAreWritten }
     ensures raised { RaisedOperationsAreWritten }
+{}
+
+/// What is held by a variable has a type, where what is known of the variables of its graph has its structs.
+pub fn variables_have_types()
+    ensures { VariablesHaveTypes }
+{}
+
+/// A function has the number of its graph exactly where it is reached, as what is known of a program says.
+pub fn graphs_are_known()
+    ensures { GraphsAreKnown }
 {}

@@ -4,4 +4,7 @@
 
 mod laws;
 
-pub use laws::{operations_are_written, programs_are_lowered, programs_run_on};
+pub use laws::{
+    graphs_are_known, operations_are_written, programs_are_lowered, programs_run_on,
+    variables_have_types,
+};
