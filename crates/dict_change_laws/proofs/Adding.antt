@@ -28,8 +28,8 @@ use Rattle.rtyper_dict.specs.Indexing.{enter_graph}
 use Rattle.rtyper_dict.specs.Parts.{shape_of, and_call}
 use Rattle.dict_laws.specs.Index.{Enters, done as all_entered, more, IsRight}
 use Rattle.dict_laws.specs.Masks.{place_of}
-use Rattle.dict_change_laws.proofs.Entries.{enters_keys}
-use Rattle.dict_change_laws.proofs.Masked.{masks_lead}
+use Rattle.dict_laws.proofs.Entering.{enters_keys}
+use Rattle.dict_laws.proofs.Masked.{masks_lead}
 use Rattle.object_laws.specs.Dicts.{DictAt, Arrays, IsIndex, IsIndexIf, as_item, hash, dict_block, items_block, index_values, keys_of, in_first, in_second}
 use Rattle.object_laws.specs.Done.{HasLayout}
 use Rattle.object_laws.specs.Ghost.{Ghost, DictOf, Stays, Second}

@@ -28,7 +28,7 @@ use Rattle.dict_laws.specs.Masks.{IsLength}
 use Rattle.object_laws.specs.Dicts.{dict_block}
 use Rattle.object_laws.proofs.Blocks.{found_set, reads_field}
 use Rattle.object_laws.proofs.Calling.{Returns, calls_back}
-use Rattle.dict_change_laws.proofs.Masked.{indices_are_longer}
+use Rattle.dict_laws.proofs.Masked.{indices_are_longer}
 use Rattle.dict_change_laws.proofs.Sizing.{sized}
 use Rattle.dict_change_laws.proofs.Standing.{greatest}
 

@@ -19,7 +19,7 @@ use Rattle.dict_change_laws.specs.Called.{LengthsAreReckoned, RoomIsMade, Entrie
 use Rattle.dict_change_laws.proofs.Adding.{added}
 use Rattle.dict_change_laws.proofs.Asking.{adds_by, grows_by, removes_by}
 use Rattle.dict_change_laws.proofs.Growing.{makes_room}
-use Rattle.dict_change_laws.proofs.Masked.{indices_are_longer}
+use Rattle.dict_laws.proofs.Masked.{indices_are_longer}
 use Rattle.dict_change_laws.proofs.Pairs.{split, is_new}
 use Rattle.dict_change_laws.proofs.Removing.{removed}
 use Rattle.dict_change_laws.proofs.Sizing.{sized}

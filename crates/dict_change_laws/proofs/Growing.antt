@@ -47,11 +47,11 @@ use Rattle.dict_change_laws.proofs.Ending.{FillsBy, nothing_in, nothing_long, no
 use Rattle.dict_change_laws.proofs.Enlarging.{raw, raw_long, enlarged, Enlarged}
 use Rattle.dict_change_laws.proofs.Adding.{empty_block}
 use Rattle.dict_change_laws.proofs.Entering.{all_long, words_long}
-use Rattle.dict_change_laws.proofs.Entries.{makes_indices}
+use Rattle.dict_laws.proofs.Entering.{makes_indices}
 use Rattle.dict_change_laws.proofs.Indexing.{indexes, zeros, zeros_long}
 use Rattle.dict_change_laws.specs.Changed.{AreThere}
 use Rattle.dict_change_laws.proofs.Keyed.{Staying, Hashes, items_set, map_long, all_hashed, all_below}
-use Rattle.dict_change_laws.proofs.Masked.{masks_lead}
+use Rattle.dict_laws.proofs.Masked.{masks_lead}
 use Rattle.dict_change_laws.proofs.Putting.{put, array_of}
 use Rattle.dict_change_laws.proofs.Rewriting.{Have, Three, have_second}
 use Rattle.dict_change_laws.proofs.Standing.{the_shape, all_keys, all_values, keys_count, values_count, total_small, both_long, no_more}

@@ -7,7 +7,6 @@ pub mod Deleting
 pub mod Ending
 pub mod Enlarging
 pub mod Entering
-pub mod Entries
 pub mod Filling
 pub mod Graphs
 pub mod Growing
@@ -15,7 +14,6 @@ pub mod Hashed
 pub mod Indexing
 pub mod Keeping
 pub mod Keyed
-pub mod Masked
 pub mod Pairs
 pub mod Parting
 pub mod Putting
@@ -27,4 +25,3 @@ pub mod Stage
 pub mod Standing
 pub mod Storing
 pub mod Turning
-pub mod Words

@@ -47,13 +47,13 @@ use Rattle.object_laws.proofs.Growing.{grown_none}
 use Rattle.dict_change_laws.proofs.Adding.{empty_block}
 use Rattle.dict_change_laws.proofs.Changes.{Mine, three_mine, dict_rewritten, not_mine}
 use Rattle.dict_change_laws.proofs.Entering.{words_long, index_long, all_long}
-use Rattle.dict_change_laws.proofs.Entries.{makes_indices}
+use Rattle.dict_laws.proofs.Entering.{makes_indices}
 use Rattle.dict_change_laws.proofs.Filling.{default_of, default_set, default_empty, default_counts}
 use Rattle.dict_change_laws.proofs.Growing.{IndexesBy}
 use Rattle.dict_change_laws.proofs.Indexing.{indexes, zeros, zeros_long}
 use Rattle.dict_change_laws.specs.Changed.{AreThere}
 use Rattle.dict_change_laws.proofs.Keyed.{Staying, Hashes, items_set, map_both, map_long, all_hashed, all_below}
-use Rattle.dict_change_laws.proofs.Masked.{masks_lead}
+use Rattle.dict_laws.proofs.Masked.{masks_lead}
 use Rattle.dict_change_laws.proofs.Pairs.{Split, apart_less}
 use Rattle.dict_change_laws.proofs.Parting.{Parted, parted, set_behind}
 use Rattle.dict_change_laws.proofs.Putting.{put, array_of, puts_item, puts_field}

@@ -19,7 +19,7 @@ use Rattle.dict_laws.specs.Index.{next}
 use Rattle.object_laws.specs.Dicts.{items_block, index_values}
 use Rattle.object_laws.proofs.Blocks.{reads_item}
 use Rattle.dict_find_laws.proofs.Keyed.{Tests}
-use Rattle.dict_find_laws.proofs.Masked.{masks_lead, two_more}
+use Rattle.dict_laws.proofs.Masked.{masks_lead, two_more}
 use Rattle.dict_find_laws.proofs.Probing.{Compares, read_behind}
 use Rattle.dict_find_laws.proofs.Shaped.{shaped}
 

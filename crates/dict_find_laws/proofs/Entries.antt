@@ -42,7 +42,7 @@ use Rattle.list_copy_laws.proofs.Fresh.{MadeList, made_so, raw}
 use Rattle.dict_find_laws.specs.Asked.{HasListing}
 use Rattle.dict_find_laws.proofs.Columns.{In, Lists, Set, There, lists_all}
 use Rattle.dict_find_laws.proofs.Got.{and_second}
-use Rattle.dict_find_laws.proofs.Masked.{two_more}
+use Rattle.dict_laws.proofs.Masked.{two_more}
 use Rattle.dict_find_laws.proofs.Places.{entries_few, pairs_long, second_long}
 use Rattle.dict_find_laws.proofs.Restored.{IsOf, is_of}
 use Rattle.dict_find_laws.proofs.Shaped.{shape_is, shaped}

@@ -26,7 +26,7 @@ use Rattle.dict_laws.specs.Masks.{place_of}
 use Rattle.object_laws.specs.Dicts.{dict_block, items_block, index_values}
 use Rattle.object_laws.proofs.Blocks.{found_set, reads_field}
 use Rattle.dict_find_laws.specs.Finding.{place_word}
-use Rattle.dict_find_laws.proofs.Masked.{masks_lead, two_more}
+use Rattle.dict_laws.proofs.Masked.{masks_lead, two_more}
 use Rattle.dict_find_laws.proofs.Probing.{Graph, Others, Compares, looks}
 
 not_none : (n : ℕ) → 0 < n → binary_of binary.Eq (Word (pos n)) (Word (pos 0)) ≡ Ok (Flag false)

@@ -20,14 +20,11 @@ pub mod Indexed
 pub mod Keyed
 pub mod Listed
 pub mod Listing
-pub mod Looking
 pub mod Many
-pub mod Masked
 pub mod Paired
 pub mod Pairing
 pub mod Pairs
 pub mod Places
-pub mod Placing
 pub mod Probing
 pub mod Read
 pub mod Ready
@@ -37,6 +34,5 @@ pub mod Shaped
 pub mod Sought
 pub mod Stage
 pub mod Within
-pub mod Words
 pub mod Worth
 pub mod Zipped

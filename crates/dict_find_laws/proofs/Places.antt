@@ -26,9 +26,9 @@ use Rattle.object_laws.proofs.Valued.{each_long}
 use Rattle.dict_find_laws.specs.Finding.{place_word}
 use Rattle.dict_find_laws.proofs.Alike.{same_start, same_both}
 use Rattle.dict_find_laws.proofs.Indexed.{ReadsFirst, key_found, none_found, types}
-use Rattle.dict_find_laws.proofs.Looking.{looking_ends}
-use Rattle.dict_find_laws.proofs.Masked.{masks_lead}
-use Rattle.dict_find_laws.proofs.Placing.{finds_places}
+use Rattle.dict_laws.proofs.Looking.{looking_ends}
+use Rattle.dict_laws.proofs.Masked.{masks_lead}
+use Rattle.dict_laws.proofs.Placing.{finds_places}
 use Rattle.dict_find_laws.proofs.Probing.{Compares, Graph}
 use Rattle.dict_find_laws.proofs.Shaped.{shaped}
 

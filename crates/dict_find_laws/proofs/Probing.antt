@@ -21,7 +21,7 @@ use Rattle.rtyper_dict.specs.declared.parts.DictShape.{DictShape}
 use Rattle.rtyper_dict.specs.Looking.{find_graph, find_blocks, find_asks, find_starts, find_probes, find_reads, find_compares}
 use Rattle.list_shape.specs.Shapes.{gives as gives_block}
 use Rattle.dict_laws.specs.Index.{next, Holds, Looks, missed, met, passed}
-use Rattle.dict_find_laws.proofs.Words.{next_below, is_below}
+use Rattle.dict_laws.proofs.Words.{next_below, is_below}
 use Rattle.object_laws.specs.Dicts.{items_block, index_values}
 use Rattle.object_laws.proofs.Blocks.{reads_item}
 use Rattle.dict_find_laws.specs.Finding.{place_word}

@@ -30,7 +30,7 @@ use Rattle.object_laws.specs.Represents.{Represents}
 use Rattle.object_laws.proofs.Blocks.{found_set, reads_field, reads_item}
 use Rattle.object_laws.proofs.Valued.{held_set}
 use Rattle.dict_find_laws.proofs.Keyed.{KeyAt, key_at}
-use Rattle.dict_find_laws.proofs.Masked.{two_more}
+use Rattle.dict_laws.proofs.Masked.{two_more}
 use Rattle.dict_find_laws.proofs.Probing.{read_behind}
 use Rattle.dict_find_laws.proofs.Shaped.{shape_is, shaped}
 

@@ -1,5 +1,5 @@
-mod Entering
-mod Looking
-mod Masked
-mod Placing
-mod Words
+pub mod Entering
+pub mod Looking
+pub mod Masked
+pub mod Placing
+pub mod Words

@@ -1,6 +1,6 @@
 -- Looking in a right index.
 use Rattle.std.proofs.Common.{◌≡◌, ◌≢◌, ℕ, zero, suc, ◌<◌, Bool, true, false, List, length, slice_get, Option, Some, None, refl, sym, ap, ◌∙◌, subst, arith}
-use Rattle.dict_laws.specs.Index.{next, IsEmpty, Holds, StandsFrom, here, behind, Looks, missed, met, passed, IsFound, FindsKeys}
+use Rattle.dict_laws.specs.Index.{next, IsEmpty, Holds, StandsFrom, here, behind, Looks, missed, met, passed, IsFound, FindsKeys, IsRight}
 use Rattle.dict_laws.proofs.Words.{Reaches, same, step, reached, an_empty, get_below, is_below, next_below}
 
 module _ (words : List ℕ) (has : ℕ → Bool) where
@@ -33,10 +33,14 @@ module _ (words : List ℕ) (has : ℕ → Bool) where
   not_missed _ _ entry (passed at other found h k rest) (here _ g) t q = let p : other ≡ entry = cc in let z : true ≡ false = sym t ∙ (ap has (sym p) ∙ k) in cc
   not_missed _ _ entry (passed at other found h k rest) (behind _ more g s) t q = not_missed (next (length words) at) found entry rest s t q
 
+pub looking_ends : (words starts : List ℕ) (has : ℕ → Bool) (start : ℕ) → IsRight words starts → length starts < length words → start < length words → (found : Option ℕ) × Looks words has start found
+looking_ends words starts has start right room lt =
+    let e = an_empty words (omega (arith, right.free, room)) in
+    ends words has start e.0 (reached (length words) start e.0 lt (is_below words e.0 0 e.1)) e.1 lt
+
 pub finds_keys : FindsKeys
 finds_keys words starts has start right room lt leads =
-    let e = an_empty words (omega (arith, right.free, room)) in
-    (ends words has start e.0 (reached (length words) start e.0 lt (is_below words e.0 0 e.1)) e.1 lt, λ found l. by found l)
+    (looking_ends words starts has start right room lt, λ found l. by found l)
   where
     no_other : (b : Bool) (entry : ℕ) → has entry ≡ b → (has entry ≡ true → ⊥) → has entry ≡ false
     no_other true entry t f = absurd (f t)

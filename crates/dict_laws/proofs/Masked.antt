@@ -8,7 +8,7 @@ use Rattle.std.specs.Int.{w64, cast_signed, cast_unsigned, int_bit_and}
 use Rattle.dict_laws.specs.Index.{next}
 use Rattle.dict_laws.specs.Masks.{place_of, MasksLead, Doubled, enough, greatest, again, IsLength, IndicesAreLonger}
 
-two_more : (i j : ℕ) → i ≤ j → 2 ^ i ≤ 2 ^ j
+pub two_more : (i j : ℕ) → i ≤ j → 2 ^ i ≤ 2 ^ j
 two_more i j le = pow-le-pow_right {n = 2} (omega arith) le
 
 some_more : (bits : ℕ) → 0 < 2 ^ bits

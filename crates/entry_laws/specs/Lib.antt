@@ -1,0 +1,4 @@
+pub mod Begins
+pub mod Classes
+pub mod Ends
+pub mod Programs
