@@ -36,7 +36,7 @@ use Rattle.object_laws.proofs.Valued.{Gone, Instancing, held_set, instance_or_no
 use Rattle.run_laws.specs.Points.{Setting, Way}
 use Rattle.run_laws.specs.Does.{Does, Leaves}
 use Rattle.run_laws.proofs.Steps.{way_then}
-use Rattle.block_laws.specs.Exits.{IsGiven, ResultsAreGiven, ExceptionsLeave}
+use Rattle.block_laws.specs.Exits.{AreExceptions, IsGiven, ResultsAreGiven, ExceptionsLeave}
 use Rattle.block_laws.specs.Links.{setting, Converts, Ends}
 use Rattle.block_laws.specs.Operations.{HasTypes}
 use Rattle.block_laws.proofs.Passing.{is_void, moved, no_void}
@@ -114,7 +114,7 @@ results_are_given l known graphs p arguments numbers below names v w has types i
 -- ---- exceptions
 
 module _ (l : Lowered) (known : Known) (graphs : Graphs) (p : LlProgram) (arguments : List (List ℕ)) (below : ℕ) (names : List ℕ) (v class : ℕ) (w : Writing) (types : HasTypes (setting l known graphs p arguments) l.number below)
-    (is : element_at l.known.annotation l.number v ≡ Some (element.Instance class false)) where
+    (is : element_at l.known.annotation l.number v ≡ Some (element.Instance class false)) (all : AreExceptions known class) where
   raises : Does (setting l known graphs p arguments) l.number names [] (exit.Raise v) [] (raise_as v (type_at l v))
   raises frames core g env world at r h = by (instance_or_none class false is held)
     where
@@ -145,17 +145,17 @@ module _ (l : Lowered) (known : Known) (graphs : Graphs) (p : LlProgram) (argume
             way = goes;
             ghost = g;
             grown = grown_none;
-            is = (it.c, ap (λ n. slice_get g.homes n) i ∙ it.home);
+            is = record { class = it.c; home = ap (λ n. slice_get g.homes n) i ∙ it.home; above = all it.c it.below };
             stands = at.stands;
             left = at.left;
           }
       by (inr (bad, gone)) = absurd (cc)
 
 pub exceptions_leave : ExceptionsLeave
-exceptions_leave l known graphs p arguments below names v class w types is = record {
+exceptions_leave l known graphs p arguments below names v class w types is all = record {
   ops = [];
   new = [];
   written = sym (append-nil w.body.ops);
   types = sym (append-nil w.body.types);
-  does = λ enters. raises l known graphs p arguments below names v class w types is;
+  does = λ enters. raises l known graphs p arguments below names v class w types is all;
 }

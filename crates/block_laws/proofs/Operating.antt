@@ -91,7 +91,7 @@ module _ (s : Setting) (f : ℕ) (names : List ℕ) (o : Op) (ops : List Op) (e 
     leads = one (ap (λ l. caught s.low x l frame.exit frames (resumed frame later)) is ∙ ap (λ k. caught s.low x (left ++ rest) k frames (resumed frame later)) ends_so ∙ comes_out x left (resumed frame later)) refl;
   }
 
-  threw : (r : ℕ) (w' : World) → IsException g r (s.known.exception r) → Threw s.low s.arguments here rest ends frames core (s.known.exception r) below w w' → (w'.out ≡ w.out) × Thrown s f r w' g frames env ops e here
+  threw : (r : ℕ) (w' : World) → IsException s g r (s.known.exception r) → Threw s.low s.arguments here rest ends frames core (s.known.exception r) below w w' → (w'.out ≡ w.out) × Thrown s f r w' g frames env ops e here
   threw r w' is t =
       let memory = t.memory in (
         ap (λ (v : World). v.out) t.same,
@@ -108,7 +108,7 @@ module _ (s : Setting) (f : ℕ) (names : List ℕ) (o : Op) (ops : List Op) (e 
         }) (uncaught r w' env at.named),
       )
 
-  raised : (r : ℕ) (w' : World) → Raised s.low s.arguments here rest ends frames core g r below w w' → (w'.out ≡ w.out) × Thrown s f r w' g frames env ops e here
+  raised : (r : ℕ) (w' : World) → Raised s.known.program.classes s.low s.arguments here rest ends frames core g r below w w' → (w'.out ≡ w.out) × Thrown s f r w' g frames env ops e here
   raised r w' t =
       let memory = t.memory in
       let stands : Represents s.around.layout s.known g w.heap w.left t.end.blocks t.end.statics = subst (λ (c : Core). Represents s.around.layout s.known g w.heap w.left c.blocks c.statics) (sym memory) at.stands in
@@ -125,7 +125,7 @@ module _ (s : Setting) (f : ℕ) (names : List ℕ) (o : Op) (ops : List Op) (e 
           way = way_then s (record { most = 0; leads = t.leads }) goes;
           ghost = g;
           grown = grown_none;
-          is = (t.class, t.home);
+          is = record { class = t.class; home = t.home; above = t.above };
           stands = subst (λ (v : World). Represents s.around.layout s.known g v.heap v.left t.end.blocks t.end.statics) (sym t.same) stands;
           left = ap (λ (v : World). v.left) t.same ∙ at.left ∙ sym (ap (λ (c : Core). c.steps) memory);
         }) (uncaught r w' env at.named),
@@ -211,7 +211,7 @@ module _ (s : Setting) (f : ℕ) (names : List ℕ) (o : Op) (ops : List Op) (e 
             };
           }
 
-      throws : (later : Core) (g2 : Ghost) (x : Value) (r : ℕ) (w2 : World) → Grown c.ghost g2 → Represents s.around.layout s.known g2 w2.heap w2.left later.blocks later.statics → w2.left ≡ later.steps → IsException g2 r x
+      throws : (later : Core) (g2 : Ghost) (x : Value) (r : ℕ) (w2 : World) → Grown c.ghost g2 → Represents s.around.layout s.known g2 w2.heap w2.left later.blocks later.statics → w2.left ≡ later.steps → IsException s g2 r x
           → Thrown s f r w2 g2 frames env ops e (Throwing x (c.frame ∷ frames) later)
       throws later g2 x r w2 grown stands left is = escapes r w2 g2 (record {
         x = x;

@@ -12,6 +12,7 @@ use Rattle.ll_code.specs.declared.program.LlExit.{LlExit}
 use Rattle.ll_code.specs.declared.program.LlProgram.{LlProgram}
 use Rattle.ll_build.specs.declared.needs.Numbers.{Numbers}
 use Rattle.rpy_tree.specs.Value.{Value as Meant}
+use Rattle.rpy_meaning.specs.Classes.{is_below}
 use Rattle.rpy_meaning.specs.Operations.{truth_in}
 use Rattle.rpy_meaning.specs.World.{World}
 use Rattle.flow_graph.specs.declared.graph.Exit.TheVariants as exit
@@ -50,10 +51,14 @@ abbrev pub ResultsAreGiven : Type 0
 ResultsAreGiven = (l : Lowered) (known : Known) (graphs : Graphs) (p : LlProgram) (arguments : List (List ℕ)) (numbers : Numbers) (below : ℕ) (names : List ℕ) (v : ℕ) (w : Writing)
     → HasLayout p l.world.around.layout → HasTypes (setting l known graphs p arguments) l.number below → IsGiven (setting l known graphs p arguments) numbers l v w → Ends (setting l known graphs p arguments) l names (exit.Return v) w (give_back l v w)
 
--- an instance that is there is raised, and leaves the graph
+-- each class below it is an exception
+abbrev pub AreExceptions : Known → ℕ → Type 0
+AreExceptions known class = (c : ℕ) → is_below known.program.classes c class ≡ true → is_below known.program.classes c 0 ≡ true
+
+-- an instance of a class of exceptions that is there is raised, and leaves the graph
 abbrev pub ExceptionsLeave : Type 0
 ExceptionsLeave = (l : Lowered) (known : Known) (graphs : Graphs) (p : LlProgram) (arguments : List (List ℕ)) (below : ℕ) (names : List ℕ) (v class : ℕ) (w : Writing)
-    → HasTypes (setting l known graphs p arguments) l.number below → (setting l known graphs p arguments).element l.number v ≡ Some (element.Instance class false)
+    → HasTypes (setting l known graphs p arguments) l.number below → (setting l known graphs p arguments).element l.number v ≡ Some (element.Instance class false) → AreExceptions known class
     → Ends (setting l known graphs p arguments) l names (exit.Raise v) w (raise_as v (type_at l v), w)
 
 -- ---- tests

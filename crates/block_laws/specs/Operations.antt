@@ -68,12 +68,12 @@ module _ (s : Setting) where
 
   -- the builtin exception that is thrown is an object
   abbrev pub IsThere : Ghost → Answer → Type 0
-  IsThere g (Throws r w') = IsException g r (s.known.exception r)
+  IsThere g (Throws r w') = IsException s g r (s.known.exception r)
   IsThere g other = Unit {0}
 
   -- what `raise` answers: what stands for its operand is raised here, or a builtin exception is thrown; or it fails
   abbrev pub Raises : ℕ → State → List LlOp → LlExit → List Frame → Core → Ghost → World → Answer → Type 0
-  Raises below from rest e frames core g w (Throws r w') = Raised s.low s.arguments from rest e frames core g r below w w' ⊎ (IsException g r (s.known.exception r) × Threw s.low s.arguments from rest e frames core (s.known.exception r) below w w')
+  Raises below from rest e frames core g w (Throws r w') = Raised s.known.program.classes s.low s.arguments from rest e frames core g r below w w' ⊎ (IsException s g r (s.known.exception r) × Threw s.low s.arguments from rest e frames core (s.known.exception r) below w w')
   Raises below from rest e frames core g w (Fails name) = FailedAs s.low s.arguments from name
   Raises below from rest e frames core g w (Gives v w') = ⊥
   Raises below from rest e frames core g w Lacks = ⊥

@@ -74,7 +74,7 @@ module _ (world : World) (known : Known) (class : ℕ) (r : Bool) (l : Laid) (pl
       (stands : Represents world.around.layout known g meant.heap meant.left core.blocks core.statics)
       (room : length w.body.types + length (it.new ++ at.new) ≤ length core.vars) where
     abbrev Did : Answer → Type 0
-    Did answer = Raises p arguments (At (it.ops ++ (at.ops ++ (raises ∷ rest))) e frames core) rest e frames core g raised (length w.body.types) meant answer
+    Did answer = Raises known.program.classes p arguments (At (it.ops ++ (at.ops ++ (raises ∷ rest))) e frames core) rest e frames core g raised (length w.body.types) meant answer
 
     -- what fails or throws elsewhere
     elsewhere : (c : Bool) → Follows 0 known world.around place p arguments (At (it.ops ++ (at.ops ++ (raises ∷ rest))) e frames core) rest e frames core g raised 0 (length w.body.types) meant (failure c 9 fail.Attribute meant) → Did (failure c 9 fail.Attribute meant)
@@ -98,12 +98,13 @@ module _ (world : World) (known : Known) (class : ℕ) (r : Bool) (l : Laid) (pl
         let all : Passed (length w.body.types) core holds.mid = both_passed (omega (arith, types_long)) passed holds.passed in
         let above : meant_op known.program w.found.covered row.Raise (v ∷ []) meant ≡ (if is_below known.program.classes one.c 0 then throw one.i else bad) meant =
         ap (λ v. meant_op known.program w.found.covered row.Raise (v ∷ []) meant) one.high ∙ ap (λ o. raise_object known.program w.found.covered one.i o meant) here.object in
-        let raised_here : Did (Throws one.i meant) = inl (record {
+        let raised_here : is_below known.program.classes one.c 0 ≡ true → Did (Throws one.i meant) = λ high. inl (record {
           variable = at.x;
           end = holds.mid;
           leads = leads_then went.1 holds.way;
           class = one.c;
           home = one.home ∙ ap (λ y. Some (record { sort = InstanceOf one.c; head = y })) (sym (holds.is ∙ went.3));
+          above = high;
           memory = all.memory;
           others = all.others;
           room = all.room;
@@ -113,8 +114,8 @@ module _ (world : World) (known : Known) (class : ℕ) (r : Bool) (l : Laid) (pl
         }) in
         subst Did (sym above) (by (is_below known.program.classes one.c 0) one.i raised_here)
       where
-        by : (c : Bool) (i : ℕ) → Did (Throws i meant) → Did ((if c then throw i else bad) meant)
-        by true i h = h
+        by : (c : Bool) (i : ℕ) → (c ≡ true → Did (Throws i meant)) → Did ((if c then throw i else bad) meant)
+        by true i h = h refl
         by false i h = tt
 
     missing : (v : Meant) → r ≡ true → Gone (missing_instance true) a.element (operand core.vars a.x) v → Did (meant_op known.program w.found.covered row.Raise (v ∷ []) meant)
@@ -143,7 +144,7 @@ module _ (world : World) (known : Known) (class : ℕ) (r : Bool) (l : Laid) (pl
     written = ap (λ (r : Writing). r.body.ops) is_written ∙ append_assoc (w.body.ops ++ it.ops) at.ops (raises ∷ []) ∙ all_ops;
     types = ap (λ (r : Writing). r.body.types) is_written ∙ append_assoc w.body.types it.new at.new;
     follows = λ p numbers raised arguments rest e frames core g meant vs structs has stands room under given.
-        subst (λ os. Raises p arguments (At os e frames core) rest e frames core g raised (length w.body.types) meant (meant_op known.program w.found.covered row.Raise vs meant)) (sym (both rest))
+        subst (λ os. Raises known.program.classes p arguments (At os e frames core) rest e frames core g raised (length w.body.types) meant (meant_op known.program w.found.covered row.Raise vs meant)) (sym (both rest))
         (follow p numbers raised arguments rest e frames core g meant has stands room vs given);
   }
 

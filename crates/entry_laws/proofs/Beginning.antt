@@ -106,7 +106,7 @@ module _ (world : World) (s : Setting) (number arguments steps : ℕ) (there : B
         (λ f is. record { all = first_list s ∷ []; are = list.one f is; hold = Next list.holds End })
         (subst (λ (c : Core). Represents s.around.layout s.known list.ghost (first_world s steps).heap (first_world s steps).left c.blocks c.statics) (sym came.same) list.stands)
         (list.left ∙ ap (λ (c : Core). c.steps) (sym came.same))
-        (Entry (entry_waits world s.known number vars) (entry_points_are_entries world s number arguments vars there.has (room s number function arguments world.around.layout.first_list gives steps (laid world 0) list.x) there.exceptions));
+        (Entry (entry_waits world s.known number vars) (entry_points_are_entries world s number arguments vars there.has (room s number function arguments world.around.layout.first_list gives steps (laid world 0) list.x)));
   }
 
 pub entry_points_are_called : EntryPointsAreCalled

@@ -234,9 +234,6 @@ entry_points_end world s number arguments vars has many = record {
 }
 
 pub entry_points_are_entries : EntryPointsAreEntries
-entry_points_are_entries world s number arguments vars has many exceptions =
+entry_points_are_entries world s number arguments vars has many =
     let it = entry_points_end world s number arguments vars has many in
-    record {
-      back = it.back;
-      throws = λ later g x r w stands left is. (let here = stands.instances is.0 r x is.1 in it.throws later g x r is.0 w stands left is.1 (exceptions is.0 here.laid (ap (λ around. laid_in around.layout.classes is.0) (sym has.around) ∙ here.is_laid)));
-    }
+    record { back = it.back; throws = λ later g x r w stands left is. it.throws later g x r is.class w stands left is.home is.above }

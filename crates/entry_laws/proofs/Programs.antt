@@ -86,5 +86,4 @@ programs_run known classes p r meant items keys static graphs arguments steps is
       has = programs_have_entries known classes p r meant items keys static graphs arguments is stands;
       first = refl;
       entry = subst (λ (f : ℕ). seen.graph f ≡ Some (number_of world f)) (sym is.entry) number;
-      exceptions = calls.exceptions;
     }) list (programs_are_lowered known classes p r seen graphs arguments is.graphs is.structs done) k end ran

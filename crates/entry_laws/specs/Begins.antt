@@ -21,7 +21,7 @@ use Rattle.object_laws.specs.Values.{Holds}
 use Rattle.run_laws.specs.Points.{Setting, Way}
 use Rattle.run_laws.specs.Runs.{EndsIf}
 use Rattle.run_laws.specs.States.{IsLowered, Stands}
-use Rattle.entry_laws.specs.Ends.{AreExceptions, HasEntry}
+use Rattle.entry_laws.specs.Ends.{HasEntry}
 
 -- the world in which the entry point is called, with so many steps
 abbrev pub first_world : Setting → ℕ → MeantWorld
@@ -61,8 +61,6 @@ pub record BeginsThere (world : World) (s : Setting) (number arguments : ℕ) : 
   pub first : s.low.entry ≡ number
   -- the entry point has a graph, at the number that is called
   pub entry : s.known.graph s.known.program.entry ≡ Some (number_of world s.known.program.entry)
-  -- its instances are all exceptions
-  pub exceptions : AreExceptions world s.known
 
 -- the low-level program comes, from its start, to where it stands as the flow graphs do at theirs, and puts nothing on the way
 pub record IsStarted (s : Setting) (steps : ℕ) : Type 0 where

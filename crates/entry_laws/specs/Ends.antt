@@ -77,11 +77,6 @@ pub record EndsRun (s : Setting) (frame : Frame) : Type 0 where
 abbrev pub EntryPointsEnd : Type 0
 EntryPointsEnd = (world : World) (s : Setting) (number arguments : ℕ) (vars : List Value) → HasEntry world s number arguments → HasVariables world vars → EndsRun s (entry_waits world s.known number vars)
 
--- Each class that has structs is an `Exception`: no instance of another class is ever made.
-abbrev pub AreExceptions : World → Known → Type 0
-AreExceptions world known = (class : ℕ) (l : Laid) → laid world class ≡ Some l → is_below known.program.classes class 0 ≡ true
-
--- Where the instances of a program are all exceptions, what waits for the entry point is as runs ask it: there, any instance may be thrown. Of
--- a program with other instances this says nothing.
+-- so what waits for the entry point is as runs ask it
 abbrev pub EntryPointsAreEntries : Type 0
-EntryPointsAreEntries = (world : World) (s : Setting) (number arguments : ℕ) (vars : List Value) → HasEntry world s number arguments → HasVariables world vars → AreExceptions world s.known → IsEntry s (entry_waits world s.known number vars)
+EntryPointsAreEntries = (world : World) (s : Setting) (number arguments : ℕ) (vars : List Value) → HasEntry world s number arguments → HasVariables world vars → IsEntry s (entry_waits world s.known number vars)

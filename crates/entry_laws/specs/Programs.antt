@@ -28,7 +28,7 @@ use Rattle.run_laws.specs.Runs.{EndsIf}
 use Rattle.object_laws.specs.Known.{Known as Seen}
 use Rattle.entry_laws.specs.Begins.{ArgumentsAreGiven}
 use Rattle.entry_laws.specs.Classes.{AreNamed}
-use Rattle.entry_laws.specs.Ends.{AreExceptions, HasEntry}
+use Rattle.entry_laws.specs.Ends.{HasEntry}
 
 -- A program begins at the graph that calls the entry point, and has the one that this calls for the list of arguments.
 pub record EntryStands (known : Known) (world : World) (last : Found) (p : LlProgram) : Type 0 where
@@ -63,19 +63,18 @@ ProgramsHaveEntries = (known : Known) (classes : Tables) (p : LlProgram) (r : Is
     → (stands : EntryStands known (world_in known classes (layout_for known classes) p r) (last_in known classes (layout_for known classes) p r) p)
     → HasEntry (world_in known classes (layout_for known classes) p r) (setting_in known classes p r (seen_in known classes p r meant items keys static) graphs arguments) p.entry stands.arguments
 
--- The entry point has a flow graph, and is reached; and the instances of the program are all exceptions.
-pub record CallsEntry (known : Known) (world : World) (seen : Seen) : Type 0 where
+-- the entry point has a flow graph, and is reached
+pub record CallsEntry (known : Known) : Type 0 where
   pub graph : Graph
   pub stands : slice_get known.graphs known.program.entry ≡ Some graph
   pub reached : slice_get known.annotation.reached known.program.entry ≡ Some true
-  pub exceptions : AreExceptions world seen
 
 -- Where the parts of such a program are done, and the list of arguments is made, its whole run, from its start, ends as that of its flow
 -- graphs does, where that ends.
 abbrev pub ProgramsRun : Type 0
 ProgramsRun = (known : Known) (classes : Tables) (p : LlProgram) (r : IsLaid known classes p) (meant : Program) (items keys : ℕ → Option Element) (static : ℕ → Option Block) (graphs : Graphs) (arguments : List (List ℕ)) (steps : ℕ) → IsMeant known classes p r meant
     → (stands : EntryStands known (world_in known classes (layout_for known classes) p r) (last_in known classes (layout_for known classes) p r) p)
-    → CallsEntry known (world_in known classes (layout_for known classes) p r) (seen_in known classes p r meant items keys static)
+    → CallsEntry known
     → IsDone known (world_in known classes (layout_for known classes) p r) (seen_in known classes p r meant items keys static) (numbers_in known classes (layout_for known classes) p r) (first_in known classes (layout_for known classes) p r) (last_in known classes (layout_for known classes) p r) graphs p arguments
     → ArgumentsAreGiven (setting_in known classes p r (seen_in known classes p r meant items keys static) graphs arguments) stands.arguments steps
     → (k : ℕ) (end : Run) → run meant graphs k (start meant arguments steps) ≡ Ended end

@@ -152,7 +152,7 @@ module _ (l : Lowered) (seen : Seen) (graphs : Graphs) (p : LlProgram) (argument
         let link = links_are_passed l seen graphs p arguments numbers below names without w has types enough graph blocks it in
         record { ops = link.ops; new = link.new; written = link.written; types = link.types; does = link.does }
     exit_ends names (exit.Return v) w enough it = results_are_given l seen graphs p arguments numbers below names v w has types it
-    exit_ends names (exit.Raise v) w enough it = exceptions_leave l seen graphs p arguments below names v it.class w types it.is
+    exit_ends names (exit.Raise v) w enough it = exceptions_leave l seen graphs p arguments below names v it.class w types it.is it.exceptions
 
     -- what a block is written as, behind what was there
     pub record BlockWritten (b : Block) (w : Work) : Type 0 where

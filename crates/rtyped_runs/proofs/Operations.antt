@@ -35,7 +35,7 @@ use Rattle.block_laws.specs.Operations.{DoesOrEnters, IsThere, Raises, operands_
 use Rattle.rtyped_runs.specs.Laws.{GivenOperationsAreWritten, AreAlways, KeyedOperationsAreWritten, ExceptionsAreLaid, CopiedOperationsAreWritten, ListedOperationsAreWritten, RaisedOperationsAreWritten, DoneOperationsAreWritten, EnteredOperationsAreWritten, IsInside, Standing, StandsSo, ThrowsObjects, args_of, before}
 use Rattle.rtyped_runs.specs.Parts.{OpIsWritten}
 
-is_there : (s : Setting) (g : Ghost) (answer : Answer) → ((r : ℕ) (w' : MeantWorld) → answer ≡ Throws r w' → IsException g r (s.known.exception r)) → IsThere s g answer
+is_there : (s : Setting) (g : Ghost) (answer : Answer) → ((r : ℕ) (w' : MeantWorld) → answer ≡ Throws r w' → IsException s g r (s.known.exception r)) → IsThere s g answer
 is_there s g (Gives v w') h = tt
 is_there s g (Throws r w') h = h r w' refl
 is_there s g (Fails name) h = tt
@@ -127,11 +127,11 @@ entered_operations_are_written l known graphs p arguments numbers blocks o asks 
 }
 
 -- builtin exceptions are objects
-builtin : (s : Setting) (g : Ghost) (core : Core) (w : MeantWorld) → ExceptionsAreLaid s.around → Represents s.around.layout s.known g w.heap w.left core.blocks core.statics → (r : ℕ) → r < builtin_classes → IsException g r (s.known.exception r)
-builtin s g core w laid memory r few = let l = laid r few in (r, memory.exceptions r l.0 few l.1)
+builtin : (s : Setting) (g : Ghost) (core : Core) (w : MeantWorld) → ExceptionsAreLaid s → Represents s.around.layout s.known g w.heap w.left core.blocks core.statics → (r : ℕ) → r < builtin_classes → IsException s g r (s.known.exception r)
+builtin s g core w laid memory r few = let l = laid r few in record { class = r; home = memory.exceptions r l.1.0 few l.1.1; above = l.0 }
 
-module _ (s : Setting) (from : State) (rest : List LlOp) (e : LlExit) (frames : List Frame) (core : Core) (g : Ghost) (below : ℕ) (w : MeantWorld) (there : (r : ℕ) → r < builtin_classes → IsException g r (s.known.exception r)) where
-  raises_too : (answer : Answer) → asked.Raises s.low s.arguments from rest e frames core g s.known.exception below w answer → Raises s below from rest e frames core g w answer
+module _ (s : Setting) (from : State) (rest : List LlOp) (e : LlExit) (frames : List Frame) (core : Core) (g : Ghost) (below : ℕ) (w : MeantWorld) (there : (r : ℕ) → r < builtin_classes → IsException s g r (s.known.exception r)) where
+  raises_too : (answer : Answer) → asked.Raises s.known.program.classes s.low s.arguments from rest e frames core g s.known.exception below w answer → Raises s below from rest e frames core g w answer
   raises_too (Gives v w') it = absurd it
   raises_too (Throws r w') (inl it) = inl it
   raises_too (Throws r w') (inr (few, it)) = inr (there r few, it)

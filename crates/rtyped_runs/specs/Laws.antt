@@ -1,11 +1,12 @@
 -- What the laws of operations say is what is asked of the operations of a block.
-use Rattle.std.specs.Prelude.{◌≡◌, ◌<◌, ℕ, List, ◌∷◌, [], length, map, Some}
+use Rattle.std.specs.Prelude.{◌≡◌, ◌<◌, ℕ, List, ◌∷◌, [], length, map, Some, true}
 use Rattle.csub_tree.specs.State.{Value, Core}
 use Rattle.ll_code.specs.declared.program.LlProgram.{LlProgram}
 use Rattle.ll_build.specs.declared.needs.Numbers.{Numbers}
 use Rattle.flow_graph.specs.declared.graph.Graphs.{Graphs}
 use Rattle.flow_graph.specs.declared.graph.Op.{Op}
 use Rattle.rpy_tree.specs.Value.{Value as Meant, Heap}
+use Rattle.rpy_meaning.specs.Classes.{is_below}
 use Rattle.rpy_meaning.specs.Operations.{op, builtin_classes}
 use Rattle.rpy_meaning.specs.World.{World as MeantWorld, Throws}
 use Rattle.rpy_meaning.specs.declared.row.RowOp.TheVariants as row
@@ -13,7 +14,7 @@ use Rattle.rtyper_layout.specs.declared.classes.Laid.{Laid}
 use Rattle.rtyper_layout.specs.declared.dicts.Mapping.{Mapping}
 use Rattle.rtyper_layout.specs.Types.{laid_in}
 use Rattle.rtyper_data.specs.declared.found.Found.{Found}
-use Rattle.rtyper_data.specs.Seen.{Around, Operand, Writing}
+use Rattle.rtyper_data.specs.Seen.{Operand, Writing}
 use Rattle.rtyper_op.specs.Lowering.{lower_op}
 use Rattle.rtyper_list.specs.Lowering.{lower_list_op}
 use Rattle.rtyper_dict.specs.Lowering.{lower_dict_op}
@@ -57,7 +58,7 @@ pub record IsInside (l : Lowered) (o : Op) (w : Writing) : Type 0 where
 
 -- the exceptions that it throws are objects: instances of builtin classes, which are there from the start
 abbrev pub ThrowsObjects : Setting → Op → Type 0
-ThrowsObjects s o = (g : Ghost) (core : Core) (w w' : MeantWorld) (vs : List Meant) (r : ℕ) → Represents s.around.layout s.known g w.heap w.left core.blocks core.statics → op s.known.program o.covered o.op vs w ≡ Throws r w' → IsException g r (s.known.exception r)
+ThrowsObjects s o = (g : Ghost) (core : Core) (w w' : MeantWorld) (vs : List Meant) (r : ℕ) → Represents s.around.layout s.known g w.heap w.left core.blocks core.statics → op s.known.program o.covered o.op vs w ≡ Throws r w' → IsException s g r (s.known.exception r)
 
 -- what is asked for stands, over all memory that represents a heap
 abbrev pub StandsSo : Setting → (Core → Ask → Found → Type 0) → List Ask → Found → Type 0
@@ -144,14 +145,14 @@ EnteredOperationsAreWritten = (l : Lowered) (known : Seen) (graphs : Graphs) (p 
     → IsEntered blocks l.world known o.op o.covered asks (place_of l o.result) (args_of l o) (before o w)
     → OpIsWritten (setting l known graphs p arguments) l o w
 
--- the builtin exception classes have structs
-abbrev pub ExceptionsAreLaid : Around → Type 0
-ExceptionsAreLaid around = (class : ℕ) → class < builtin_classes → (l : Laid) × (laid_in around.layout.classes class ≡ Some l)
+-- the builtin exception classes have structs, and are exceptions
+abbrev pub ExceptionsAreLaid : Setting → Type 0
+ExceptionsAreLaid s = (class : ℕ) → class < builtin_classes → (is_below s.known.program.classes class 0 ≡ true) × ((l : Laid) × (laid_in s.around.layout.classes class ≡ Some l))
 
 -- The same of `raise`, which raises its operand, or throws a builtin exception where that is `None`.
 abbrev pub RaisedOperationsAreWritten : Type 0
 RaisedOperationsAreWritten = (l : Lowered) (known : Seen) (graphs : Graphs) (p : LlProgram) (arguments : List (List ℕ)) (numbers : Numbers) (o : Op) (a : ℕ) (asks : List Ask) (w : Writing)
-    → HasLayout p l.world.around.layout → ExceptionsAreLaid l.world.around → o.op ≡ row.Raise → o.args ≡ a ∷ [] → a < length w.body.types
+    → HasLayout p l.world.around.layout → ExceptionsAreLaid (setting l known graphs p arguments) → o.op ≡ row.Raise → o.args ≡ a ∷ [] → a < length w.body.types
     → StandsSo (setting l known graphs p arguments) (classes.Has l.world p numbers known.exception) asks (before o w).found
     → lowered l.world row.Raise (place_of l o.result) (operand_of l a ∷ []) (before o w) ≡ lower_class_op l.world row.Raise (place_of l o.result) (operand_of l a ∷ []) (before o w)
     → IsRaised l.world known o.covered asks (place_of l o.result) (operand_of l a) (before o w)

@@ -24,7 +24,7 @@ use Rattle.growth_laws.specs.Growing.{Grows}
 use Rattle.run_laws.specs.Points.{Setting}
 use Rattle.block_laws.specs.Operations.{HasTypes, IsOperation, IsUncaught}
 use Rattle.block_laws.specs.Links.{IsLink}
-use Rattle.block_laws.specs.Exits.{AreWays, IsGiven, IsTested}
+use Rattle.block_laws.specs.Exits.{AreExceptions, AreWays, IsGiven, IsTested}
 
 -- ---- operations
 
@@ -49,10 +49,11 @@ OpsAreDone s l first last names (o ∷ ops) e = ((w : Writing) → Grows first w
 
 -- ---- exits
 
--- an instance that is there
-pub record IsThrown (l : Lowered) (v : ℕ) : Type 0 where
+-- an instance of a class of exceptions, which is there
+pub record IsThrown (s : Setting) (l : Lowered) (v : ℕ) : Type 0 where
   pub class : ℕ
   pub is : element_at l.known.annotation l.number v ≡ Some (element.Instance class false)
+  pub exceptions : AreExceptions s.known class
 
 -- the exit that is written where nothing is caught
 abbrev pub exit_plain : Lowered → Exit → Writing → LlExit × Writing
@@ -69,7 +70,7 @@ ExitIsDone s numbers l names (exit.If v there elsewhere) w = IsTested s l v w (t
     × AreWays s numbers l names v there elsewhere (truth_of l.world.around (operand_of l v) w).0 (truth_of l.world.around (operand_of l v) w).1
 ExitIsDone s numbers l names (exit.OnRaise v hands by without) w = IsLink s numbers l names without w
 ExitIsDone s numbers l names (exit.Return v) w = IsGiven s numbers l v w
-ExitIsDone s numbers l names (exit.Raise v) w = IsThrown l v
+ExitIsDone s numbers l names (exit.Raise v) w = IsThrown s l v
 
 -- whatever was asked for before
 abbrev pub ExitsAreDone : Setting → Numbers → Lowered → Found → Found → List ℕ → Exit → Type 0

@@ -322,7 +322,7 @@ module _ (s : Setting) where
     gives_to g f v instead more w x all core holds memory left (Call waits names calls frame frames callee other before grown it rest) = came rest (it.back core g x v w grown memory left holds)
 
     throws_to : (g : Ghost) (f r : ℕ) (instead : Option Meant) (calls : List Frame) (w : World) (x : Value) (frames : List low.Frame) (core : Core)
-        → IsException g r x → Represents s.around.layout s.known g w.heap w.left core.blocks core.statics → w.left ≡ core.steps → Wait s g calls frames f instead → Followed w (low.Throwing x frames core) (step s.known.program s.graphs (Throwing r calls w))
+        → IsException s g r x → Represents s.around.layout s.known g w.heap w.left core.blocks core.statics → w.left ≡ core.steps → Wait s g calls frames f instead → Followed w (low.Throwing x frames core) (step s.known.program s.graphs (Throwing r calls w))
     throws_to g f r instead calls w x frames core is memory left (Entry frame entry) = ends_if w w (low.Throwing x (frame ∷ []) core) (name_of (slice_get s.known.program.classes (class_in w r))) refl (entry.throws core g x r w memory left is)
     throws_to g f r instead more w x all core is memory left (Call waits names calls frame frames callee other before grown it rest) = thrown w calls waits.instead refl rest (it.throws core g x r w grown memory left is)
 

@@ -46,7 +46,7 @@ module _ (s : Setting) where
     pub way : Way s from [] (Throwing x frames end)
     pub ghost : Ghost
     pub grown : Grown g ghost
-    pub is : IsException ghost r x
+    pub is : IsException s ghost r x
     pub stands : Represents s.around.layout s.known ghost w.heap w.left end.blocks end.statics
     pub left : w.left ≡ end.steps
 
@@ -78,7 +78,7 @@ module _ (s : Setting) where
   pub record Waits (Rest : List LlOp → LlExit → Type 0) (f : ℕ) (names : List ℕ) (env : List Bound) (o : Op) (ops : List Op) (e : Exit) (callee : ℕ) (instead : Option Meant) (g : Ghost) (frame : Frame) (frames : List Frame) : Type 0 where
     pub back : (later : Core) (g2 : Ghost) (x : Value) (v : Meant) (w : World) → Grown g g2 → Represents s.around.layout s.known g2 w.heap w.left later.blocks later.statics → w.left ≡ later.steps → Holds s.around.layout s.known g2 (slice_get s.around.results callee) x v
         → Came Rest f names env o w (unwrap_or instead v) w g2 frames (Returning x (frame ∷ frames) later)
-    pub throws : (later : Core) (g2 : Ghost) (x : Value) (r : ℕ) (w : World) → Grown g g2 → Represents s.around.layout s.known g2 w.heap w.left later.blocks later.statics → w.left ≡ later.steps → IsException g2 r x
+    pub throws : (later : Core) (g2 : Ghost) (x : Value) (r : ℕ) (w : World) → Grown g g2 → Represents s.around.layout s.known g2 w.heap w.left later.blocks later.statics → w.left ≡ later.steps → IsException s g2 r x
         → Thrown f r w g2 frames env ops e (Throwing x (frame ∷ frames) later)
 
   -- the parameters of a function have what stands for the values of the arguments, and for the defaults of the others

@@ -10,6 +10,7 @@ use Rattle.ll_code.specs.declared.program.LlProgram.{LlProgram}
 use Rattle.ll_leads.specs.Path.{Leads}
 use Rattle.ll_live.specs.Live.{among}
 use Rattle.rpy_tree.specs.Value.{Value as Meant}
+use Rattle.rpy_meaning.specs.Classes.{is_below}
 use Rattle.rpy_meaning.specs.World.{World}
 use Rattle.flow_graph.specs.declared.graph.Block.{Block}
 use Rattle.flow_graph.specs.declared.graph.Graphs.{Graphs}
@@ -75,6 +76,10 @@ module _ (s : Setting) where
     pub reached : s.reached f n ≡ true
     pub later : n ≢ 0
 
--- the value is the home of this object, which is an exception
-abbrev pub IsException : Ghost → ℕ → Value → Type 0
-IsException g r x = (class : ℕ) × (slice_get g.homes r ≡ Some (record { sort = InstanceOf class; head = x }))
+  -- ---- exceptions
+
+  -- the value is the home of this object, an instance of `Exception`, the class 0, or of one below it
+  pub record IsException (g : Ghost) (r : ℕ) (x : Value) : Type 0 where
+    pub class : ℕ
+    pub home : slice_get g.homes r ≡ Some (record { sort = InstanceOf class; head = x })
+    pub above : is_below s.known.program.classes class 0 ≡ true

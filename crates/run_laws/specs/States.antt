@@ -37,7 +37,7 @@ module _ (s : Setting) where
   pub record IsEntry (frame : low.Frame) : Type 0 where
     pub back : (later : Core) (g : Ghost) (x : Value) (v : Meant) (w : World) → Represents s.around.layout s.known g w.heap w.left later.blocks later.statics → w.left ≡ later.steps → Holds s.around.layout s.known g (slice_get s.around.results s.known.program.entry) x v
         → OverIf (returned v) w (low.Returning x (frame ∷ []) later)
-    pub throws : (later : Core) (g : Ghost) (x : Value) (r : ℕ) (w : World) → Represents s.around.layout s.known g w.heap w.left later.blocks later.statics → w.left ≡ later.steps → IsException g r x
+    pub throws : (later : Core) (g : Ghost) (x : Value) (r : ℕ) (w : World) → Represents s.around.layout s.known g w.heap w.left later.blocks later.statics → w.left ≡ later.steps → IsException s g r x
         → OverIf (name_of (slice_get s.known.program.classes (class_in w r))) w (low.Throwing x (frame ∷ []) later)
 
   -- The low-level graph of a function: its first block pays for the call, and then does what the first block of the flow graph does, with the
@@ -78,7 +78,7 @@ module _ (s : Setting) where
         → Stands g (At f ops e env instead calls w) (low.At written ends frames core)
     Gives : (f : ℕ) (v : Meant) (instead : Option Meant) (calls : List Frame) (w : World) (x : Value) (frames : List low.Frame) (core : Core) → Holds s.around.layout s.known g (slice_get s.around.results f) x v → Represents s.around.layout s.known g w.heap w.left core.blocks core.statics → w.left ≡ core.steps
         → Wait g calls frames f instead → Stands g (Returning (unwrap_or instead v) calls w) (low.Returning x frames core)
-    Throws : (f r : ℕ) (instead : Option Meant) (calls : List Frame) (w : World) (x : Value) (frames : List low.Frame) (core : Core) → IsException g r x → Represents s.around.layout s.known g w.heap w.left core.blocks core.statics → w.left ≡ core.steps → Wait g calls frames f instead
+    Throws : (f r : ℕ) (instead : Option Meant) (calls : List Frame) (w : World) (x : Value) (frames : List low.Frame) (core : Core) → IsException s g r x → Represents s.around.layout s.known g w.heap w.left core.blocks core.statics → w.left ≡ core.steps → Wait g calls frames f instead
         → Stands g (Throwing r calls w) (low.Throwing x frames core)
-    Raises : (f v r : ℕ) (env : List Bound) (instead : Option Meant) (calls : List Frame) (w : World) (x : Value) (frames : List low.Frame) (core : Core) → look env v ≡ Some (Ref r) → IsException g r x → Represents s.around.layout s.known g w.heap w.left core.blocks core.statics → w.left ≡ core.steps
+    Raises : (f v r : ℕ) (env : List Bound) (instead : Option Meant) (calls : List Frame) (w : World) (x : Value) (frames : List low.Frame) (core : Core) → look env v ≡ Some (Ref r) → IsException s g r x → Represents s.around.layout s.known g w.heap w.left core.blocks core.statics → w.left ≡ core.steps
         → Wait g calls frames f instead → Stands g (At f [] (exit.Raise v) env instead calls w) (low.Throwing x frames core)
