@@ -1,17 +1,16 @@
 -- The entry point is called with the list of arguments.
 use Rattle.std.proofs.Common.{◌≡◌, ℕ, false, ◌||◌, List, [], ◌∷◌, length, Option, Some, None, refl, sym, ap, ◌∙◌, subst}
+use Rattle.std.proofs.lemmas.List.{append-nil}
 use Rattle.std.specs.Prelude.{slice_get, cond}
 use Rattle.csub_tree.specs.State.{Value, Unset, Core}
 use Rattle.csub_tree.specs.Operation.{is_unset}
 use Rattle.csub_tree.specs.declared.stuck.StuckReason.TheVariants.{Unset as IsUnset}
 use Rattle.csub_tree.specs.declared.tree.COperand.TheVariants.{Var}
-use Rattle.ll_code.specs.State.{Frame, State, Calling, Returning, Goes, Sticks}
+use Rattle.ll_code.specs.State.{Frame, Calling, Returning, Goes, Sticks}
 use Rattle.ll_code.specs.Machine as machine
 use Rattle.ll_code.specs.declared.program.LlOp.TheVariants as op
 use Rattle.ll_held.specs.Roots.{core_of}
 use Rattle.ll_leads.proofs.Ways.{on, one}
-use Rattle.rpy_base.specs.declared.outcome.Outcome.{Outcome}
-use Rattle.rpy_meaning.specs.World.{World as MeantWorld}
 use Rattle.flow_meaning.specs.Meaning.{start}
 use Rattle.rtyper_layout.specs.declared.classes.Laid.{Laid}
 use Rattle.rtyper_class.specs.Seen.{World, laid}
@@ -21,10 +20,9 @@ use Rattle.object_laws.specs.Represents.{Represents}
 use Rattle.object_laws.specs.Values.{Next, End}
 use Rattle.object_laws.proofs.Valued.{held_set}
 use Rattle.run_laws.specs.Points.{Setting, Way}
-use Rattle.run_laws.specs.Runs.{EndsIf}
 use Rattle.run_laws.specs.States.{Calls, Entry}
 use Rattle.run_laws.proofs.Steps.{way_then}
-use Rattle.run_laws.proofs.Whole.{runs_are_followed}
+use Rattle.run_laws.proofs.Whole.{behind_if, runs_are_followed}
 use Rattle.entry_laws.specs.Begins.{ArgumentsAreGiven, BeginsThere, Comes, EntryPointsAreCalled, IsStarted, WholeRunsAreFollowed, first_list, first_world}
 use Rattle.entry_laws.specs.Ends.{entry_waits, exit_of, waits}
 use Rattle.entry_laws.proofs.Ending.{entry_points_are_entries}
@@ -114,11 +112,7 @@ entry_points_are_called world s number arguments steps there list = started worl
 
 -- ---- whole runs
 
-behind : (s : Setting) (before w : MeantWorld) (outcome : Option Outcome) {from to : State} → Way s from [] to → EndsIf s outcome before w to → EndsIf s outcome before w from
-behind s before w None way it = tt
-behind s before w (Some outcome) way it = record { text = it.text; last = it.last; way = way_then s way it.way; over = it.over; out = it.out }
-
 pub whole_runs_are_followed : WholeRunsAreFollowed
 whole_runs_are_followed world s number arguments steps there list lowered k end ran =
     let it = started world s number arguments steps there list in
-    behind s (first_world s steps) end.world end.outcome it.way (runs_are_followed s lowered it.ghost (start s.known.program s.arguments steps) it.state it.stands k end ran)
+    behind_if s (first_world s steps) (first_world s steps) end.world end.outcome it.way (sym (append-nil (first_world s steps).out)) (runs_are_followed s lowered it.ghost (start s.known.program s.arguments steps) it.state it.stands k end ran)

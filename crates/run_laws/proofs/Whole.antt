@@ -25,7 +25,7 @@ module _ (s : Setting) where
     out = it.out ∙ ap (λ o. o ++ it.text) out ∙ append_assoc before.out text it.text;
   }
 
-  behind_if : {from to : low.State} {text : List ℕ} (before mid w : World) (outcome : Option Outcome) → Way s from text to → mid.out ≡ before.out ++ text → EndsIf s outcome mid w to → EndsIf s outcome before w from
+  pub behind_if : {from to : low.State} {text : List ℕ} (before mid w : World) (outcome : Option Outcome) → Way s from text to → mid.out ≡ before.out ++ text → EndsIf s outcome mid w to → EndsIf s outcome before w from
   behind_if before mid w None way out it = tt
   behind_if before mid w (Some outcome) way out it = behind way out it
 
