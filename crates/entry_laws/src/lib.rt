@@ -3,4 +3,6 @@
 
 mod laws;
 
-pub use laws::{entry_points_are_called, entry_points_end, names_are_known, programs_have_entries};
+pub use laws::{
+    entry_points_are_called, entry_points_end, names_are_known, programs_have_entries, programs_run,
+};
