@@ -1,3 +1,3 @@
-mod Owning
+pub mod Owning
 mod Placing
 pub mod Filling

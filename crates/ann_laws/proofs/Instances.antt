@@ -86,7 +86,7 @@ module _ (k : List ClassInfo) (tree : IsTree k) (u : List ℕ) where
       nearest_after (line.own_method k name) (line.above k c) d (ap (λ l. is_some (line.nearest (line.own_method k name) l)) (after_base k tree c d h) ∙ e)
 
   -- of two classes above a third one is above the other
-  comparable : (c d e : ℕ) → Sub k c d → Sub k c e → Sub k d e ⊎ Sub k e d
+  pub comparable : (c d e : ℕ) → Sub k c d → Sub k c e → Sub k d e ⊎ Sub k e d
   comparable c d e h i =
       ⊎_elim
       (λ (j : has (after (line.above k c) d) e ≡ true). inl (sym (ap (λ l. has l e) (after_base k tree c d h)) ∙ j))
@@ -94,7 +94,7 @@ module _ (k : List ClassInfo) (tree : IsTree k) (u : List ℕ) where
       (meets (line.above k c) d e h i)
 
   -- one of two classes is above the other, which is not above it
-  other_way : (c d e : ℕ) → Sub k c d → Sub k c e → line.is_below k d e ≡ false → line.is_below k e d ≡ true
+  pub other_way : (c d e : ℕ) → Sub k c d → Sub k c e → line.is_below k d e ≡ false → line.is_below k e d ≡ true
   other_way c d e h i f = ⊎_elim (λ (j : Sub k d e). absurd (yes (sym j ∙ f))) (λ (j : Sub k e d). j) (comparable c d e h i)
 
   surely_by : (b c d e : Bool) → (d ≡ true → b ≡ true) → (c ≡ true → e ≡ true) → (b ≡ true → d ≡ false → e ≡ true)

@@ -61,7 +61,7 @@ module _ (l : Lowered) (known : Known) (graphs : Graphs) (p : LlProgram) (argume
     gives : length w.body.types + length by.is.new ≤ s.size l.number → Does s l.number names [] (exit.Return v) by.is.ops (made.Return (Some converted.0))
     gives enters frames core g env world at x h =
         let m = moved l known graphs p arguments numbers below has types (λ ghost y. Holds l.world.around.layout known ghost seen y x) at.left
-        (by.is.follows p numbers known.exception arguments [] (made.Return (Some converted.0)) frames core g world.heap world.left x has (by.stood core g world.heap world.left at.stands) at.stands at.left (let r = at.room in omega (arith, r, enters)) it.inside (at.variables.bound v x h)) in
+        (by.is.follows p numbers known.exception arguments [] (made.Return (Some converted.0)) frames core g world.heap world.left x has (by.stood core g world.heap world.left at.stands at.left) at.stands at.left (let r = at.room in omega (arith, r, enters)) it.inside (at.variables.bound v x h)) in
         record {
           x = operand m.end.vars converted.0;
           end = m.end;

@@ -37,14 +37,15 @@ use Rattle.object_laws.proofs.Growing.{grown_none}
 use Rattle.object_laws.proofs.Blocks.{found_set}
 use Rattle.call_laws.specs.Entered.{Entered as EntersBy}
 use Rattle.call_laws.specs.Raised.{Raised}
-use Rattle.run_laws.specs.Points.{Setting, names_of, IsAt, Way, IsException}
+use Rattle.flow_runs.specs.Good.{IsGood}
+use Rattle.run_laws.specs.Points.{Setting, is_keyed, names_of, IsAt, Way, IsException}
 use Rattle.run_laws.specs.Does.{Does, Came, Thrown, Left, Again, Leaves, Entered, Over, Follows as FollowsSo}
 use Rattle.run_laws.proofs.Steps.{grown_both, way_then}
 use Rattle.block_laws.specs.Operations.{HasTypes, HasParameters, IsOperation, IsUncaught, Escapes, AtOnce, ByBlock, CatchesNothing, DoesOrEnters, Raises, place_of, OperationsAreFollowed}
 use Rattle.block_laws.proofs.Variables.{names_more, stand_more, operands_given}
 
 -- an argument for each parameter
-all_long : {layout : Layout} {known : Known} {g : Ghost} {params : List Element} {xs : List Value} {vs : List Meant} → AllHold layout known g params xs vs → length vs ≡ length params
+pub all_long : {layout : Layout} {known : Known} {g : Ghost} {params : List Element} {xs : List Value} {vs : List Meant} → AllHold layout known g params xs vs → length vs ≡ length params
 all_long End = refl
 all_long (Next held all) = ap suc (all_long all)
 
@@ -58,7 +59,7 @@ full_parameters (Some d ∷ defaults) (v ∷ vs) h = ap (with_value v) (full_par
 module _ (s : Setting) (f : ℕ) (names : List ℕ) (o : Op) (ops : List Op) (e : Exit) (below new : ℕ) (written rest : List LlOp) (ends : LlExit)
     (types : HasTypes s f below) (params_fit : HasParameters s) (does_it : IsOperation s f o below new written) (room : below + new ≤ s.size f) (fresh : among o.result names ≡ false) (uncaught : IsUncaught s f names ops e) (catches : CatchesNothing s ends)
     (behind : Does s f (names ++ o.result ∷ []) ops e rest ends)
-    (frames : List Frame) (core : Core) (g : Ghost) (env : List Bound) (w : World) (vs : List Meant) (at : IsAt s g f names env w core) (args : values_of env o.args ≡ Some vs) where
+    (frames : List Frame) (core : Core) (g : Ghost) (env : List Bound) (w : World) (vs : List Meant) (at : IsAt s g f names env w core) (args : values_of env o.args ≡ Some vs) (good : IsGood s.known.program s.made (is_keyed s f o) o.op w vs) where
   abbrev Rest : List LlOp → LlExit → Type 0
   Rest = Does s f (names ++ o.result ∷ []) ops e
 
@@ -242,12 +243,12 @@ module _ (s : Setting) (f : ℕ) (names : List ℕ) (o : Op) (ops : List Op) (e 
   raises_so Bad it = tt
 
   pub operation_followed : FollowsSo s Rest f names env o ops e w g frames here (op s.known.program o.covered o.op vs w)
-  operation_followed = by (does_it rest ends frames core g w vs at.stands at.left (let r = at.room in omega (arith, r, room)) (operands_given s f g env core at.variables o.args vs args))
+  operation_followed = by (does_it rest ends frames core g w vs at.stands at.left (let r = at.room in omega (arith, r, room)) (operands_given s f g env core at.variables o.args vs args) good)
     where
       by : DoesOrEnters s f o below here rest ends frames core g w (op s.known.program o.covered o.op vs w) ⊎ Raises s below here rest ends frames core g w (op s.known.program o.covered o.op vs w) → FollowsSo s Rest f names env o ops e w g frames here (op s.known.program o.covered o.op vs w)
       by (inl it) = follows_so (op s.known.program o.covered o.op vs w) it
       by (inr it) = raises_so (op s.known.program o.covered o.op vs w) it
 
 pub operations_are_followed : OperationsAreFollowed
-operations_are_followed s f names o ops e below new written rest ends types params_fit does_it room fresh uncaught catches behind frames core g env w vs at args =
-    operation_followed s f names o ops e below new written rest ends types params_fit does_it room fresh uncaught catches behind frames core g env w vs at args
+operations_are_followed s f names o ops e below new written rest ends types params_fit does_it room fresh uncaught catches behind frames core g env w vs at args good =
+    operation_followed s f names o ops e below new written rest ends types params_fit does_it room fresh uncaught catches behind frames core g env w vs at args good

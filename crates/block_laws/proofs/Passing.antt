@@ -166,7 +166,7 @@ module _ (l : Lowered) (known : Known) (graphs : Graphs) (p : LlProgram) (argume
         → Moved (length w.body.types) next e frames core g heap left (λ ghost vars. Fits ghost (s.element l.number v) (source env rest) (operand vars result.0)) (At (ops ++ next) e frames core)
 
   -- nothing stands at the place: the default of the type
-  one_default : (v : ℕ) (w : Writing) → One v [] w (default_operand (type_at l v), w)
+  pub one_default : (v : ℕ) (w : Writing) → One v [] w (default_operand (type_at l v), w)
   one_default v w = record {
     ops = [];
     new = [];
@@ -228,11 +228,11 @@ module _ (l : Lowered) (known : Known) (graphs : Graphs) (p : LlProgram) (argume
       by ops next e frames core g env heap left stands same fits stand own (Some x) h =
           subst (λ (o : Option Meant). Moved (length w.body.types) next e frames core g heap left (λ ghost vars. Fits ghost (s.element l.number v) o (operand vars (value_as l.world.around.layout (Var a) (type_at l a) (type_at l v) w).0)) (At (c.is.ops ++ next) e frames core)) (sym h)
           (moved (λ ghost y. Holds l.world.around.layout known ghost (s.element l.number v) y x) same
-          (c.is.follows p numbers known.exception arguments next e frames core g heap left x has (c.stood core g heap left stands) stands same fits inside (stand.bound a x h)))
+          (c.is.follows p numbers known.exception arguments next e frames core g heap left x has (c.stood core g heap left stands same) stands same fits inside (stand.bound a x h)))
       by ops next e frames core g env heap left stands same fits stand own None h =
           subst (λ (o : Option Meant). Moved (length w.body.types) next e frames core g heap left (λ ghost vars. Fits ghost (s.element l.number v) o (operand vars (value_as l.world.around.layout (Var a) (type_at l a) (type_at l v) w).0)) (At (c.is.ops ++ next) e frames core)) (sym h)
           (moved (λ ghost y. Blank ghost (type_at l v) y) same
-          (c.is.blank p numbers known.exception arguments next e frames core g heap left has (c.stood core g heap left stands) stands same fits inside (stand.blank a own.0 h)))
+          (c.is.blank p numbers known.exception arguments next e frames core g heap left has (c.stood core g heap left stands same) stands same fits inside (stand.blank a own.0 h)))
 
   -- ---- all of them
 
@@ -279,7 +279,7 @@ module _ (l : Lowered) (known : Known) (graphs : Graphs) (p : LlProgram) (argume
   HasNone [] = Unit {0}
   HasNone (a ∷ others) = type_at l a ≡ type.Void
 
-  nothing_there : {g : Ghost} {env : List Bound} {vars : List Value} (rest : List ℕ) → HasNone rest → Stand s g l.number env vars → (x : Meant) → source env rest ≡ Some x → ⊥
+  pub nothing_there : {g : Ghost} {env : List Bound} {vars : List Value} (rest : List ℕ) → HasNone rest → Stand s g l.number env vars → (x : Meant) → source env rest ≡ Some x → ⊥
   nothing_there [] none stand x h = absurd (cc)
   nothing_there {g = g} {vars = vars} (a ∷ others) none stand x h = types.typed g a (read vars a) x (stand.bound a x h) none
 
@@ -341,11 +341,11 @@ module _ (l : Lowered) (known : Known) (graphs : Graphs) (p : LlProgram) (argume
       follows = then_follows;
     }
 
-  inside_rest : (n : ℕ) (rest : List ℕ) → AllUnder n rest → AllUnder n (tail rest)
+  pub inside_rest : (n : ℕ) (rest : List ℕ) → AllUnder n rest → AllUnder n (tail rest)
   inside_rest n [] u = tt
   inside_rest n (a ∷ others) u = u.1
 
-  inside_more : (m n : ℕ) (rest : List ℕ) → m ≤ n → AllUnder m rest → AllUnder n rest
+  pub inside_more : (m n : ℕ) (rest : List ℕ) → m ≤ n → AllUnder m rest → AllUnder n rest
   inside_more m n [] h u = tt
   inside_more m n (a ∷ others) h u = (let k = u.0 in omega (arith, k, h), inside_more m n others h u.1)
 
@@ -360,7 +360,7 @@ module _ (l : Lowered) (known : Known) (graphs : Graphs) (p : LlProgram) (argume
   none_of v w [] void converts = tt
   none_of v w (a ∷ others) void converts = converts.0 void
 
-  rest_at : (args rest : List ℕ) (n : ℕ) → ((k : ℕ) → slice_get args (n + k) ≡ slice_get rest k) → (k : ℕ) → slice_get args (n + 1 + k) ≡ slice_get (tail rest) k
+  pub rest_at : (args rest : List ℕ) (n : ℕ) → ((k : ℕ) → slice_get args (n + k) ≡ slice_get rest k) → (k : ℕ) → slice_get args (n + 1 + k) ≡ slice_get (tail rest) k
   rest_at args [] n h k = ap (slice_get args) (let z : n + 1 + k ≡ n + suc k = omega arith in z) ∙ h (suc k)
   rest_at args (a ∷ others) n h k = ap (slice_get args) (let z : n + 1 + k ≡ n + suc k = omega arith in z) ∙ h (suc k)
 
@@ -479,7 +479,7 @@ module _ (l : Lowered) (known : Known) (graphs : Graphs) (p : LlProgram) (argume
       by true h = absurd (there (is_void (type_at l v) h))
       by false h = ap (λ b. if b then typed l inputs else v ∷ typed l inputs) h
 
-  arrive : {g : Ghost} {env : List Bound} {inputs rest : List ℕ} {xs : List Value} (vars : List Value) → FitAll g env inputs rest xs → AreDistinct inputs → below ≤ length vars → Arrives g env inputs rest (set_all vars (typed l inputs) xs)
+  pub arrive : {g : Ghost} {env : List Bound} {inputs rest : List ℕ} {xs : List Value} (vars : List Value) → FitAll g env inputs rest xs → AreDistinct inputs → below ≤ length vars → Arrives g env inputs rest (set_all vars (typed l inputs) xs)
   arrive vars (NoMore rest) apart enough u h = absurd (cc)
   arrive {g = g} {env = env} vars (Without v inputs rest xs void empty more) apart enough u h = by (λ k. arrive vars more apart.1 enough u k) (v == u) refl h
     where
@@ -521,7 +521,7 @@ module _ (l : Lowered) (known : Known) (graphs : Graphs) (p : LlProgram) (argume
       by go true k = refl
       by go false k = go k
 
-  stand_passed : (g : Ghost) (env : List Bound) (inputs rest : List ℕ) (vars : List Value) → Arrives g env inputs rest vars → Stand s g l.number (passed_on env inputs rest) vars
+  pub stand_passed : (g : Ghost) (env : List Bound) (inputs rest : List ℕ) (vars : List Value) → Arrives g env inputs rest vars → Stand s g l.number (passed_on env inputs rest) vars
   stand_passed g env inputs rest vars arrives = record {
     bound = λ v x h. subst (λ (o : Option Meant). Fits g (s.element l.number v) o (read vars v)) h (arrives v (ap (among v) (sym (passed_named env inputs rest)) ∙ look_in (passed_on env inputs rest) v x h));
     blank = λ v a h. subst (λ (o : Option Meant). Fits g (s.element l.number v) o (read vars v)) h (arrives v (ap (among v) (sym (passed_named env inputs rest)) ∙ a));

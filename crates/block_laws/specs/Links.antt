@@ -1,5 +1,5 @@
 -- Links, and how what they pass on is converted.
-use Rattle.std.specs.Prelude.{◌≡◌, ◌≢◌, ◌<◌, ◌≤◌, ℕ, ◌+◌, true, false, List, [], ◌∷◌, ◌++◌, length, slice_get, Option, Some, None}
+use Rattle.std.specs.Prelude.{◌≡◌, ◌≢◌, ◌<◌, ◌≤◌, ℕ, ◌+◌, true, false, List, [], ◌∷◌, ◌++◌, length, slice_get, Option, Some, None, unwrap_or, false}
 use Rattle.ann_element.specs.declared.element.Element.{Element}
 use Rattle.csub_tree.specs.declared.tree.COperand.{COperand}
 use Rattle.csub_tree.specs.declared.tree.COperand.TheVariants.{Var}
@@ -58,6 +58,7 @@ setting l known graphs p arguments = record {
   element = element_at l.known.annotation;
   reached = is_block_reached l.known.annotation;
   size = λ f. length (types_in (graph_in p (known.graph f)));
+  made = λ c. unwrap_or (slice_get l.world.made c) false;
 }
 
 -- ---- blocks
@@ -88,9 +89,9 @@ HasBlocks s l = (n : ℕ) (b : Block) → slice_get l.graph.blocks n ≡ Some b 
 -- ---- conversions
 
 module _ (s : Setting) (numbers : Numbers) where
-  -- it is asked for and stands, over all memory that represents a heap
+  -- it is asked for and stands, over all memory that represents a heap, with as many steps left
   abbrev pub Stood : List Ask → Found → Type 0
-  Stood asks found = (core : Core) (g : Ghost) (heap : Heap) (left : ℕ) → Represents s.around.layout s.known g heap left core.blocks core.statics → AllAsked (Has s.low s.around.layout numbers s.known.exception core) asks found
+  Stood asks found = (core : Core) (g : Ghost) (heap : Heap) (left : ℕ) → Represents s.around.layout s.known g heap left core.blocks core.statics → left ≡ core.steps → AllAsked (Has s.low s.around.layout numbers s.known.exception core) asks found
 
   -- a value of which the one is known is converted to one of which the other is known
   pub record Converts (from to : Option Element) (x : COperand) (w : Writing) : Type 0 where

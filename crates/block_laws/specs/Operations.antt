@@ -27,7 +27,8 @@ use Rattle.object_laws.specs.Represents.{Represents}
 use Rattle.object_laws.specs.Values.{Holds, Given}
 use Rattle.call_laws.specs.Entered.{FollowsOrEnters}
 use Rattle.call_laws.specs.Raised.{Raised}
-use Rattle.run_laws.specs.Points.{Setting, names_of, IsException}
+use Rattle.flow_runs.specs.Good.{IsGood}
+use Rattle.run_laws.specs.Points.{Setting, is_keyed, names_of, IsException}
 use Rattle.run_laws.specs.Does.{Does}
 
 module _ (s : Setting) where
@@ -91,7 +92,7 @@ module _ (s : Setting) where
   -- of the first so many variables but that of the result, and so many further ones.
   abbrev pub IsOperation : ℕ → Op → ℕ → ℕ → List LlOp → Type 0
   IsOperation f o below new ops = (rest : List LlOp) (e : LlExit) (frames : List Frame) (core : Core) (g : Ghost) (w : World) (vs : List Meant)
-      → Represents s.around.layout s.known g w.heap w.left core.blocks core.statics → w.left ≡ core.steps → below + new ≤ length core.vars → Given s.known s.around g core (operands_of f o.args) vs
+      → Represents s.around.layout s.known g w.heap w.left core.blocks core.statics → w.left ≡ core.steps → below + new ≤ length core.vars → Given s.known s.around g core (operands_of f o.args) vs → IsGood s.known.program s.made (is_keyed s f o) o.op w vs
       → DoesOrEnters f o below (At (ops ++ rest) e frames core) rest e frames core g w (op s.known.program o.covered o.op vs w) ⊎ Raises below (At (ops ++ rest) e frames core) rest e frames core g w (op s.known.program o.covered o.op vs w)
 
 -- Where the operations of an operation do what it does, and so does what stands behind them, so do both together. The variable of the result is

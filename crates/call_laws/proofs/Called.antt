@@ -216,7 +216,7 @@ module _ (world : World) (known : Known) (f : ℕ) (place : Place) (args : List 
 -- ---- which operations
 
 -- a call of a function is lowered as such, whatever its operands are
-class_lowers : (world : World) (f : ℕ) (place : Place) (args : List Operand) (w : Writing) → is_never args ≡ false → lower_class_op world (row.Call f) place args w ≡ lower_list_op world.around (row.Call f) place args w
+pub class_lowers : (world : World) (f : ℕ) (place : Place) (args : List Operand) (w : Writing) → is_never args ≡ false → lower_class_op world (row.Call f) place args w ≡ lower_list_op world.around (row.Call f) place args w
 unfolding of_some of_one of_two other list_lowered lowered
 class_lowers world f place args w comes = ap (λ c. if c then lower_list_op world.around (row.Call f) place args w else lowered world (row.Call f) place args w) comes ∙ by args
   where
@@ -226,7 +226,7 @@ class_lowers world f place args w comes = ap (λ c. if c then lower_list_op worl
     by (a ∷ b ∷ []) = refl
     by (a ∷ b ∷ c ∷ more) = refl
 
-list_lowers : (around : Around) (f : ℕ) (place : Place) (args : List Operand) (w : Writing) → is_never args ≡ false → lower_list_op around (row.Call f) place args w ≡ lower_op around (row.Call f) place args w
+pub list_lowers : (around : Around) (f : ℕ) (place : Place) (args : List Operand) (w : Writing) → is_never args ≡ false → lower_list_op around (row.Call f) place args w ≡ lower_op around (row.Call f) place args w
 unfolding list_lowered list_of_some list_of_one list_of_two list_of_three list_other first_of_one first_of_two second_of_two first_of_three
 list_lowers around f place args w comes = ap (λ c. if c then lower_op around (row.Call f) place args w else list_lowered around (row.Call f) place args w) comes ∙ by args
   where
@@ -241,7 +241,7 @@ list_lowers around f place args w comes = ap (λ c. if c then lower_op around (r
     by (a ∷ b ∷ c ∷ []) = either (is_list a) (lower_op around (row.Call f) place (a ∷ b ∷ c ∷ []) w)
     by (a ∷ b ∷ c ∷ d ∷ more) = refl
 
-op_lowers : (around : Around) (f : ℕ) (place : Place) (args : List Operand) (w : Writing) → is_never args ≡ false → lower_op around (row.Call f) place args w ≡ call around place f args w
+pub op_lowers : (around : Around) (f : ℕ) (place : Place) (args : List Operand) (w : Writing) → is_never args ≡ false → lower_op around (row.Call f) place args w ≡ call around place f args w
 op_lowers around f place args w comes = ap (λ c. if c then says_nothing around place w else call around place f args w) comes
 
 pub calls_are_done : FunctionsAreCalled row.Call
@@ -249,7 +249,7 @@ calls_are_done world known f place args w covers it =
     let comes : is_never args ≡ false = all_come world.around.layout known args it.params it.stay in
     call_done world known f place args w it (row.Call f) covers (class_lowers world f place args w comes ∙ list_lowers world.around f place args w comes ∙ op_lowers world.around f place args w comes) (λ vs meant. refl)
 
-of_class_lowers : (world : World) (class f : ℕ) (place : Place) (args : List Operand) (w : Writing) → is_never args ≡ false → lower_class_op world (row.CallOf class f) place args w ≡ call world.around place f args w
+pub of_class_lowers : (world : World) (class f : ℕ) (place : Place) (args : List Operand) (w : Writing) → is_never args ≡ false → lower_class_op world (row.CallOf class f) place args w ≡ call world.around place f args w
 unfolding lowered
 of_class_lowers world class f place args w comes = ap (λ c. if c then lower_list_op world.around (row.CallOf class f) place args w else lowered world (row.CallOf class f) place args w) comes
 

@@ -63,15 +63,15 @@ use Rattle.call_laws.proofs.Passed.{xs_of, values_of, all_typed, all_come, passe
 -- ---- what is written
 
 -- what it gives is dropped
-init_gives : (number : ℕ) (t : LlType) (xs : List COperand) (body : Body) → (t ≡ type.Void → ⊥) → init_giving number t xs body ≡ with_op (op.Call (Some (fresh t body).0) number xs) (fresh t body).1
+pub init_gives : (number : ℕ) (t : LlType) (xs : List COperand) (body : Body) → (t ≡ type.Void → ⊥) → init_giving number t xs body ≡ with_op (op.Call (Some (fresh t body).0) number xs) (fresh t body).1
 unfolding init_giving
 init_gives number type.Void xs body there = absurd (there refl)
 init_gives number t xs body there = refl
 
-too_few : (n : ℕ) → nat_lt n 1 ≡ true → n < 1
+pub too_few : (n : ℕ) → nat_lt n 1 ≡ true → n < 1
 too_few n h = grind (arith, nat_tests, h)
 
-are_enough : (n : ℕ) → nat_lt n 1 ≡ false → 1 ≤ n
+pub are_enough : (n : ℕ) → nat_lt n 1 ≡ false → 1 ≤ n
 are_enough n h = grind (arith, nat_tests, h)
 
 module _ (world : World) (known : Known) (of : IsOf world known) (out : IsLaidOut world known) (place : Place) (args : List Operand) (w : Writing) (class d f : ℕ) (r : Bool) (l : Laid) (covers : Covers)

@@ -87,7 +87,7 @@ is_less m n h = grind (arith, nat_tests, h)
 abbrev pub in_range : ℕ → ℕ → ℕ → Bool
 in_range low n high = int_le (pos low) (pos n) && int_lt (pos n) (pos high)
 
-told : (b : Bool) (low n high : ℕ) → (IsTrue b ↔ ((low ≤ n) × (n < high))) → b ≡ in_range low n high
+pub told : (b : Bool) (low n high : ℕ) → (IsTrue b ↔ ((low ≤ n) × (n < high))) → b ≡ in_range low n high
 told true low n high h = (let k = h.0 refl in sym (ap (λ c. c && int_lt (pos n) (pos high)) (at_most low n k.0) ∙ less n high k.1))
 told false low n high h = by (int_le (pos low) (pos n)) (int_lt (pos n) (pos high)) refl refl
   where

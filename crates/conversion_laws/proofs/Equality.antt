@@ -292,23 +292,17 @@ module _ (layout : Layout) (known : Known) (k m n : ℕ) (those : List LlType) (
 -- ---- the graph
 
 module _ (layout : Layout) (known : Known) (k m n : ℕ) (parts others : List Element) (from to : Option Element) (a : IsTuple layout from m parts) (b : IsTuple layout to n others) (each : ItemsMean layout known k m n (fields_at layout n) 0 (fields_at layout m) parts others) where
-  tuples_told : (x y : COperand) (w : Writing) (p : LlProgram) (numbers : Numbers) (raised : ℕ → Value) (arguments : List (List ℕ)) (rest : List LlOp) (e : LlExit) (frames : List Frame) (core : Core) (g : Ghost) (heap : Heap) (left : ℕ) (u v : Meant) (c : Bool)
-      → HasLayout p layout → AllAsked (HasTo p layout numbers raised core (suc k)) (Make (small.Equal m n) ∷ []) w.found → Represents layout known g heap left core.blocks core.statics → length w.body.types + 1 ≤ length core.vars
-      → Holds layout known g from (operand core.vars x) u → Holds layout known g to (operand core.vars y) v → equal u v ≡ Some c
-      → Told p arguments (At (ops_of (Tuples m n) x y w ++ rest) e frames core) rest e frames core (length w.body.types) (operand_of (Tuples m n) w) c
-  tuples_told x y w p numbers raised arguments rest e frames core g heap left u v c has asked r room held_x held_y h =
-      let ix : TupleAt layout known g m parts (operand core.vars x) u = tuple_held m parts a held_x in
-      let iy : TupleAt layout known g n others (operand core.vars y) v = tuple_held n others b held_y in
-      let X : Value = operand core.vars x in
-      let Y : Value = operand core.vars y in
-      let M : ℕ = length w.body.types in
-      let f : ℕ = (small_number (small.Equal m n) w.found).0 in
+  -- the call of the graph
+  tuples_come : (asked_of : Found) (X Y : Value) (p : LlProgram) (numbers : Numbers) (raised : ℕ → Value) (arguments : List (List ℕ)) (core : Core) (g : Ghost) (heap : Heap) (left : ℕ) (u v : Meant) (c : Bool)
+      → HasLayout p layout → AllAsked (HasTo p layout numbers raised core (suc k)) (Make (small.Equal m n) ∷ []) asked_of → Represents layout known g heap left core.blocks core.statics
+      → Holds layout known g from X u → Holds layout known g to Y v → equal u v ≡ Some c
+      → (waits : List Frame) → Comes p arguments (Calling (small_number (small.Equal m n) asked_of).0 (X ∷ Y ∷ []) waits core) [] (Flag c) waits core
+  tuples_come asked_of X Y p numbers raised arguments core g heap left u v c has asked r held_x held_y h waits =
+      let ix : TupleAt layout known g m parts X u = tuple_held m parts a held_x in
+      let iy : TupleAt layout known g n others Y v = tuple_held n others b held_y in
+      let f : ℕ = (small_number (small.Equal m n) asked_of).0 in
       let made : Found = asked.0.made in
       let graph : slice_get p.graphs f ≡ Some (the_graph layout m n made) = asked.0.graph ∙ ap Some (graph_is layout m n made) in
-      let block_x : Block = tuple_block m ix.xs in
-      let block_y : Block = tuple_block n iy.xs in
-      let set_x : is_unset X ≡ false = found_set core.blocks core.statics X block_x (r.stays X block_x ix.is) in
-      let set_y : is_unset Y ≡ false = found_set core.blocks core.statics Y block_y (r.stays Y block_y iy.is) in
       let at : ℕ = answer_at layout m n made in
       let more : List LlType = new_types layout m n made ++ type.Bool ∷ [] in
       let more_long : length more ≡ length (new_types layout m n made) + 1 = length-append (new_types layout m n made) (type.Bool ∷ []) in
@@ -318,8 +312,6 @@ module _ (layout : Layout) (known : Known) (k m n : ℕ) (parts others : List El
       let count : length (the_graph layout m n made).types - 2 ≡ length more = omega arith in
       let behind : List LlOp = op.Binary at binary.Ne (last layout m n made) zero_word ∷ [] in
       let meant : all_equal (parts_of ix.vs) (parts_of iy.vs) ≡ Some c = sym (ap (λ u. equal u v) ix.high ∙ ap (equal (tuple ix.vs)) iy.high) ∙ h in
-      let comes : (waits : List Frame) → Comes p arguments (Calling f (X ∷ Y ∷ []) waits core) [] (Flag c) waits core =
-      λ waits. (
       let enters : Leads p arguments 0 (Calling f (X ∷ Y ∷ []) waits core) [] (At (all_ops layout m n made) leaves waits core1) =
       subst (λ k. Leads p arguments 0 (Calling f (X ∷ Y ∷ []) waits core) [] (At (all_ops layout m n made) leaves waits (record core { function = f; block = 0; at = 0; vars = (X ∷ Y ∷ []) ++ replicate k Unset }))) count (enter graph refl) in
       let R : Summed p arguments (At (all_ops layout m n made) leaves waits core1) behind leaves waits core1 2 (last layout m n made) (true && c) =
@@ -331,8 +323,22 @@ module _ (layout : Layout) (known : Known) (k m n : ℕ) (parts others : List El
       let there : read mid.vars at ≡ Flag c = is_set_at R.mid at (Flag c) (omega (arith, long, more_long, filled_long)) in
       let returns : Leads p arguments 0 (At [] leaves waits mid) [] (Returning (Flag c) waits mid) = one (ap (λ y. given y (λ value. Goes (Returning value waits mid))) there) refl in
       record { end = mid; same = R.passed.memory; leads = on enters (on R.way (on tests returns)) }
-      ) in
-      told_one M c (omega (arith, room)) (calls_at refl (ap (λ c. c || (is_unset Y || false)) set_x ∙ ap (λ c. c || false) set_y) comes)
+
+  tuples_told : (x y : COperand) (w : Writing) (p : LlProgram) (numbers : Numbers) (raised : ℕ → Value) (arguments : List (List ℕ)) (rest : List LlOp) (e : LlExit) (frames : List Frame) (core : Core) (g : Ghost) (heap : Heap) (left : ℕ) (u v : Meant) (c : Bool)
+      → HasLayout p layout → AllAsked (HasTo p layout numbers raised core (suc k)) (Make (small.Equal m n) ∷ []) w.found → Represents layout known g heap left core.blocks core.statics → length w.body.types + 1 ≤ length core.vars
+      → Holds layout known g from (operand core.vars x) u → Holds layout known g to (operand core.vars y) v → equal u v ≡ Some c
+      → Told p arguments (At (ops_of (Tuples m n) x y w ++ rest) e frames core) rest e frames core (length w.body.types) (operand_of (Tuples m n) w) c
+  tuples_told x y w p numbers raised arguments rest e frames core g heap left u v c has asked r room held_x held_y h =
+      let X : Value = operand core.vars x in
+      let Y : Value = operand core.vars y in
+      let ix : TupleAt layout known g m parts X u = tuple_held m parts a held_x in
+      let iy : TupleAt layout known g n others Y v = tuple_held n others b held_y in
+      let block_x : Block = tuple_block m ix.xs in
+      let block_y : Block = tuple_block n iy.xs in
+      let set_x : is_unset X ≡ false = found_set core.blocks core.statics X block_x (r.stays X block_x ix.is) in
+      let set_y : is_unset Y ≡ false = found_set core.blocks core.statics Y block_y (r.stays Y block_y iy.is) in
+      told_one (length w.body.types) c (omega (arith, room)) (calls_at refl (ap (λ c. c || (is_unset Y || false)) set_x ∙ ap (λ c. c || false) set_y)
+      (λ waits. tuples_come w.found X Y p numbers raised arguments core g heap left u v c has asked r held_x held_y h waits))
 
 -- ---- all values
 
@@ -366,7 +372,7 @@ no_zero layout m n true h apart i = (let q : m ≡ 0 = grind (arith, nat_tests, 
 no_zero layout m n false h apart i = ap (λ c. c && (n == 0)) h
 
 module _ (layout : Layout) (apart : is_tuple layout 0 ≡ false) where
-  tuples_tested : (m n : ℕ) → is_tuple layout m ≡ true → is_tuple layout n ≡ true → test_of layout (type.Ptr m) (type.Ptr n) ≡ Tuples m n
+  pub tuples_tested : (m n : ℕ) → is_tuple layout m ≡ true → is_tuple layout n ≡ true → test_of layout (type.Ptr m) (type.Ptr n) ≡ Tuples m n
   tuples_tested m n i j =
       ap (λ c. if c then Texts else if is_tuple layout m && is_tuple layout n then Tuples m n else Apart) (no_zero layout m n (m == 0) refl apart i)
       ∙ ap (λ c. if c && is_tuple layout n then Tuples m n else Apart) i ∙ ap (λ c. if c then Tuples m n else Apart) j
@@ -405,3 +411,12 @@ module _ (layout : Layout) (known : Known) (apart : is_tuple layout 0 ≡ false)
         next_item layout known (suc k) m n those i part other parts others s (shape layout parts)
         (compares_told one k (omega (arith, enough)) (sym f.0) (sym f.1 ∙ sym there))
         (items_told all (suc k) (omega (arith, enough)) m n those (i + 1) (pre ++ t ∷ []) (h ∙ sym (append_assoc pre (t ∷ []) (shape layout others))) (omega (arith, j, long)))
+
+  -- a call of the graph that compares two tuples
+  pub tuples_are_told : {from to : Option Element} (m n : ℕ) (parts others : List Element) (i : IsTuple layout from m parts) (j : IsTuple layout to n others) (all : AllCompare layout parts others) (asked_of : Found) (X Y : Value) (p : LlProgram) (numbers : Numbers) (raised : ℕ → Value) (arguments : List (List ℕ)) (core : Core) (g : Ghost) (heap : Heap) (left : ℕ) (u v : Meant) (c : Bool)
+      → HasLayout p layout → HasTo p layout numbers raised core (suc (all_levels all)) (Make (small.Equal m n)) asked_of → Represents layout known g heap left core.blocks core.statics → Holds layout known g from X u → Holds layout known g to Y v → equal u v ≡ Some c
+      → (waits : List Frame) → Comes p arguments (Calling (small_number (small.Equal m n) asked_of).0 (X ∷ Y ∷ []) waits core) [] (Flag c) waits core
+  tuples_are_told {from = from} {to = to} m n parts others i j all asked_of X Y p numbers raised arguments core g heap left u v c has asked r held_x held_y h waits =
+      tuples_come layout known (all_levels all) m n parts others from to i j
+      (subst (λ ss. ItemsMean layout known (all_levels all) m n (fields_at layout n) 0 ss parts others) (sym i.fields) (items_told all (all_levels all) (omega arith) m n (fields_at layout n) 0 [] j.fields refl))
+      asked_of X Y p numbers raised arguments core g heap left u v c has (asked, tt) r held_x held_y h waits

@@ -126,7 +126,7 @@ all_had Has Had go [] made has = tt
 all_had Has Had go (a ∷ asks) made has = (go a made has.0, all_had Has Had go asks (number_of a made).1 has.1)
 
 module _ (p : LlProgram) (layout : Layout) (numbers : Numbers) (raised : ℕ → Value) (before after : Core) (statics : after.statics ≡ before.statics) (steps : after.steps ≡ before.steps) where
-  has_to_kept : (k : ℕ) (a : Ask) (made : Found) → HasTo p layout numbers raised before k a made → HasTo p layout numbers raised after k a made
+  pub has_to_kept : (k : ℕ) (a : Ask) (made : Found) → HasTo p layout numbers raised before k a made → HasTo p layout numbers raised after k a made
   has_to_kept zero a made h = tt
   has_to_kept (suc k) (Help h) made has = helper_kept statics steps has
   has_to_kept (suc k) (Raise h) made has = has

@@ -268,7 +268,7 @@ module _ (layout : Layout) where
       ap (type_of layout) (sym (element.rolls-List s r)) ∙ fold-roll-Element LlType (type_step layout) (Element-F.List s r)
       ∙ sym (ap (type_of layout) (sym (element.rolls-List s q)) ∙ fold-roll-Element LlType (type_step layout) (Element-F.List s q))
 
-  dict_type : (s : ℕ) (r q : Bool) → type_of layout (element.Dict s r) ≡ type_of layout (element.Dict s q)
+  pub dict_type : (s : ℕ) (r q : Bool) → type_of layout (element.Dict s r) ≡ type_of layout (element.Dict s q)
   dict_type s r q =
       ap (type_of layout) (sym (element.rolls-Dict s r)) ∙ fold-roll-Element LlType (type_step layout) (Element-F.Dict s r)
       ∙ sym (ap (type_of layout) (sym (element.rolls-Dict s q)) ∙ fold-roll-Element LlType (type_step layout) (Element-F.Dict s q))

@@ -35,7 +35,7 @@ use Rattle.object_laws.proofs.Growing.{grown_none}
 use Rattle.conversion_laws.specs.Turns.{TurnsArePaid}
 
 -- fewer steps are left
-fewer_left : {layout : Layout} {known : Known} {g : Ghost} {heap : Heap} {left fewer : ℕ} {blocks : List (Option Block)} {statics : List Block} → fewer ≤ left → Represents layout known g heap left blocks statics → Represents layout known g heap fewer blocks statics
+pub fewer_left : {layout : Layout} {known : Known} {g : Ghost} {heap : Heap} {left fewer : ℕ} {blocks : List (Option Block)} {statics : List Block} → fewer ≤ left → Represents layout known g heap left blocks statics → Represents layout known g heap fewer blocks statics
 fewer_left less r = record {
   made = r.made;
   fixed = r.fixed;

@@ -158,14 +158,14 @@ abbrev mutual
 
 module _ {layout : Layout} {known : Known} where
   -- both have types, where there are values
-  from_typed : {from to : Option Element} → Goes layout known from to → (kind_seen from ≡ kind.Never → ⊥) → type_seen layout from ≡ type.Void → ⊥
+  pub from_typed : {from to : Option Element} → Goes layout known from to → (kind_seen from ≡ kind.Never → ⊥) → type_seen layout from ≡ type.Void → ⊥
   from_typed (goes.Never k) there h = absurd (there k)
   from_typed (goes.Staying s) there h = stays_there s (sym (stays_typed s) ∙ h)
   from_typed {from = from} (goes.Missing k t d) there h = (let q : type.Bool ≡ type.Void = sym (place_of_none layout from k) ∙ h in absurd (cc))
   from_typed {from = from} (goes.Texted k t) there h = (let q : type.Char ≡ type.Void = sym (place_of_bytes layout from k) ∙ h in absurd (cc))
   from_typed (goes.Items m n parts others a b all) there h = (let q : type.Ptr m ≡ type.Void = sym a.typed ∙ h in absurd (cc))
 
-  to_typed : {from to : Option Element} → Goes layout known from to → (kind_seen from ≡ kind.Never → ⊥) → type_seen layout to ≡ type.Void → ⊥
+  pub to_typed : {from to : Option Element} → Goes layout known from to → (kind_seen from ≡ kind.Never → ⊥) → type_seen layout to ≡ type.Void → ⊥
   to_typed (goes.Never k) there h = absurd (there k)
   to_typed (goes.Staying s) there h = stays_there s h
   to_typed (goes.Missing k t d) there h = (let q : constant.Null ≡ default_constant type.Void = sym d ∙ ap default_constant h in absurd (cc))

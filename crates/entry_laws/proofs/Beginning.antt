@@ -113,6 +113,6 @@ entry_points_are_called world s number arguments steps there list = started worl
 -- ---- whole runs
 
 pub whole_runs_are_followed : WholeRunsAreFollowed
-whole_runs_are_followed world s number arguments steps there list lowered k end ran =
+whole_runs_are_followed world s number arguments steps there list lowered good k end ran =
     let it = started world s number arguments steps there list in
-    behind_if s (first_world s steps) (first_world s steps) end.world end.outcome it.way (sym (append-nil (first_world s steps).out)) (runs_are_followed s lowered it.ghost (start s.known.program s.arguments steps) it.state it.stands k end ran)
+    behind_if s (first_world s steps) (first_world s steps) end.world end.outcome it.way (sym (append-nil (first_world s steps).out)) (runs_are_followed s lowered it.ghost (start s.known.program s.arguments steps) it.state it.stands good k end ran)

@@ -76,7 +76,7 @@ numbered a n zero (x ∷ gs) g e = refl
 numbered a n (suc f) (x ∷ gs) g e = numbered a (next_number a n x) f gs g e
 
 pub programs_run : ProgramsRun
-programs_run known classes p r meant items keys static graphs arguments steps is stands calls done list k end ran =
+programs_run known classes p r meant items keys static graphs arguments steps is stands calls done list good k end ran =
     let world = world_in known classes (layout_for known classes) p r in
     let seen = seen_in known classes p r meant items keys static in
     let s = setting_in known classes p r seen graphs arguments in
@@ -86,4 +86,4 @@ programs_run known classes p r meant items keys static graphs arguments steps is
       has = programs_have_entries known classes p r meant items keys static graphs arguments is stands;
       first = refl;
       entry = subst (λ (f : ℕ). seen.graph f ≡ Some (number_of world f)) (sym is.entry) number;
-    }) list (programs_are_lowered known classes p r seen graphs arguments is.graphs is.structs done) k end ran
+    }) list (programs_are_lowered known classes p r seen graphs arguments is.graphs is.structs done) good k end ran

@@ -23,7 +23,8 @@ use Rattle.layout_laws.specs.Layouts.{IsNumbered}
 use Rattle.program_asks.specs.Standing.{Stands, first_in, last_in, numbers_in, world_in}
 use Rattle.rtyped_laws.specs.Programs.{layout_for}
 use Rattle.rtyped_runs.specs.Programs.{IsDone, setting_of}
-use Rattle.run_laws.specs.Points.{Setting}
+use Rattle.flow_runs.specs.Runs.{AreGood}
+use Rattle.run_laws.specs.Points.{is_keyed, Setting}
 use Rattle.run_laws.specs.Runs.{EndsIf}
 use Rattle.object_laws.specs.Known.{Known as Seen}
 use Rattle.entry_laws.specs.Begins.{ArgumentsAreGiven}
@@ -69,13 +70,14 @@ pub record CallsEntry (known : Known) : Type 0 where
   pub stands : slice_get known.graphs known.program.entry ≡ Some graph
   pub reached : slice_get known.annotation.reached known.program.entry ≡ Some true
 
--- Where the parts of such a program are done, and the list of arguments is made, its whole run, from its start, ends as that of its flow
--- graphs does, where that ends.
+-- Where the parts of such a program are done, the list of arguments is made, and each operation of the run is as the laws of operations ask, its
+-- whole run, from its start, ends as that of its flow graphs does, where that ends.
 abbrev pub ProgramsRun : Type 0
 ProgramsRun = (known : Known) (classes : Tables) (p : LlProgram) (r : IsLaid known classes p) (meant : Program) (items keys : ℕ → Option Element) (static : ℕ → Option Block) (graphs : Graphs) (arguments : List (List ℕ)) (steps : ℕ) → IsMeant known classes p r meant
     → (stands : EntryStands known (world_in known classes (layout_for known classes) p r) (last_in known classes (layout_for known classes) p r) p)
     → CallsEntry known
     → IsDone known (world_in known classes (layout_for known classes) p r) (seen_in known classes p r meant items keys static) (numbers_in known classes (layout_for known classes) p r) (first_in known classes (layout_for known classes) p r) (last_in known classes (layout_for known classes) p r) graphs p arguments
     → ArgumentsAreGiven (setting_in known classes p r (seen_in known classes p r meant items keys static) graphs arguments) stands.arguments steps
+    → AreGood meant graphs (setting_in known classes p r (seen_in known classes p r meant items keys static) graphs arguments).made (is_keyed (setting_in known classes p r (seen_in known classes p r meant items keys static) graphs arguments)) (start meant arguments steps)
     → (k : ℕ) (end : Run) → run meant graphs k (start meant arguments steps) ≡ Ended end
     → EndsIf (setting_in known classes p r (seen_in known classes p r meant items keys static) graphs arguments) end.outcome (begin meant arguments steps 0).world end.world (machine.start p steps)

@@ -45,7 +45,7 @@ use Rattle.object_laws.proofs.Valued.{each_long, held_set}
 
 -- ---- the graph, where the value and the items have one such type
 
-abbrev read_ops : ℕ → List LlOp
+abbrev pub read_ops : ℕ → List LlOp
 read_ops a = op.GetItem 7 a 2 (Var 4) ∷ op.Binary 6 binary.Add (Var 4) (word_operand (pos 1)) ∷ []
 
 abbrev pub ops_by : CBinary → ℕ → List LlOp
@@ -64,7 +64,7 @@ abbrev pub text_body : Layout → ℕ → ℕ → Body
 text_body layout n number = record { types = (contains_types (type.Ptr 0) (shape_of layout n) ++ type.Ptr 0 ∷ []) ++ type.Bool ∷ []; ops = read_ops (word (n + 1)) ++ op.Call (Some 8) number (Var 7 ∷ Var 0 ∷ []) ∷ [] }
 
 module _ (layout : Layout) (n : ℕ) (found : Found) where
-  abbrev made_for : LlType → LlType → LlGraph
+  abbrev pub made_for : LlType → LlType → LlGraph
   made_for kind t = (contains_made (shape_of layout n) (equal layout (Var 7) t (Var 0) kind (writing found (record { types = contains_types kind (shape_of layout n) ++ t ∷ []; ops = read_ops (word (n + 1)) })))).0
 
   pub words_are : item_of layout (word (n + 1)) ≡ type.Signed → (contains layout type.Signed (shape_of layout n) found).0 ≡ contains_graph (shape_of layout n) (8, one_body layout n type.Signed binary.Eq)
@@ -83,7 +83,7 @@ module _ (layout : Layout) (n : ℕ) (found : Found) where
   unfolding contains same_item equal variable_of contains_types helped
   texts_are h = ap (made_for (type.Ptr 0)) h
 
-abbrev two : Value × Value → List Value
+abbrev pub two : Value × Value → List Value
 two rest = rest.0 ∷ rest.1 ∷ []
 
 -- ---- the loop
@@ -126,10 +126,10 @@ module _ (p : LlProgram) (args : List (List ℕ)) (layout : Layout) (known : Kno
     turning j v6 rest waits = At (contains_turn same body.ops).ops (contains_turn same body.ops).exit waits (record core { function = f; block = 2; at = 0; vars = vars j (Flag true) v6 rest })
 
     -- the item at a place is the value, or it is not and the next one is asked
-    record Tells : Type 0 where
-      finds : (j : ℕ) (v6 y : Value) (w : Meant) (rest : Rest) → j < count → read whole j ≡ y → Holds layout known g (known.items n) y w → is_equal w v ≡ true → (waits : List Frame)
+    pub record Tells : Type 0 where
+      pub finds : (j : ℕ) (v6 y : Value) (w : Meant) (rest : Rest) → j < count → read whole j ≡ y → Holds layout known g (known.items n) y w → is_equal w v ≡ true → (waits : List Frame)
           → (vs : List Value) × Leads p args 0 (turning j v6 rest waits) [] (At (answer (flag_operand true)).ops (answer (flag_operand true)).exit waits (record core { function = f; block = 3; at = 0; vars = vs }))
-      passes : (j : ℕ) (v6 y : Value) (w : Meant) (rest : Rest) → j < count → read whole j ≡ y → Holds layout known g (known.items n) y w → is_equal w v ≡ false → (waits : List Frame)
+      pub passes : (j : ℕ) (v6 y : Value) (w : Meant) (rest : Rest) → j < count → read whole j ≡ y → Holds layout known g (known.items n) y w → is_equal w v ≡ false → (waits : List Frame)
           → (next : Rest) × Leads p args 0 (turning j v6 rest waits) [] (asking (j + 1) (Flag true) (Word (pos (j + 1))) next waits)
 
     module _ (tells : Tells) (waits : List Frame) where
@@ -160,7 +160,7 @@ module _ (p : LlProgram) (args : List (List ℕ)) (layout : Layout) (known : Kno
               subst (λ k. Leads p args 0 (asking k (Flag true) (Word (pos (length xs + 1))) it.0 waits) [] (Returning (Flag (is_among v ws)) waits next.end)) at_next next.leads in
               subst (λ t. Comes p args (asking (length xs) v5 v6 rest waits) [] (Flag (t || is_among v ws)) waits core) (sym h) (record { end = next.end; same = next.same; leads = on begins (on it.1 go) }))
 
-      loops : {xs : List Value} {ws : List Meant} (pre : List Value) (v5 v6 : Value) (rest : Rest) → EachHolds layout known g (known.items n) xs ws → s.values ≡ pre ++ xs → Comes p args (asking (length pre) v5 v6 rest waits) [] (Flag (is_among v ws)) waits core
+      pub loops : {xs : List Value} {ws : List Meant} (pre : List Value) (v5 v6 : Value) (rest : Rest) → EachHolds layout known g (known.items n) xs ws → s.values ≡ pre ++ xs → Comes p args (asking (length pre) v5 v6 rest waits) [] (Flag (is_among v ws)) waits core
       unfolding contains_graph contains_start contains_asks contains_turn contains_types
       loops pre v5 v6 rest Empty are = record {
         end = _;

@@ -64,14 +64,15 @@ use Rattle.object_laws.proofs.Held.{gives_placed, gives_holds}
 use Rattle.list_laws.proofs.Indexed.{asked_both, has_first, has_more}
 use Rattle.list_laws.proofs.Lowered.{list_comes, two_come, first_of_two_is_list}
 use Rattle.object_laws.proofs.Passing.{none_passed, sets_more, is_set_at, operand_kept, behind, calls_at, throws_at, fails_at}
+use Rattle.lower_laws.proofs.Coming.{Comes}
 use Rattle.object_laws.proofs.Present.{present_comes, present_flies, present_fails}
 use Rattle.object_laws.proofs.Valued.{stays_comes}
 use Rattle.object_laws.proofs.Valued.{Listing, Absent, list_or_none, stays_typed, stays_there, stays_held}
 
 -- what the operation does with a list, and with `None`
-record Adds (o : RowOp) (w : Writing) : Type 0 where
-  there : (program : Program) (i : ℕ) (u : Meant) (world : World) (items : List Meant) → slice_get world.heap i ≡ Some (Listed items) → meant_op program w.found.covered o (Ref i ∷ u ∷ []) world ≡ after_append world i items u
-  none : (program : Program) (u : Meant) (world : World) → (meant_op program w.found.covered o (Nothing ∷ u ∷ []) world ≡ failure w.found.covered.attribute 9 fail.Attribute world) ⊎ (meant_op program w.found.covered o (Nothing ∷ u ∷ []) world ≡ Bad)
+pub record Adds (o : RowOp) (w : Writing) : Type 0 where
+  pub there : (program : Program) (i : ℕ) (u : Meant) (world : World) (items : List Meant) → slice_get world.heap i ≡ Some (Listed items) → meant_op program w.found.covered o (Ref i ∷ u ∷ []) world ≡ after_append world i items u
+  pub none : (program : Program) (u : Meant) (world : World) → (meant_op program w.found.covered o (Nothing ∷ u ∷ []) world ≡ failure w.found.covered.attribute 9 fail.Attribute world) ⊎ (meant_op program w.found.covered o (Nothing ∷ u ∷ []) world ≡ Bad)
 
 module _ (o : RowOp) (known : Known) (around : Around) (place : Place) (a b : Operand) (w : Writing) (n : ℕ) (item : Element) (of : IsList around known a.element n item) (stay : Stays around.layout known b.element (Some item)) (nothing : kind_seen place.element ≡ kind.Nothing)
     (adds : Adds o w) (l : lower_list_op around o place (a ∷ b ∷ []) w ≡ append around place a b w) where
@@ -299,19 +300,29 @@ module _ (o : RowOp) (known : Known) (around : Around) (place : Place) (a b : Op
   by_kind kind.MaybeList h is = maybe_done h
   by_kind _ h is = absurd (cc)
 
-  append_done : IsDone known around o w.found.covered asks place (a ∷ b ∷ []) w
+  pub append_done : IsDone known around o w.found.covered asks place (a ∷ b ∷ []) w
   append_done = by_kind (kind_of a) refl of.is
 
 -- ---- the operations
 
-pub method_appends : (site : Option ℕ) → ItemsAreAppended (row.Method (codes "append") site)
+pub method_adds : (site : Option ℕ) (w : Writing) → Adds (row.Method (codes "append") site) w
+method_adds site w = record { there = λ program i u world items h. ap (λ o. object_method program w.found.covered (codes "append") i (u ∷ []) o world) h; none = λ program u world. inl refl }
+
+pub method_lowers : (site : Option ℕ) (around : Around) (place : Place) (a b : Operand) (w : Writing) → of_list (kind_of a) ≡ true → Comes b → lower_list_op around (row.Method (codes "append") site) place (a ∷ b ∷ []) w ≡ append around place a b w
 unfolding lowered method_of method_of_two method_of_list method of_two
-method_appends site known around place a b w n item of stay nothing = append_done (row.Method (codes "append") site) known around place a b w n item of stay nothing
-    (record { there = λ program i u world items h. ap (λ o. object_method program w.found.covered (codes "append") i (u ∷ []) o world) h; none = λ program u world. inl refl })
-    (two_come around (row.Method (codes "append") site) place a b w (list_comes a of.is) (stays_comes stay) ∙ ap (λ c. if c then append around place a b w else lower_op around (row.Method (codes "append") site) place (a ∷ b ∷ []) w) of.is)
+method_lowers site around place a b w is comes = two_come around (row.Method (codes "append") site) place a b w (list_comes a is) comes ∙ ap (λ c. if c then append around place a b w else lower_op around (row.Method (codes "append") site) place (a ∷ b ∷ []) w) is
+
+pub comprehension_adds : (w : Writing) → Adds row.AddItem w
+comprehension_adds w = record { there = λ program i u world items h. ap (λ o. on_list (λ vs. paying item_cost (set_object i (Listed (vs ++ u ∷ [])) Nothing)) o world) h; none = λ program u world. inr refl }
+
+pub comprehension_lowers : (around : Around) (place : Place) (a b : Operand) (w : Writing) → of_list (kind_of a) ≡ true → Comes b → lower_list_op around row.AddItem place (a ∷ b ∷ []) w ≡ append around place a b w
+unfolding lowered of_some first_of_two
+comprehension_lowers around place a b w is comes = two_come around row.AddItem place a b w (list_comes a is) comes ∙ first_of_two_is_list around row.AddItem place a b w is
+
+pub method_appends : (site : Option ℕ) → ItemsAreAppended (row.Method (codes "append") site)
+method_appends site known around place a b w n item of stay nothing =
+    append_done (row.Method (codes "append") site) known around place a b w n item of stay nothing (method_adds site w) (method_lowers site around place a b w of.is (stays_comes stay))
 
 pub comprehension_appends : ItemsAreAppended row.AddItem
-unfolding lowered of_some first_of_two
-comprehension_appends known around place a b w n item of stay nothing = append_done row.AddItem known around place a b w n item of stay nothing
-    (record { there = λ program i u world items h. ap (λ o. on_list (λ vs. paying item_cost (set_object i (Listed (vs ++ u ∷ [])) Nothing)) o world) h; none = λ program u world. inr refl })
-    (two_come around row.AddItem place a b w (list_comes a of.is) (stays_comes stay) ∙ first_of_two_is_list around row.AddItem place a b w of.is)
+comprehension_appends known around place a b w n item of stay nothing =
+    append_done row.AddItem known around place a b w n item of stay nothing (comprehension_adds w) (comprehension_lowers around place a b w of.is (stays_comes stay))

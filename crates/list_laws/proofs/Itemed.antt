@@ -68,23 +68,23 @@ use Rattle.list_laws.specs.Done.{IsDone}
 use Rattle.list_laws.specs.Lists.{IsList, AllStay, ListsAreMade}
 use Rattle.list_laws.proofs.Making.{made_list, raw_array}
 
-too_few : (m n : ℕ) → nat_lt m n ≡ true → m < n
+pub too_few : (m n : ℕ) → nat_lt m n ≡ true → m < n
 too_few m n h = grind (arith, nat_tests, h)
 
-are_enough : (m n : ℕ) → nat_lt m n ≡ false → n ≤ m
+pub are_enough : (m n : ℕ) → nat_lt m n ≡ false → n ≤ m
 are_enough m n h = grind (arith, nat_tests, h)
 
 -- ---- operands
 
-xs_of : List Operand → List COperand
+unfoldable pub xs_of : List Operand → List COperand
 xs_of [] = []
 xs_of (a ∷ args) = a.x ∷ xs_of args
 
-values_of : Core → List Operand → List Value
+unfoldable pub values_of : Core → List Operand → List Value
 values_of core [] = []
 values_of core (a ∷ args) = operand core.vars a.x ∷ values_of core args
 
-values_long : (core : Core) (args : List Operand) → length (values_of core args) ≡ length args
+pub values_long : (core : Core) (args : List Operand) → length (values_of core args) ≡ length args
 unfolding values_of
 values_long core [] = refl
 values_long core (a ∷ args) = ap suc (values_long core args)
@@ -100,30 +100,30 @@ items_same known around item t typed (a ∷ args) w stay =
     ap (λ made. with_first made (items_as around t args)) (given_same around a t w (typed a stay.0))
     ∙ ap (λ (rest : List COperand × Writing). (a.x ∷ rest.0, rest.1)) (items_same known around item t typed args w stay.1)
 
-each_of : (known : Known) (around : Around) (item : Element) (g : Ghost) (core : Core) (args : List Operand) (vs : List Meant) → AllStay around known args item → Given known around g core args vs → EachHolds around.layout known g (Some item) (values_of core args) vs
+pub each_of : (known : Known) (around : Around) (item : Element) (g : Ghost) (core : Core) (args : List Operand) (vs : List Meant) → AllStay around known args item → Given known around g core args vs → EachHolds around.layout known g (Some item) (values_of core args) vs
 unfolding values_of
 each_of known around item g core [] [] stay given = Empty
 each_of known around item g core [] (v ∷ vs) stay given = absurd given
 each_of known around item g core (a ∷ args) [] stay given = absurd given
 each_of known around item g core (a ∷ args) (v ∷ vs) stay given = More (stays_held stay.0 given.0) (each_of known around item g core args vs stay.1 given.1)
 
-AllSet : List Value → Type 0
+unfoldable pub AllSet : List Value → Type 0
 AllSet [] = Unit {0}
 AllSet (x ∷ xs) = (is_unset x ≡ false) × AllSet xs
 
-all_set : (known : Known) (around : Around) (g : Ghost) (world : World) (core core2 : Core) → Represents around.layout known g world.heap world.left core.blocks core.statics → (args : List Operand) (vs : List Meant) → Given known around g core2 args vs → AllSet (values_of core2 args)
+pub all_set : (known : Known) (around : Around) (g : Ghost) (world : World) (core core2 : Core) → Represents around.layout known g world.heap world.left core.blocks core.statics → (args : List Operand) (vs : List Meant) → Given known around g core2 args vs → AllSet (values_of core2 args)
 unfolding values_of AllSet
 all_set known around g world core core2 r [] vs given = tt
 all_set known around g world core core2 r (a ∷ args) [] given = absurd given
 all_set known around g world core core2 r (a ∷ args) (v ∷ vs) given = (held_set r given.0, all_set known around g world core core2 r args vs given.1)
 
-count_is : (known : Known) (around : Around) (g : Ghost) (core : Core) (args : List Operand) (vs : List Meant) → Given known around g core args vs → length vs ≡ length args
+pub count_is : (known : Known) (around : Around) (g : Ghost) (core : Core) (args : List Operand) (vs : List Meant) → Given known around g core args vs → length vs ≡ length args
 count_is known around g core [] [] given = refl
 count_is known around g core [] (v ∷ vs) given = absurd given
 count_is known around g core (a ∷ args) [] given = absurd given
 count_is known around g core (a ∷ args) (v ∷ vs) given = ap suc (count_is known around g core args vs given.1)
 
-many : (known : Known) (around : Around) (g : Ghost) (world : World) (core : Core) (args : List Operand) (vs : List Meant) → Given known around g core args vs → length args + 1 ≤ references world.heap vs
+pub many : (known : Known) (around : Around) (g : Ghost) (world : World) (core : Core) (args : List Operand) (vs : List Meant) → Given known around g core args vs → length args + 1 ≤ references world.heap vs
 many known around g world core [] [] given = omega arith
 many known around g world core [] (v ∷ vs) given = absurd given
 many known around g world core (a ∷ args) [] given = absurd given
@@ -131,11 +131,11 @@ many known around g world core (a ∷ args) (v ∷ vs) given = (let m : length a
 
 -- ---- items are set one after another
 
-set_ops : ℕ → ℕ → ℕ → List COperand → List LlOp
+unfoldable pub set_ops : ℕ → ℕ → ℕ → List COperand → List LlOp
 set_ops array into i [] = []
 set_ops array into i (x ∷ xs) = op.SetItem array into (word_operand (pos i)) x ∷ set_ops array into (i + 1) xs
 
-items_written : (array into i : ℕ) (xs : List COperand) (body : Body) → set_items array into i xs body ≡ record { types = body.types; ops = body.ops ++ set_ops array into i xs }
+pub items_written : (array into i : ℕ) (xs : List COperand) (body : Body) → set_items array into i xs body ≡ record { types = body.types; ops = body.ops ++ set_ops array into i xs }
 unfolding set_ops
 items_written array into i [] body = ap (λ ops. record { types = body.types; ops = ops }) (sym (append-nil body.ops))
 items_written array into i (x ∷ xs) body =
@@ -143,22 +143,22 @@ items_written array into i (x ∷ xs) body =
     ∙ ap (λ ops. record { types = body.types; ops = ops }) (append_assoc body.ops (op.SetItem array into (word_operand (pos i)) x ∷ []) (set_ops array into (i + 1) xs))
 
 -- the array between what was there and the head
-abbrev with_items : List (Option Block) → ℕ → ℕ → List Value → Option Block → List (Option Block)
+abbrev pub with_items : List (Option Block) → ℕ → ℕ → List Value → Option Block → List (Option Block)
 with_items bs a size items head = bs ++ Some (record { kind = a; fields = Word (pos size) ∷ []; items = items }) ∷ head ∷ []
 
-record Filled (p : LlProgram) (args : List (List ℕ)) (ops rest : List LlOp) (e : LlExit) (frames : List Frame) (core : Core) (bs : List (Option Block)) (a size : ℕ) (items : List Value) (head : Option Block) (most : ℕ) : Type 0 where
-  end : Core
-  same : forgotten end ≡ forgotten (record core { blocks = with_items bs a size items head })
-  vars : end.vars ≡ core.vars
-  function : end.function ≡ core.function
-  block : end.block ≡ core.block
-  way : Leads p args most (At (ops ++ rest) e frames core) [] (At rest e frames end)
+pub record Filled (p : LlProgram) (args : List (List ℕ)) (ops rest : List LlOp) (e : LlExit) (frames : List Frame) (core : Core) (bs : List (Option Block)) (a size : ℕ) (items : List Value) (head : Option Block) (most : ℕ) : Type 0 where
+  pub end : Core
+  pub same : forgotten end ≡ forgotten (record core { blocks = with_items bs a size items head })
+  pub vars : end.vars ≡ core.vars
+  pub function : end.function ≡ core.function
+  pub block : end.block ≡ core.block
+  pub way : Leads p args most (At (ops ++ rest) e frames core) [] (At rest e frames end)
 
 index_at : (bs : List (Option Block)) (b h : Option Block) → slice_index_or (bs ++ b ∷ h ∷ []) (length bs) None ≡ b
 index_at [] b h = refl
 index_at (c ∷ bs) b h = index_at bs b h
 
-Same : Core → Core → List Operand → Type 0
+unfoldable pub Same : Core → Core → List Operand → Type 0
 Same core other [] = Unit {0}
 Same core other (a ∷ args) = (operand core.vars a.x ≡ operand other.vars a.x) × Same core other args
 
@@ -167,12 +167,12 @@ unfolding Same
 same_vars core core2 other [] h same = tt
 same_vars core core2 other (a ∷ args) h same = (ap (λ vars. operand vars a.x) h ∙ same.0, same_vars core core2 other args h same.1)
 
-same_of : (core other less : Core) (args : List Operand) → other.vars ≡ less.vars → Same core other args → Same core less args
+pub same_of : (core other less : Core) (args : List Operand) → other.vars ≡ less.vars → Same core other args → Same core less args
 unfolding Same
 same_of core other less [] h same = tt
 same_of core other less (a ∷ args) h same = (same.0 ∙ ap (λ vars. operand vars a.x) h, same_of core other less args h same.1)
 
-same_passed : {m : ℕ} (core other : Core) (args : List Operand) → Passed m other core → AllBelow m args → Same core other args
+pub same_passed : {m : ℕ} (core other : Core) (args : List Operand) → Passed m other core → AllBelow m args → Same core other args
 unfolding Same
 same_passed core other [] passed under = tt
 same_passed core other (a ∷ args) passed under = (operand_kept passed a.x under.0, same_passed core other args passed under.1)
@@ -184,7 +184,7 @@ module _ (p : LlProgram) (args : List (List ℕ)) (rest : List LlOp) (e : LlExit
   abbrev array_of : List Value → Block
   array_of items = record { kind = a; fields = Word (pos size) ∷ []; items = items }
 
-  fills : (given : List Operand) (core : Core) (pre : List Value) (i : ℕ) → i ≡ length pre → read core.vars into ≡ Ptr (length bs) → core.blocks ≡ with_items bs a size (pre ++ replicate (length given) Unset) head
+  pub fills : (given : List Operand) (core : Core) (pre : List Value) (i : ℕ) → i ≡ length pre → read core.vars into ≡ Ptr (length bs) → core.blocks ≡ with_items bs a size (pre ++ replicate (length given) Unset) head
       → Same core other given → AllSet (values_of other given) → Filled p args (set_ops a into i (xs_of given)) rest e frames core bs a size (pre ++ values_of other given) head (length given)
   unfolding set_ops xs_of values_of Same AllSet
   fills [] core pre i place there at same set = record { end = core; same = ap (λ bs. forgotten (record core { blocks = bs })) at; vars = refl; function = refl; block = refl; way = rests }

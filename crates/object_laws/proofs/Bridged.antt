@@ -76,13 +76,13 @@ module _ {layout : Layout} {known : Known} {g : Ghost} {heap : Heap} {left : ℕ
   held_high simple (LowAlone k e f) = Alone k e f
   held_high {seen = seen} simple (LowItems parts n xs vs e f t is all) = absurd (simple_apart (kind_seen seen) simple (ap kind_seen e))
 
-given_low : (known : Known) (around : Around) (g : Ghost) (heap : Heap) (left : ℕ) (core : Core) → Represents around.layout known g heap left core.blocks core.statics → (args : List Operand) (vs : List Meant) → AreSimple args → Given known around g core args vs → LowGiven around core args vs
+pub given_low : (known : Known) (around : Around) (g : Ghost) (heap : Heap) (left : ℕ) (core : Core) → Represents around.layout known g heap left core.blocks core.statics → (args : List Operand) (vs : List Meant) → AreSimple args → Given known around g core args vs → LowGiven around core args vs
 given_low known around g heap left core r [] [] simple given = tt
 given_low known around g heap left core r [] (v ∷ vs) simple given = absurd given
 given_low known around g heap left core r (a ∷ args) [] simple given = absurd given
 given_low known around g heap left core r (a ∷ args) (v ∷ vs) simple given = (held_low r simple.0 given.0, given_low known around g heap left core r args vs simple.1 given.1)
 
-many_given : (known : Known) (around : Around) (g : Ghost) (heap : Heap) (core : Core) (args : List Operand) (vs : List Meant) → Given known around g core args vs → length args ≤ references heap vs
+pub many_given : (known : Known) (around : Around) (g : Ghost) (heap : Heap) (core : Core) (args : List Operand) (vs : List Meant) → Given known around g core args vs → length args ≤ references heap vs
 many_given known around g heap core [] vs given = omega arith
 many_given known around g heap core (a ∷ args) [] given = absurd given
 many_given known around g heap core (a ∷ args) (v ∷ vs) given = (let rest : length args ≤ references heap vs = many_given known around g heap core args vs given.1 in omega (arith, rest))
@@ -144,12 +144,12 @@ module _ {layout : Layout} {known : Known} {g : Ghost} {heap : Heap} {left fewer
 
 -- ---- what an operation comes to
 
-record Later (layout : Layout) (known : Known) (g : Ghost) (heap : Heap) (fewer : ℕ) (blocks : List (Option Block)) (statics : List Block) : Type 0 where
-  ghost : Ghost
-  grown : Grown g ghost
-  stands : Represents layout known ghost heap fewer blocks statics
+pub record Later (layout : Layout) (known : Known) (g : Ghost) (heap : Heap) (fewer : ℕ) (blocks : List (Option Block)) (statics : List Block) : Type 0 where
+  pub ghost : Ghost
+  pub grown : Grown g ghost
+  pub stands : Represents layout known ghost heap fewer blocks statics
 
-later : {layout : Layout} {known : Known} {g : Ghost} {heap : Heap} {left fewer : ℕ} {blocks : List (Option Block)} {statics : List Block} → Represents layout known g heap left blocks statics → fewer ≤ left → (made : List Block) → length made ≤ 1 → Later layout known g heap fewer (blocks ++ map Some made) statics
+pub later : {layout : Layout} {known : Known} {g : Ghost} {heap : Heap} {left fewer : ℕ} {blocks : List (Option Block)} {statics : List Block} → Represents layout known g heap left blocks statics → fewer ≤ left → (made : List Block) → length made ≤ 1 → Later layout known g heap fewer (blocks ++ map Some made) statics
 later {layout = layout} {known = known} {g = g} {heap = heap} {fewer = fewer} {blocks = blocks} {statics = statics} r less [] few = record { ghost = g; grown = grown_none; stands = subst (λ bs. Represents layout known g heap fewer bs statics) (sym (append-nil blocks)) (paid r less) }
 later {g = g} r less (b ∷ []) few = record { ghost = with_block g b; grown = block_grown g b; stands = more r less b }
 later r less (b ∷ c ∷ made) few = absurd (omega (arith, few))
@@ -182,7 +182,7 @@ module _ (known : Known) (around : Around) (place : Place) (simple : is_simple (
         out = c.out;
       }
 
-  follows_high : (answer : Answer) → ((v : Meant) (w' : World) → answer ≡ Gives v w' → w'.left ≤ w.left) → PlainFollows around place p args s rest e frames core raised fewest below w answer → Follows 1 known around place p args s rest e frames core g raised most below w answer
+  pub follows_high : (answer : Answer) → ((v : Meant) (w' : World) → answer ≡ Gives v w' → w'.left ≤ w.left) → PlainFollows around place p args s rest e frames core raised fewest below w answer → Follows 1 known around place p args s rest e frames core g raised most below w answer
   follows_high (Gives v w') pays c = came v w' (pays v w' refl) c
   follows_high (Throws exception w') pays c = c
   follows_high (Fails name) pays c = c

@@ -60,7 +60,7 @@ simple_is_there kind.MaybeInstance h simple = absurd (cc)
 simple_is_there kind.MaybeFunction h simple = absurd (cc)
 simple_is_there _ h simple = absurd (cc)
 
-plain_is_simple : (k : Kind) → is_plain k ≡ true → is_simple k ≡ true
+pub plain_is_simple : (k : Kind) → is_plain k ≡ true → is_simple k ≡ true
 plain_is_simple kind.Nothing h = refl
 plain_is_simple _ h = h
 
@@ -398,12 +398,12 @@ module _ {layout : Layout} {known : Known} {g : Ghost} {x : Value} {v : Meant} w
 
 -- ---- what is held is set
 
-use_set : (g : Ghost) (x : Value) (u : Use) → use_of g x ≡ Some u → is_unset x ≡ false
+pub use_set : (g : Ghost) (x : Value) (u : Use) → use_of g x ≡ Some u → is_unset x ≡ false
 use_set g (Ptr b) u h = refl
 use_set g (Static s) u h = refl
 use_set g _ u h = absurd (cc)
 
-stands_set : {g : Ghost} {t : LlType} {x : Value} {v : Meant} → Stands g t x v → is_unset x ≡ false
+pub stands_set : {g : Ghost} {t : LlType} {x : Value} {v : Meant} → Stands g t x v → is_unset x ≡ false
 stands_set (word z f) = refl
 stands_set (flag b) = refl
 stands_set (byte b h) = refl

@@ -45,7 +45,7 @@ module _ (layout : Layout) where
     hash kind other = pos 0
 
     -- the parts of a tuple, one after the other
-    hash_from : ℤ → List LlType → Values → ℤ
+    pub hash_from : ℤ → List LlType → Values → ℤ
     hash_from h [] vs = mixed h
     hash_from h (t ∷ ts) none = mixed h
     hash_from h (t ∷ ts) (more v vs) = hash_from (with_item h (hash t v)) ts vs

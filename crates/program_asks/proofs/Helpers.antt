@@ -77,7 +77,7 @@ need_here k need needs caught h c n false f further g =
     let q : n ≡ k + 1 + r.0 = r.1 in
     (suc r.0, omega (arith, q), r.2, r.3, r.4, r.5)
 
-need_at : (k : ℕ) (needs : List Need) (caught : List Covers) (h : Helper) (c : Covers) (n : ℕ) → need_from k needs caught h c ≡ Some n
+pub need_at : (k : ℕ) (needs : List Need) (caught : List Covers) (h : Helper) (c : Covers) (n : ℕ) → need_from k needs caught h c ≡ Some n
     → (i : ℕ) × (n ≡ k + i) × (need : Need) × (slice_get needs i ≡ Some need) × (need.helper ≡ h) × (slice_get caught n ≡ Some c)
 need_at k [] caught h c n e = absurd (let f : None ≡ Some n = e in cc)
 need_at k (need ∷ needs) caught h c n e = need_here k need needs caught h c n (is_need need (slice_get caught k) h c) refl (λ f. need_at (k + 1) needs caught h c n f) e
@@ -106,7 +106,7 @@ pub record RaisedAt (m k : ℕ) (gs : List LlGraph) (found : Found) (n : ℕ) (g
   pub before : Grows found made
   pub behind : Grows (raising_blocks (caught_at made m) g.blocks made).1 (raising_graphs k gs found).1
 
-raised_at : (m k : ℕ) (gs : List LlGraph) (found : Found) (n : ℕ) (g : LlGraph) → m ≡ k + n → slice_get gs n ≡ Some g → RaisedAt m k gs found n g
+pub raised_at : (m k : ℕ) (gs : List LlGraph) (found : Found) (n : ℕ) (g : LlGraph) → m ≡ k + n → slice_get gs n ≡ Some g → RaisedAt m k gs found n g
 raised_at m k [] found n g h e = absurd (let f : None ≡ Some g = e in cc)
 raised_at m k (x ∷ gs) found zero g h e =
     let f : Some x ≡ Some g = e in

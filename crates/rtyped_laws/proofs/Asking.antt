@@ -30,7 +30,7 @@ all_grow [] found = same_found found
 all_grow (a ∷ asks) found = then_grows (asked_grows a found) (all_grow asks (number_of a found).1)
 
 -- where each stands that is asked for between two moments, all stand
-all_have : (first last : Found) (Good Has : Ask → Found → Type 0) → ((a : Ask) (found : Found) → Good a found → Grows first found → Grows (number_of a found).1 last → Has a found)
+pub all_have : (first last : Found) (Good Has : Ask → Found → Type 0) → ((a : Ask) (found : Found) → Good a found → Grows first found → Grows (number_of a found).1 last → Has a found)
     → (asks : List Ask) (found : Found) → AllAsked Good asks found → Grows first found → Grows (all_asked asks found) last → AllAsked Has asks found
 all_have first last Good Has each [] found good early late = tt
 all_have first last Good Has each (a ∷ asks) found good early late =

@@ -1,4 +1,5 @@
 pub mod Blocks
+pub mod Conditions
 pub mod Functions
 pub mod Graphs
 pub mod Operations

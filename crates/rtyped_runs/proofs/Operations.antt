@@ -29,10 +29,14 @@ use Rattle.object_laws.specs.Values.{Given}
 use Rattle.dict_find_laws.specs.Pairs.{first_pairs}
 use Rattle.call_laws.specs.Raised as asked
 use Rattle.call_laws.specs.Entered.{FollowsOrEnters}
+use Rattle.call_laws.specs.Calls.{HasMethod}
+use Rattle.call_laws.specs.Done.{IsEnteredWhere}
+use Rattle.call_laws.specs.Indirect.{HasMethods}
+use Rattle.class_laws.specs.Instances.{AreOfClass}
 use Rattle.run_laws.specs.Points.{Setting, IsException}
 use Rattle.block_laws.specs.Links.{setting}
 use Rattle.block_laws.specs.Operations.{DoesOrEnters, IsThere, Raises, operands_of}
-use Rattle.rtyped_runs.specs.Laws.{GivenOperationsAreWritten, AreAlways, KeyedOperationsAreWritten, ExceptionsAreLaid, CopiedOperationsAreWritten, ListedOperationsAreWritten, RaisedOperationsAreWritten, DoneOperationsAreWritten, EnteredOperationsAreWritten, IsInside, Standing, StandsSo, ThrowsObjects, args_of, before}
+use Rattle.rtyped_runs.specs.Laws.{ClassedOperationsAreWritten, MethodsAreWritten, MethodsAreWrittenByVtables, ToldOperationsAreWritten, of_classes, GivenOperationsAreWritten, AreAlways, KeyedOperationsAreWritten, ExceptionsAreLaid, CopiedOperationsAreWritten, ListedOperationsAreWritten, RaisedOperationsAreWritten, DoneOperationsAreWritten, EnteredOperationsAreWritten, IsInside, Standing, StandsSo, ThrowsObjects, args_of, before}
 use Rattle.rtyped_runs.specs.Parts.{OpIsWritten}
 
 is_there : (s : Setting) (g : Ghost) (answer : Answer) → ((r : ℕ) (w' : MeantWorld) → answer ≡ Throws r w' → IsException s g r (s.known.exception r)) → IsThere s g answer
@@ -64,20 +68,27 @@ module _ (Has : Standing) (Good : MeantWorld → List Meant → Type 0) where
     new = law.new;
     written = law.written;
     types = law.types;
-    is = λ rest e frames core g world vs memory left room given. inl (record {
+    is = λ rest e frames core g world vs memory left room given good. inl (record {
       blocks = blocks;
       most = references world.heap vs;
       follows = enters_too blocks known l.world.around (place_of l o.result) p arguments (At (law.ops ++ rest) e frames core) rest e frames core g known.exception (references world.heap vs) (length w.body.types) world (op known.program o.covered o.op vs world)
-          (law.follows p numbers known.exception arguments rest e frames core g world vs has (stands core g world.heap world.left memory) memory left room inside.result inside.operands given (always g core world vs memory given));
+          (law.follows p numbers known.exception arguments rest e frames core g world vs has (stands core g world.heap world.left memory left) memory left room inside.result inside.operands given (always g core world vs memory given good));
       there = is_there (setting l known graphs p arguments) g (op known.program o.covered o.op vs world) (λ r w' h. throws g core world w' vs r memory h);
     });
   }
 
 pub done_operations_are_written : (Has : Standing) → DoneOperationsAreWritten Has
-done_operations_are_written Has l known graphs p arguments numbers blocks o asks w has inside throws stands law = where_written Has Any l known graphs p arguments numbers blocks o asks w has inside throws (λ g core w vs memory given. tt) stands law
+done_operations_are_written Has l known graphs p arguments numbers blocks o asks w has inside throws stands law = where_written Has Any l known graphs p arguments numbers blocks o asks w has inside throws (λ g core w vs memory given good. tt) stands law
 
 pub keyed_operations_are_written : (Has : Standing) (Good : Mapping → MeantWorld → List Meant → Type 0) → KeyedOperationsAreWritten Has Good
 keyed_operations_are_written Has Good m l known graphs p arguments numbers blocks o asks w has inside throws always stands law = where_written Has (Good m) l known graphs p arguments numbers blocks o asks w has inside throws always stands law
+
+pub told_operations_are_written : (Has : Standing) (Good : MeantWorld → List Meant → Type 0) → ToldOperationsAreWritten Has Good
+told_operations_are_written Has Good l known graphs p arguments numbers blocks o asks w has inside throws always stands law = where_written Has Good l known graphs p arguments numbers blocks o asks w has inside throws always stands law
+
+pub classed_operations_are_written : ClassedOperationsAreWritten
+classed_operations_are_written d l known graphs p arguments numbers blocks o asks w has inside throws always stands law =
+    where_written of_classes (AreOfClass known d) l known graphs p arguments numbers blocks o asks w has inside throws always stands law
 
 pub copied_operations_are_written : CopiedOperationsAreWritten
 unfolding op_of
@@ -86,11 +97,11 @@ copied_operations_are_written l known graphs p arguments numbers most o asks w h
   new = law.new;
   written = ap (λ (made : Writing). made.body.ops) is ∙ law.written;
   types = ap (λ (made : Writing). made.body.types) is ∙ law.types;
-  is = λ rest e frames core g world vs memory left room given. inl (record {
+  is = λ rest e frames core g world vs memory left room given good. inl (record {
     blocks = 2;
     most = most world vs;
     follows = enters_too (2) known l.world.around (place_of l o.result) p arguments (At (law.ops ++ rest) e frames core) rest e frames core g known.exception (most world vs) (length w.body.types) world (op known.program o.covered o.op vs world)
-        (law.follows p numbers known.exception arguments rest e frames core g world vs has (stands core g world.heap world.left memory) memory left room inside.result inside.operands given);
+        (law.follows p numbers known.exception arguments rest e frames core g world vs has (stands core g world.heap world.left memory left) memory left room inside.result inside.operands given);
     there = is_there (setting l known graphs p arguments) g (op known.program o.covered o.op vs world) (λ r w' h. throws g core world w' vs r memory h);
   });
 }
@@ -102,29 +113,48 @@ listed_operations_are_written l known graphs p arguments numbers o asks w has in
   new = law.new;
   written = ap (λ (made : Writing). made.body.ops) is ∙ law.written;
   types = ap (λ (made : Writing). made.body.types) is ∙ law.types;
-  is = λ rest e frames core g world vs memory left room given. inl (record {
+  is = λ rest e frames core g world vs memory left room given good. inl (record {
     blocks = 2 + first_pairs world.heap vs;
     most = references world.heap vs;
     follows = enters_too (2 + first_pairs world.heap vs) known l.world.around (place_of l o.result) p arguments (At (law.ops ++ rest) e frames core) rest e frames core g known.exception (references world.heap vs) (length w.body.types) world (op known.program o.covered o.op vs world)
-        (law.follows p numbers known.exception arguments rest e frames core g world vs has (stands core g world.heap world.left memory) memory left room inside.result inside.operands given);
+        (law.follows p numbers known.exception arguments rest e frames core g world vs has (stands core g world.heap world.left memory left) memory left room inside.result inside.operands given);
     there = is_there (setting l known graphs p arguments) g (op known.program o.covered o.op vs world) (λ r w' h. throws g core world w' vs r memory h);
   });
 }
 
+-- by a law of calls that speaks of some worlds and values
+module _ (Good : LlProgram → MeantWorld → List Meant → Type 0) where
+  entered_where : (l : Lowered) (known : Seen) (graphs : Graphs) (p : LlProgram) (arguments : List (List ℕ)) (numbers : Numbers) (blocks : ℕ) (o : Op) (asks : List Ask) (w : Writing)
+      → HasLayout p l.world.around.layout → IsInside l o w → ThrowsObjects (setting l known graphs p arguments) o → AreAlways (setting l known graphs p arguments) l o (Good p)
+      → StandsSo (setting l known graphs p arguments) (of_classes l.world p numbers known.exception) asks (before o w).found
+      → lowered l.world o.op (place_of l o.result) (args_of l o) (before o w) ≡ lower_class_op l.world o.op (place_of l o.result) (args_of l o) (before o w)
+      → IsEnteredWhere Good blocks l.world known o.op o.covered asks (place_of l o.result) (args_of l o) (before o w)
+      → OpIsWritten (setting l known graphs p arguments) l o w
+  unfolding op_of
+  entered_where l known graphs p arguments numbers blocks o asks w has inside throws always stands is law = record {
+    ops = law.ops;
+    new = law.new;
+    written = ap (λ (made : Writing). made.body.ops) is ∙ law.written;
+    types = ap (λ (made : Writing). made.body.types) is ∙ law.types;
+    is = λ rest e frames core g world vs memory left room given good. inl (record {
+      blocks = blocks;
+      most = references world.heap vs;
+      follows = law.follows p numbers known.exception arguments rest e frames core g world vs has (stands core g world.heap world.left memory left) memory left room inside.result inside.operands given (always g core world vs memory given good);
+      there = is_there (setting l known graphs p arguments) g (op known.program o.covered o.op vs world) (λ r w' h. throws g core world w' vs r memory h);
+    });
+  }
+
 pub entered_operations_are_written : EnteredOperationsAreWritten
-unfolding op_of
-entered_operations_are_written l known graphs p arguments numbers blocks o asks w has inside throws stands is law = record {
-  ops = law.ops;
-  new = law.new;
-  written = ap (λ (made : Writing). made.body.ops) is ∙ law.written;
-  types = ap (λ (made : Writing). made.body.types) is ∙ law.types;
-  is = λ rest e frames core g world vs memory left room given. inl (record {
-    blocks = blocks;
-    most = references world.heap vs;
-    follows = law.follows p numbers known.exception arguments rest e frames core g world vs has (stands core g world.heap world.left memory) memory left room inside.result inside.operands given tt;
-    there = is_there (setting l known graphs p arguments) g (op known.program o.covered o.op vs world) (λ r w' h. throws g core world w' vs r memory h);
-  });
-}
+entered_operations_are_written l known graphs p arguments numbers blocks o asks w has inside throws stands is law =
+    entered_where (λ p. Any) l known graphs p arguments numbers blocks o asks w has inside throws (λ g core w vs memory given good. tt) stands is law
+
+pub methods_are_written : MethodsAreWritten
+methods_are_written name f l known graphs p arguments numbers blocks o asks w has inside throws always stands is law =
+    entered_where (λ p. HasMethod known name f) l known graphs p arguments numbers blocks o asks w has inside throws always stands is law
+
+pub methods_are_written_by_vtables : MethodsAreWrittenByVtables
+methods_are_written_by_vtables name like slot a args place l known graphs p arguments numbers blocks o asks w has inside throws always stands is law =
+    entered_where (HasMethods l.world known name like slot a args place) l known graphs p arguments numbers blocks o asks w has inside throws always stands is law
 
 -- builtin exceptions are objects
 builtin : (s : Setting) (g : Ghost) (core : Core) (w : MeantWorld) → ExceptionsAreLaid s → Represents s.around.layout s.known g w.heap w.left core.blocks core.statics → (r : ℕ) → r < builtin_classes → IsException s g r (s.known.exception r)
@@ -151,10 +181,10 @@ raised_operations_are_written l known graphs p arguments numbers o a asks w has 
       new = law.new;
       written = ap (λ (made : Writing). made.body.ops) made ∙ law.written;
       types = ap (λ (made : Writing). made.body.types) made ∙ law.types;
-      is = λ rest e frames core g world vs memory left room given. inr (
+      is = λ rest e frames core g world vs memory left room given good. inr (
           subst (λ (x : RowOp). Raises s (length w.body.types) (At (law.ops ++ rest) e frames core) rest e frames core g world (op known.program o.covered x vs world)) (sym is_raise)
           (raises_too s (At (law.ops ++ rest) e frames core) rest e frames core g (length w.body.types) world (builtin s g core world laid memory) (op known.program o.covered row.Raise vs world)
-          (law.follows p numbers known.exception arguments rest e frames core g world vs has (stands core g world.heap world.left memory) memory room (inside, tt)
+          (law.follows p numbers known.exception arguments rest e frames core g world vs has (stands core g world.heap world.left memory left) memory room (inside, tt)
           (subst (λ args. Given s.known s.around g core (operands_of s l.number args) vs) one given))));
     }
 
@@ -168,7 +198,7 @@ given_operations_are_written l known graphs p arguments o w has none inside thro
       new = [];
       written = ap (λ (made : Writing). made.body.ops) made ∙ law.written;
       types = ap (λ (made : Writing). made.body.types) made ∙ law.types ∙ sym (append-nil w.body.types);
-      is = λ rest e frames core g world vs memory left room given. inl (by rest e frames core g world vs memory left (omega (arith, room, inside)) (subst (λ args. Given known l.world.around g core (operands_of (setting l known graphs p arguments) l.number args) vs) none given));
+      is = λ rest e frames core g world vs memory left room given good. inl (by rest e frames core g world vs memory left (omega (arith, room, inside)) (subst (λ args. Given known l.world.around g core (operands_of (setting l known graphs p arguments) l.number args) vs) none given));
     }
   where
     by : (rest : List LlOp) (e : LlExit) (frames : List Frame) (core : Core) (g : Ghost) (world : MeantWorld) (vs : List Meant) → Represents l.world.around.layout known g world.heap world.left core.blocks core.statics → world.left ≡ core.steps → o.result < length core.vars → Given known l.world.around g core [] vs

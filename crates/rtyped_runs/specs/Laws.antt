@@ -14,7 +14,7 @@ use Rattle.rtyper_layout.specs.declared.classes.Laid.{Laid}
 use Rattle.rtyper_layout.specs.declared.dicts.Mapping.{Mapping}
 use Rattle.rtyper_layout.specs.Types.{laid_in}
 use Rattle.rtyper_data.specs.declared.found.Found.{Found}
-use Rattle.rtyper_data.specs.Seen.{Operand, Writing}
+use Rattle.rtyper_data.specs.Seen.{Operand, Place, Writing}
 use Rattle.rtyper_op.specs.Lowering.{lower_op}
 use Rattle.rtyper_list.specs.Lowering.{lower_list_op}
 use Rattle.rtyper_dict.specs.Lowering.{lower_dict_op}
@@ -39,9 +39,13 @@ use Rattle.dict_find_laws.specs.Pairs.{IsListedInPairs}
 use Rattle.dict_change_laws.specs.Asked as changes
 use Rattle.list_copy_laws.specs.Done.{IsDoneWithin}
 use Rattle.class_laws.specs.Asked as classes
-use Rattle.call_laws.specs.Done.{IsEntered}
+use Rattle.class_laws.specs.Instances.{AreOfClass}
+use Rattle.call_laws.specs.Calls.{HasMethod}
+use Rattle.call_laws.specs.Done.{IsEntered, IsEnteredWhere}
+use Rattle.call_laws.specs.Indirect.{HasMethods}
 use Rattle.call_laws.specs.Raised.{IsRaised}
-use Rattle.run_laws.specs.Points.{Setting, IsException}
+use Rattle.flow_runs.specs.Good.{IsGood}
+use Rattle.run_laws.specs.Points.{Setting, IsException, is_keyed}
 use Rattle.block_laws.specs.Links.{setting}
 use Rattle.rtyped_runs.specs.Parts.{OpIsWritten}
 
@@ -60,9 +64,9 @@ pub record IsInside (l : Lowered) (o : Op) (w : Writing) : Type 0 where
 abbrev pub ThrowsObjects : Setting → Op → Type 0
 ThrowsObjects s o = (g : Ghost) (core : Core) (w w' : MeantWorld) (vs : List Meant) (r : ℕ) → Represents s.around.layout s.known g w.heap w.left core.blocks core.statics → op s.known.program o.covered o.op vs w ≡ Throws r w' → IsException s g r (s.known.exception r)
 
--- what is asked for stands, over all memory that represents a heap
+-- what is asked for stands, over all memory that represents a heap, with as many steps left
 abbrev pub StandsSo : Setting → (Core → Ask → Found → Type 0) → List Ask → Found → Type 0
-StandsSo s Has asks found = (core : Core) (g : Ghost) (heap : Heap) (left : ℕ) → Represents s.around.layout s.known g heap left core.blocks core.statics → AllAsked (Has core) asks found
+StandsSo s Has asks found = (core : Core) (g : Ghost) (heap : Heap) (left : ℕ) → Represents s.around.layout s.known g heap left core.blocks core.statics → left ≡ core.steps → AllAsked (Has core) asks found
 
 -- what says that what is asked for stands, in a world
 abbrev pub Standing : Type 1
@@ -89,9 +93,9 @@ of_lookups world p numbers raised core ask found = lookups.Has p world.around.la
 abbrev pub of_changes : Standing
 of_changes world p numbers raised core ask found = changes.Has p world.around.layout numbers raised core ask found
 
--- the world and the values of the operands are so, whenever memory represents the heap
+-- the world and the values of the operands are so, whenever memory represents the heap, and the operation is as its law asks
 abbrev pub AreAlways : Setting → Lowered → Op → (MeantWorld → List Meant → Type 0) → Type 0
-AreAlways s l o Good = (g : Ghost) (core : Core) (w : MeantWorld) (vs : List Meant) → Represents s.around.layout s.known g w.heap w.left core.blocks core.statics → Given s.known s.around g core (args_of l o) vs → Good w vs
+AreAlways s l o Good = (g : Ghost) (core : Core) (w : MeantWorld) (vs : List Meant) → Represents s.around.layout s.known g w.heap w.left core.blocks core.statics → Given s.known s.around g core (args_of l o) vs → IsGood s.known.program s.made (is_keyed s l.number o) o.op w vs → Good w vs
 
 -- Where a law says of an operation, as it is lowered, that it is done, its operation in a block does what it does.
 abbrev pub DoneOperationsAreWritten : Standing → Type 0
@@ -107,6 +111,22 @@ KeyedOperationsAreWritten Has Good = (m : Mapping) (l : Lowered) (known : Seen) 
     → HasLayout p l.world.around.layout → IsInside l o w → ThrowsObjects (setting l known graphs p arguments) o → AreAlways (setting l known graphs p arguments) l o (Good m)
     → StandsSo (setting l known graphs p arguments) (Has l.world p numbers known.exception) asks (before o w).found
     → IsDoneWhere (Good m) (Has l.world) blocks known l.world.around o.op o.covered asks (lowered l.world o.op (place_of l o.result) (args_of l o) (before o w)) (place_of l o.result) (args_of l o) (before o w)
+    → OpIsWritten (setting l known graphs p arguments) l o w
+
+-- The same where the law speaks of such worlds and values for a narrowing.
+abbrev pub ToldOperationsAreWritten : Standing → (MeantWorld → List Meant → Type 0) → Type 0
+ToldOperationsAreWritten Has Good = (l : Lowered) (known : Seen) (graphs : Graphs) (p : LlProgram) (arguments : List (List ℕ)) (numbers : Numbers) (blocks : ℕ) (o : Op) (asks : List Ask) (w : Writing)
+    → HasLayout p l.world.around.layout → IsInside l o w → ThrowsObjects (setting l known graphs p arguments) o → AreAlways (setting l known graphs p arguments) l o Good
+    → StandsSo (setting l known graphs p arguments) (Has l.world p numbers known.exception) asks (before o w).found
+    → IsDoneWhere Good (Has l.world) blocks known l.world.around o.op o.covered asks (lowered l.world o.op (place_of l o.result) (args_of l o) (before o w)) (place_of l o.result) (args_of l o) (before o w)
+    → OpIsWritten (setting l known graphs p arguments) l o w
+
+-- And for one to a class, of which the instance is.
+abbrev pub ClassedOperationsAreWritten : Type 0
+ClassedOperationsAreWritten = (d : ℕ) (l : Lowered) (known : Seen) (graphs : Graphs) (p : LlProgram) (arguments : List (List ℕ)) (numbers : Numbers) (blocks : ℕ) (o : Op) (asks : List Ask) (w : Writing)
+    → HasLayout p l.world.around.layout → IsInside l o w → ThrowsObjects (setting l known graphs p arguments) o → AreAlways (setting l known graphs p arguments) l o (AreOfClass known d)
+    → StandsSo (setting l known graphs p arguments) (of_classes l.world p numbers known.exception) asks (before o w).found
+    → IsDoneWhere (AreOfClass known d) (of_classes l.world) blocks known l.world.around o.op o.covered asks (lowered l.world o.op (place_of l o.result) (args_of l o) (before o w)) (place_of l o.result) (args_of l o) (before o w)
     → OpIsWritten (setting l known graphs p arguments) l o w
 
 -- The same of an operation that copies items of lists.
@@ -143,6 +163,24 @@ EnteredOperationsAreWritten = (l : Lowered) (known : Seen) (graphs : Graphs) (p 
     → StandsSo (setting l known graphs p arguments) (classes.Has l.world p numbers known.exception) asks (before o w).found
     → lowered l.world o.op (place_of l o.result) (args_of l o) (before o w) ≡ lower_class_op l.world o.op (place_of l o.result) (args_of l o) (before o w)
     → IsEntered blocks l.world known o.op o.covered asks (place_of l o.result) (args_of l o) (before o w)
+    → OpIsWritten (setting l known graphs p arguments) l o w
+
+-- The same of a method of which but one function can be meant.
+abbrev pub MethodsAreWritten : Type 0
+MethodsAreWritten = (name : List ℕ) (f : ℕ) (l : Lowered) (known : Seen) (graphs : Graphs) (p : LlProgram) (arguments : List (List ℕ)) (numbers : Numbers) (blocks : ℕ) (o : Op) (asks : List Ask) (w : Writing)
+    → HasLayout p l.world.around.layout → IsInside l o w → ThrowsObjects (setting l known graphs p arguments) o → AreAlways (setting l known graphs p arguments) l o (HasMethod known name f)
+    → StandsSo (setting l known graphs p arguments) (classes.Has l.world p numbers known.exception) asks (before o w).found
+    → lowered l.world o.op (place_of l o.result) (args_of l o) (before o w) ≡ lower_class_op l.world o.op (place_of l o.result) (args_of l o) (before o w)
+    → IsEnteredWhere (λ p. HasMethod known name f) blocks l.world known o.op o.covered asks (place_of l o.result) (args_of l o) (before o w)
+    → OpIsWritten (setting l known graphs p arguments) l o w
+
+-- And of one that is looked up in the vtable of the instance.
+abbrev pub MethodsAreWrittenByVtables : Type 0
+MethodsAreWrittenByVtables = (name : List ℕ) (like slot : ℕ) (a : Operand) (args : List Operand) (place : Place) (l : Lowered) (known : Seen) (graphs : Graphs) (p : LlProgram) (arguments : List (List ℕ)) (numbers : Numbers) (blocks : ℕ) (o : Op) (asks : List Ask) (w : Writing)
+    → HasLayout p l.world.around.layout → IsInside l o w → ThrowsObjects (setting l known graphs p arguments) o → AreAlways (setting l known graphs p arguments) l o (HasMethods l.world known name like slot a args place p)
+    → StandsSo (setting l known graphs p arguments) (classes.Has l.world p numbers known.exception) asks (before o w).found
+    → lowered l.world o.op (place_of l o.result) (args_of l o) (before o w) ≡ lower_class_op l.world o.op (place_of l o.result) (args_of l o) (before o w)
+    → IsEnteredWhere (HasMethods l.world known name like slot a args place) blocks l.world known o.op o.covered asks (place_of l o.result) (args_of l o) (before o w)
     → OpIsWritten (setting l known graphs p arguments) l o w
 
 -- the builtin exception classes have structs, and are exceptions

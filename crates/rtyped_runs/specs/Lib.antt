@@ -1,3 +1,4 @@
+pub mod Conditions
 pub mod Laws
 pub mod Parts
 pub mod Premises

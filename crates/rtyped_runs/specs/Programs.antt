@@ -1,5 +1,5 @@
 -- Programs that are made of flow graphs do what the graphs do, where their parts are done.
-use Rattle.std.specs.Prelude.{◌≡◌, ◌<◌, ◌^◌, ℕ, true, List, length, slice_get, Some}
+use Rattle.std.specs.Prelude.{◌≡◌, ◌<◌, ◌^◌, ℕ, true, false, List, length, slice_get, Some, unwrap_or}
 use Rattle.class_desc.specs.Tables.{Tables}
 use Rattle.flow_graph.specs.declared.graph.Graph.{Graph}
 use Rattle.flow_graph.specs.declared.graph.Graphs.{Graphs}
@@ -18,7 +18,8 @@ use Rattle.object_laws.specs.Known.{Known as Seen}
 use Rattle.rpy_meaning.specs.Meaning.{Run}
 use Rattle.program_asks.specs.Standing.{first_in, last_in, numbers_in, world_in}
 use Rattle.rtyped_laws.specs.Programs.{layout_for}
-use Rattle.run_laws.specs.Points.{Setting}
+use Rattle.flow_runs.specs.Runs.{AreGood}
+use Rattle.run_laws.specs.Points.{Setting, is_keyed}
 use Rattle.run_laws.specs.States.{IsLowered, Stands}
 use Rattle.run_laws.specs.Runs.{EndsIf}
 use Rattle.block_laws.specs.Links.{types_in, graph_in}
@@ -36,6 +37,7 @@ setting_of known world seen graphs p arguments = record {
   element = element_at known.annotation;
   reached = is_block_reached known.annotation;
   size = λ f. length (types_in (graph_in p (seen.graph f)));
+  made = λ c. unwrap_or (slice_get world.made c) false;
 }
 
 -- A function has the number of its graph exactly where it is reached.
@@ -58,11 +60,13 @@ ProgramsAreLowered = (known : Known) (classes : Tables) (p : LlProgram) (r : IsL
     → IsDone known (world_in known classes (layout_for known classes) p r) seen (numbers_in known classes (layout_for known classes) p r) (first_in known classes (layout_for known classes) p r) (last_in known classes (layout_for known classes) p r) graphs p arguments
     → IsLowered (setting_of known (world_in known classes (layout_for known classes) p r) seen graphs p arguments)
 
--- Where the flow graphs end from a state on, such a program ends so from where it stands.
+-- Where the flow graphs end from a state on, such a program ends so from where it stands, if each operation that they come to is as the laws of
+-- operations ask.
 abbrev pub ProgramsRunOn : Type 0
 ProgramsRunOn = (known : Known) (classes : Tables) (p : LlProgram) (r : IsLaid known classes p) (seen : Seen) (graphs : Graphs) (arguments : List (List ℕ))
     → length p.graphs < 2 ^ 64 → length (layout_for known classes).structs < 2 ^ 64
     → IsDone known (world_in known classes (layout_for known classes) p r) seen (numbers_in known classes (layout_for known classes) p r) (first_in known classes (layout_for known classes) p r) (last_in known classes (layout_for known classes) p r) graphs p arguments
     → (g : Ghost) (state : State) (from : low.State) → Stands (setting_of known (world_in known classes (layout_for known classes) p r) seen graphs p arguments) g state from
+    → AreGood seen.program graphs (setting_of known (world_in known classes (layout_for known classes) p r) seen graphs p arguments).made (is_keyed (setting_of known (world_in known classes (layout_for known classes) p r) seen graphs p arguments)) state
     → (k : ℕ) (end : Run) → run seen.program graphs k state ≡ Ended end
     → EndsIf (setting_of known (world_in known classes (layout_for known classes) p r) seen graphs p arguments) end.outcome (world_of state) end.world from

@@ -1,7 +1,10 @@
 // Laws of the runs of programs that are made of flow graphs.
+ghost use Rattle.class_laws.specs.Instances as classes;
+ghost use Rattle.list_laws.specs.Presence as lists;
 ghost use Rattle.dict_change_laws.specs.Changed.{CanStore, KeysAreThere};
 ghost use Rattle.dict_find_laws.specs.Lookups.{FirstIsThere, SecondIsThere};
-ghost use Rattle.rtyped_runs.specs.Laws.{CopiedOperationsAreWritten, DoneOperationsAreWritten, EnteredOperationsAreWritten, GivenOperationsAreWritten, KeyedOperationsAreWritten, ListedOperationsAreWritten, RaisedOperationsAreWritten, of_changes, of_classes, of_conversions, of_dicts, of_lists, of_lookups, of_values};
+ghost use Rattle.rtyped_runs.specs.Conditions.{ConditionsHold};
+ghost use Rattle.rtyped_runs.specs.Laws.{ClassedOperationsAreWritten, CopiedOperationsAreWritten, DoneOperationsAreWritten, EnteredOperationsAreWritten, GivenOperationsAreWritten, KeyedOperationsAreWritten, ListedOperationsAreWritten, MethodsAreWritten, MethodsAreWrittenByVtables, RaisedOperationsAreWritten, ToldOperationsAreWritten, of_changes, of_classes, of_conversions, of_dicts, of_lists, of_lookups, of_values};
 ghost use Rattle.rtyped_runs.specs.Premises.{GraphsAreKnown, VariablesHaveTypes};
 ghost use Rattle.rtyped_runs.specs.Programs.{ProgramsAreLowered, ProgramsRunOn};
 
@@ -35,6 +38,13 @@ pub fn operations_are_written()
     ensures given { GivenOperationsAreWritten }
     ensures entered { EnteredOperationsAreWritten }
     ensures raised { RaisedOperationsAreWritten }
+    ensures lists_there { ToldOperationsAreWritten of_lists lists.IsThere }
+    ensures lists_missing { ToldOperationsAreWritten of_lists lists.IsMissing }
+    ensures instances_there { ToldOperationsAreWritten of_classes classes.IsThere }
+    ensures instances_missing { ToldOperationsAreWritten of_classes classes.IsNothing }
+    ensures classed { ClassedOperationsAreWritten }
+    ensures methods { MethodsAreWritten }
+    ensures by_vtables { MethodsAreWrittenByVtables }
 {}
 
 /// What is held by a variable has a type, where what is known of the variables of its graph has its structs.
@@ -45,4 +55,9 @@ pub fn variables_have_types()
 /// A function has the number of its graph exactly where it is reached, as what is known of a program says.
 pub fn graphs_are_known()
     ensures { GraphsAreKnown }
+{}
+
+/// What the laws of keys, entries and narrowings ask of worlds and operands holds of each operation that is as they ask.
+pub fn conditions_hold()
+    ensures { ConditionsHold }
 {}

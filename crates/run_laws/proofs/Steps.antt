@@ -28,6 +28,8 @@ use Rattle.flow_graph.specs.declared.graph.Link.{Link}
 use Rattle.flow_graph.specs.declared.graph.Op.{Op}
 use Rattle.flow_meaning.specs.Machine as flow
 use Rattle.flow_meaning.specs.Machine.{Frame, State, Calling, At, Returning, Throwing, Next, Goes as Onto, Ends as Ended, Stops, Strays, Bound, bind, look, block_in, begins, chooses, truth_of, raises, returns, answered, operates, values_of, entered, given, begun, taken, waiting, world_of, step, passed}
+use Rattle.flow_runs.specs.Good.{IsGood}
+use Rattle.flow_runs.specs.Runs.{AreGood, Here}
 use Rattle.object_laws.specs.Ghost.{Ghost, Grown}
 use Rattle.object_laws.specs.Represents.{Represents}
 use Rattle.object_laws.specs.Values.{Holds}
@@ -37,7 +39,7 @@ use Rattle.object_laws.specs.Known.{Known}
 use Rattle.rpy_tree.specs.Value.{Heap}
 use Rattle.rtyper_layout.specs.declared.layout.Layout.{Layout}
 use Rattle.run_laws.specs.Points.{Stand}
-use Rattle.run_laws.specs.Points.{Setting, names_of, IsAt, Way, IsException}
+use Rattle.run_laws.specs.Points.{Setting, is_keyed, names_of, IsAt, Way, IsException}
 use Rattle.run_laws.specs.Does.{Does, Over, Passed, Entered, Thrown, Handled, Left, Again, Begins, Leaves, Came, Follows, Jumps, Exits}
 use Rattle.run_laws.specs.States.{IsLowered, BeginsAs, OverIf, Wait, Entry, Call, Stands, Calls, Goes, Gives, Throws, Raises}
 use Rattle.run_laws.specs.Runs.{Ends, EndsIf}
@@ -190,10 +192,10 @@ module _ (s : Setting) where
       follows o ops e from (Enters callee args other w') it = calls_on waits it
       follows o ops e from Bad it = tt
 
-      operated : (o : Op) (ops : List Op) (e : Exit) (written : List LlOp) (ends : LlExit) (core : Core) → IsAt s g f names env w core → Does s f names (o ∷ ops) e written ends → (vs : Option (List Meant)) → values_of env o.args ≡ vs
+      operated : (o : Op) (ops : List Op) (e : Exit) (written : List LlOp) (ends : LlExit) (core : Core) → IsAt s g f names env w core → Does s f names (o ∷ ops) e written ends → ((vs : List Meant) → values_of env o.args ≡ Some vs → IsGood s.known.program s.made (is_keyed s f o) o.op w vs) → (vs : Option (List Meant)) → values_of env o.args ≡ vs
           → Followed w (low.At written ends frames core) (operates s.known.program s.graphs f o ops e env instead calls w vs)
-      operated o ops e written ends core at does None is = tt
-      operated o ops e written ends core at does (Some vs) is = follows o ops e (low.At written ends frames core) (op s.known.program o.covered o.op vs w) (does frames core g env w vs at is)
+      operated o ops e written ends core at does good None is = tt
+      operated o ops e written ends core at does good (Some vs) is = follows o ops e (low.At written ends frames core) (op s.known.program o.covered o.op vs w) (does frames core g env w vs at is (good vs is))
 
       -- ---- exits
 
@@ -328,14 +330,14 @@ module _ (s : Setting) where
 
     -- ---- each step
 
-    pub steps_are_followed : (g : Ghost) (state : State) (from : low.State) → Stands s g state from → Followed (world_of state) from (step s.known.program s.graphs state)
-    steps_are_followed g state from (Calls f number params args instead calls w xs frames core is takes pass memory left waits) =
+    pub steps_are_followed : (g : Ghost) (state : State) (from : low.State) → Stands s g state from → AreGood s.known.program s.graphs s.made (is_keyed s) state → Followed (world_of state) from (step s.known.program s.graphs state)
+    steps_are_followed g state from (Calls f number params args instead calls w xs frames core is takes pass memory left waits) good =
         entering f number params args g xs frames core w calls instead is takes pass memory left waits (slice_get s.known.program.functions f) refl
-    steps_are_followed g state from (Goes f names [] e env instead calls w written ends frames core does at waits) = leaves f names env w g frames calls instead waits (low.At written ends frames core) e (does frames core g env w at)
-    steps_are_followed g state from (Goes f names (o ∷ ops) e env instead calls w written ends frames core does at waits) = operated f names env w g frames calls instead waits o ops e written ends core at does (values_of env o.args) refl
-    steps_are_followed g state from (Gives f v instead calls w x frames core holds memory left waits) = gives_to g f v instead calls w x frames core holds memory left waits
-    steps_are_followed g state from (Throws f r instead calls w x frames core is memory left waits) = throws_to g f r instead calls w x frames core is memory left waits
-    steps_are_followed g state from (Raises f v r env instead calls w x frames core has is memory left waits) =
+    steps_are_followed g state from (Goes f names [] e env instead calls w written ends frames core does at waits) good = leaves f names env w g frames calls instead waits (low.At written ends frames core) e (does frames core g env w at)
+    steps_are_followed g state from (Goes f names (o ∷ ops) e env instead calls w written ends frames core does at waits) good = operated f names env w g frames calls instead waits o ops e written ends core at does (λ vs. good f o ops e env instead calls w vs Here) (values_of env o.args) refl
+    steps_are_followed g state from (Gives f v instead calls w x frames core holds memory left waits) good = gives_to g f v instead calls w x frames core holds memory left waits
+    steps_are_followed g state from (Throws f r instead calls w x frames core is memory left waits) good = throws_to g f r instead calls w x frames core is memory left waits
+    steps_are_followed g state from (Raises f v r env instead calls w x frames core has is memory left waits) good =
         subst (λ o. Followed w (low.Throwing x frames core) (raises calls w o)) (sym has) (record {
           ghost = g;
           text = [];

@@ -1,5 +1,5 @@
 -- What is known of flow graphs and of the low-level program that is made of them, and how the variables of the one stand in the other.
-use Rattle.std.specs.Prelude.{◌≡◌, ◌≢◌, ℕ, Bool, true, List, length, map, slice_get, Option, Some, None}
+use Rattle.std.specs.Prelude.{◌≡◌, ◌≢◌, ℕ, Bool, true, false, List, [], ◌∷◌, length, map, slice_get, Option, Some, None}
 use Rattle.ann_element.specs.declared.element.Element.{Element}
 use Rattle.csub_tree.specs.State.{Value, Core}
 use Rattle.csub_tree.specs.Statement.{read}
@@ -14,17 +14,22 @@ use Rattle.rpy_meaning.specs.Classes.{is_below}
 use Rattle.rpy_meaning.specs.World.{World}
 use Rattle.flow_graph.specs.declared.graph.Block.{Block}
 use Rattle.flow_graph.specs.declared.graph.Graphs.{Graphs}
+use Rattle.flow_graph.specs.declared.graph.Op.{Op}
+use Rattle.rpy_meaning.specs.declared.row.RowOp.{RowOp}
+use Rattle.rpy_meaning.specs.declared.row.RowOp.TheVariants as row
+use Rattle.rtyper_layout.specs.Kinds.{kind_seen}
 use Rattle.flow_meaning.specs.Machine.{Bound, look, block_in}
 use Rattle.rtyper_data.specs.Seen.{Around}
 use Rattle.rtyper_layout.specs.Types.{type_seen}
 use Rattle.object_laws.specs.Ghost.{Ghost, InstanceOf}
 use Rattle.object_laws.specs.Known.{Known}
 use Rattle.object_laws.specs.Represents.{Represents}
-use Rattle.object_laws.specs.Values.{Holds}
+use Rattle.object_laws.specs.Values.{Holds, of_dict}
 use Rattle.conversion_laws.specs.Converted.{Blank}
 
 -- The flow graphs of a program; the low-level program, and the arguments with which it runs; what is known around it, and of its objects; and
--- of each graph what is known of its variables, which of its blocks are reached, and how many variables the low-level graph has.
+-- of each graph what is known of its variables, which of its blocks are reached, and how many variables the low-level graph has; and which
+-- classes are made.
 pub record Setting : Type 0 where
   pub graphs : Graphs
   pub low : LlProgram
@@ -34,12 +39,31 @@ pub record Setting : Type 0 where
   pub element : ℕ → ℕ → Option Element
   pub reached : ℕ → ℕ → Bool
   pub size : ℕ → ℕ
+  pub made : ℕ → Bool
 
 -- ---- variables
 
 -- the variables of the block that runs
 abbrev pub names_of : List Bound → List ℕ
 names_of env = map (λ (b : Bound). b.variable) env
+
+-- ---- operations on dicts
+
+-- the operand in the place of a list or dict
+abbrev pub container_of : RowOp → List ℕ → Option ℕ
+container_of (row.Compare o) (key ∷ v ∷ vs) = Some v
+container_of (row.Compare o) vs = None
+container_of other [] = None
+container_of other (v ∷ vs) = Some v
+
+module _ (s : Setting) where
+  abbrev pub is_dict_at : ℕ → Option ℕ → Bool
+  is_dict_at f None = false
+  is_dict_at f (Some v) = of_dict (kind_seen (s.element f v))
+
+  -- it is known to be a dict, or `None`
+  abbrev pub is_keyed : ℕ → Op → Bool
+  is_keyed f o = is_dict_at f (container_of o.op o.args)
 
 module _ (s : Setting) where
   -- a variable that is bound has what stands for its value, by what is known of it, and one that is not bound has what stands for nothing

@@ -1,7 +1,9 @@
+use Rattle.class_laws.specs.Instances as classes
+use Rattle.list_laws.specs.Presence as lists
 use Rattle.dict_change_laws.specs.Changed.{CanStore, KeysAreThere}
 use Rattle.dict_find_laws.specs.Lookups.{FirstIsThere, SecondIsThere}
 use Rattle.rtyped_runs.specs.Laws.{of_changes, of_classes, of_conversions, of_dicts, of_lists, of_lookups, of_values}
-use Rattle.rtyped_runs.proofs.Operations.{given_operations_are_written, keyed_operations_are_written, copied_operations_are_written, listed_operations_are_written, done_operations_are_written, entered_operations_are_written, raised_operations_are_written}
+use Rattle.rtyped_runs.proofs.Operations.{classed_operations_are_written, methods_are_written, methods_are_written_by_vtables, told_operations_are_written, given_operations_are_written, keyed_operations_are_written, copied_operations_are_written, listed_operations_are_written, done_operations_are_written, entered_operations_are_written, raised_operations_are_written}
 use Rattle.rtyped_runs.proofs.laws.operations_are_written.Goals as goal
 
 pub returns-clause-values : goal.returns-clause-values
@@ -48,3 +50,24 @@ returns-clause-conversions c = done_operations_are_written of_conversions
 
 pub returns-clause-given : goal.returns-clause-given
 returns-clause-given c = given_operations_are_written
+
+pub returns-clause-lists_there : goal.returns-clause-lists_there
+returns-clause-lists_there c = told_operations_are_written of_lists lists.IsThere
+
+pub returns-clause-lists_missing : goal.returns-clause-lists_missing
+returns-clause-lists_missing c = told_operations_are_written of_lists lists.IsMissing
+
+pub returns-clause-instances_there : goal.returns-clause-instances_there
+returns-clause-instances_there c = told_operations_are_written of_classes classes.IsThere
+
+pub returns-clause-instances_missing : goal.returns-clause-instances_missing
+returns-clause-instances_missing c = told_operations_are_written of_classes classes.IsNothing
+
+pub returns-clause-classed : goal.returns-clause-classed
+returns-clause-classed c = classed_operations_are_written
+
+pub returns-clause-methods : goal.returns-clause-methods
+returns-clause-methods c = methods_are_written
+
+pub returns-clause-by_vtables : goal.returns-clause-by_vtables
+returns-clause-by_vtables c = methods_are_written_by_vtables
