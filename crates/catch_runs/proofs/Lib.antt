@@ -1,0 +1,4 @@
+pub mod Blocks
+pub mod Extras
+pub mod Graphs
+pub mod Whole
