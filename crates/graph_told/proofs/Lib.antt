@@ -1,0 +1,10 @@
+pub mod Facts
+pub mod Moves
+pub mod Telling
+pub mod Steps
+pub mod Asking
+pub mod Trees
+pub mod Stmts
+pub mod Environments
+pub mod Machine
+pub mod Whole
