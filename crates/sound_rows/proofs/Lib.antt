@@ -1,0 +1,17 @@
+pub mod Tools
+pub mod Operands
+pub mod Words
+pub mod Tests
+pub mod Texts
+pub mod Items
+pub mod Containers
+pub mod Making
+pub mod Walks
+pub mod Constants
+pub mod Classes
+pub mod Attributes
+pub mod Instances
+pub mod Calls
+pub mod Methods
+pub mod Receivers
+pub mod Whole

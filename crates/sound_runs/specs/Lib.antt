@@ -1,0 +1,5 @@
+pub mod Graphs
+pub mod States
+pub mod Runs
+pub mod Start
+pub mod Closed
