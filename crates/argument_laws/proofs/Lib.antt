@@ -1,0 +1,5 @@
+mod Filling
+mod Giving
+mod Programs
+mod Reading
+mod Starting
