@@ -1,0 +1,6 @@
+//! Strings of lists are joined: the operation does what it is in the meaning of programs once it is lowered.
+#![tactic(auto)]
+
+mod laws;
+
+pub use laws::strings_are_joined;

@@ -1,0 +1,10 @@
+pub mod Copied
+pub mod Given
+pub mod Listed
+pub mod Moving
+pub mod Parts
+pub mod Paying
+pub mod Pieces
+pub mod Splits
+pub mod Splitting
+pub mod Worded
