@@ -1,5 +1,6 @@
 -- The graph that puts an entry behind the last, where a place is free.
-use Rattle.std.proofs.Common.{◌≡◌, ◌≢◌, ◌<◌, ℕ, suc, ◌+◌, ◌^◌, ◌||◌, Bool, true, false, List, [], ◌∷◌, ◌++◌, length, map, Option, Some, None, ℤ, pos, refl, sym, ap, ◌∙◌, subst, arith, append_assoc, length-append, inr}
+use Rattle.dict_find_laws.specs.Keys.{IsThere}
+use Rattle.std.proofs.Common.{◌≡◌, ◌<◌, ℕ, suc, ◌+◌, ◌^◌, ◌||◌, Bool, true, false, List, [], ◌∷◌, ◌++◌, length, map, Option, Some, None, ℤ, pos, refl, sym, ap, ◌∙◌, subst, arith, append_assoc, length-append, inr}
 use Rattle.std.specs.Prelude.{slice_get, slice_set, if◌then◌else◌}
 use Rattle.std.proofs.lemmas.List.{length-set, length-map}
 use Rattle.ann_element.specs.declared.element.Element.{Element}
@@ -18,7 +19,7 @@ use Rattle.ll_leads.proofs.Ways.{many, enter, gives}
 use Rattle.ll_texts.specs.Texts.{found}
 use Rattle.ll_texts.proofs.Numbers.{adds, subs}
 use Rattle.ll_texts.proofs.Writing.{put_mid}
-use Rattle.rpy_tree.specs.Value.{Value as Meant, Nothing, Mapped, Heap}
+use Rattle.rpy_tree.specs.Value.{Value as Meant, Mapped, Heap}
 use Rattle.rtyper_layout.specs.declared.dicts.Mapping.{Mapping}
 use Rattle.rtyper_layout.specs.declared.layout.Layout.{Layout}
 use Rattle.rtyper_layout.specs.Dicts.{first, second, keys_last, is_indexed, stored_key, stored_value}
@@ -108,7 +109,7 @@ pub record Added (p : LlProgram) (args : List (List ℕ)) (layout : Layout) (kno
 
 module _ (p : LlProgram) (args : List (List ℕ)) (layout : Layout) (known : Known) (structs : HasLayout p layout) (n : ℕ) (m : Mapping) (mapping : mapping_at layout.mappings n ≡ Some m) (f : ℕ) (enterer : Option ℕ) (graph : slice_get p.graphs f ≡ Some (add_graph enterer (shape_of m))) (entering : EntersBy p args layout known m (is_indexed m) enterer)
     (g : Ghost) (heap : Heap) (left : ℕ) (core : Core) (r : Represents layout known g heap left core.blocks core.statics) (i : ℕ) (head : Value) (home : slice_get g.homes i ≡ Some (record { sort = DictOf n; head = head })) (l : DictAt layout known g heap core.blocks core.statics m i head)
-    (a : Arrays layout known g core.blocks core.statics m i l.pairs l.places l.one l.two) (room : length l.pairs < l.places) (kx vx : Value) (k v : Meant) (new : New k l.pairs) (k_held : Holds layout known g (known.keys m.dict) kx k) (v_held : Holds layout known g (known.items m.dict) vx v) (k_there : is_indexed m ≡ true → k ≢ Nothing) where
+    (a : Arrays layout known g core.blocks core.statics m i l.pairs l.places l.one l.two) (room : length l.pairs < l.places) (kx vx : Value) (k v : Meant) (new : New k l.pairs) (k_held : Holds layout known g (known.keys m.dict) kx k) (v_held : Holds layout known g (known.items m.dict) vx v) (k_there : is_indexed m ≡ true → IsThere k) where
   abbrev count : ℕ
   count = length l.pairs
 

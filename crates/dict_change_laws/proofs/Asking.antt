@@ -1,19 +1,13 @@
 -- What stands at its numbers is what the graphs that change dicts call.
-use Rattle.std.proofs.Common.{◌≡◌, ◌⊎◌, inl, inr, ℕ, pos, Bool, true, false, not, List, [], ◌∷◌, Option, Some, refl, sym, ap, ◌∙◌, subst}
-use Rattle.std.specs.Prelude.{slice_get, if◌then◌else◌}
-use Rattle.csub_tree.specs.State.{Value, Word, Core}
-use Rattle.ll_code.specs.State.{Calling}
-use Rattle.ll_code.specs.declared.program.LlType.{LlType}
-use Rattle.ll_code.specs.declared.program.LlType.TheVariants as type
+use Rattle.std.proofs.Common.{◌≡◌, ℕ, Bool, true, false, not, List, Option, Some, refl, ap, ◌∙◌, subst}
+use Rattle.std.specs.Prelude.{slice_get}
+use Rattle.csub_tree.specs.State.{Value, Core}
 use Rattle.ll_code.specs.declared.program.LlProgram.{LlProgram}
 use Rattle.ll_build.specs.declared.needs.Helper.TheVariants as helper
 use Rattle.ll_build.specs.declared.needs.Numbers.{Numbers}
-use Rattle.ll_leads.proofs.Ways.{Comes}
-use Rattle.ll_texts.specs.Stands.{Stands as LowStands, text as low_text, missing as low_missing}
-use Rattle.rpy_tree.specs.Value.{Value as Meant, Text}
 use Rattle.rtyper_layout.specs.declared.dicts.Mapping.{Mapping}
 use Rattle.rtyper_layout.specs.declared.layout.Layout.{Layout}
-use Rattle.rtyper_layout.specs.Dicts.{is_plain, is_indexed, first, second, stored_key}
+use Rattle.rtyper_layout.specs.Dicts.{is_indexed, first, second, stored_key}
 use Rattle.rtyper_layout.specs.Layout.{mapping_at}
 use Rattle.rtyper_data.specs.declared.found.Found.{Found}
 use Rattle.rtyper_data.specs.declared.small.Keyed.TheVariants as keyed
@@ -26,27 +20,20 @@ use Rattle.rtyper_dict.specs.Graphs.{changing, dict_graph}
 use Rattle.rtyper_dict.specs.Growing.{copied, counted, ended, fill_number, grow, grow_blocks, is_pointer}
 use Rattle.rtyper_dict.specs.Indexing.{enter, enter_graph, index, index_graph}
 use Rattle.rtyper_dict.specs.Parts.{dict_at, dict_or, first_item, keyed_number, number_if, second_item, shape_of}
-use Rattle.object_laws.specs.Dicts.{as_item, hash}
 use Rattle.object_laws.specs.Done.{HasLayout}
-use Rattle.object_laws.specs.Ghost.{Ghost}
 use Rattle.object_laws.specs.Known.{Known}
-use Rattle.object_laws.specs.Values.{Stands, word, flag, byte, text, missing}
 use Rattle.list_copy_laws.proofs.Between.{copy_is, the_copy}
 use Rattle.dict_op_laws.specs.Asked.{HasKeyed}
 use Rattle.dict_find_laws.specs.Asked.{HasFind, HasHash}
-use Rattle.dict_find_laws.proofs.Alike.{number_of as number_as, hash_word}
-use Rattle.dict_find_laws.proofs.Hashed.{words_asked, texts_asked, string_is, key_sort, key_stands, word_stored, text_stored}
-use Rattle.dict_find_laws.proofs.Hashing.{word_hashed, text_hashed, hash_of_string}
+use Rattle.dict_find_laws.proofs.Hashed.{key_hashed}
 use Rattle.list_laws.specs.Asked.{HasList}
-use Rattle.rtyper_op.specs.Mapped.{mixed, with_bytes}
-use Rattle.rtyper_dict.specs.Hashing.{hash_graph, of_word}
 use Rattle.dict_find_laws.specs.Finding.{HasKeys}
 use Rattle.dict_change_laws.specs.Asked.{HasEnter, HasIndex, HasAdd, HasGrow, HasStore, HasRemove, when_copied, when_one_filled, when_filled}
 use Rattle.dict_change_laws.proofs.Adding.{EntersBy}
 use Rattle.dict_change_laws.proofs.Counting.{SizesBy}
 use Rattle.dict_change_laws.proofs.Ending.{FillsBy}
 use Rattle.dict_change_laws.proofs.Growing.{GrowsBy, IndexesBy}
-use Rattle.dict_change_laws.proofs.Keyed.{Staying, Hashes}
+use Rattle.dict_change_laws.proofs.Keyed.{Hashes}
 use Rattle.dict_change_laws.proofs.Removing.{RemovesBy}
 use Rattle.dict_change_laws.proofs.Standing.{the_shape}
 use Rattle.dict_change_laws.proofs.Storing.{StoresBy}
@@ -76,39 +63,9 @@ module _ (layout : Layout) (n : ℕ) (m : Mapping) (mapping : mapping_at layout.
   module _ (p : LlProgram) (args : List (List ℕ)) (known : Known) (keys : HasKeys layout known m) (structs : HasLayout p layout) where
     -- ---- hashes
 
-    words_keyed : (f : ℕ) → HasKeyed p layout (keyed.Hash type.Signed) f → slice_get p.graphs f ≡ Some of_word
-    unfolding dict_graph hash_graph
-    words_keyed f h = h.graph
-
-    -- strings are what they are for helpers
-    low : {g : Ghost} (core : Core) {t : LlType} {x : Value} {v : Meant} → t ≡ type.Ptr 0 → Staying g core.blocks core.statics → Stands g t x v → LowStands core.blocks core.statics (type.Ptr 0) x v
-    low core h stays (text x bytes t) = low_text x bytes (record { is = stays x _ t.is; short = t.short; small = t.small })
-    low core h stays missing = low_missing
-    low core h stays (word z f) = absurd (cc)
-    low core h stays (flag b) = absurd (cc)
-    low core h stays (byte b s) = absurd (cc)
-
     -- a key is hashed, wherever what stays is what it is
     hashes_so : (f : ℕ) → HasHash p layout (stored_key m) f → Hashes p args layout known m f
-    hashes_so f has g core waits x v stays held there = by (key_sort layout known m keys)
-      where
-        stands_so : Stands g m.key x v
-        stands_so = key_stands layout known m keys held
-
-        text_hash : (bytes : List ℕ) → m.key ≡ type.Ptr 0 → v ≡ Text bytes → hash layout m.key v ≡ mixed (with_bytes (pos 0) bytes)
-        text_hash bytes h high = ap (λ t. hash layout t v) h ∙ ap (hash layout (type.Ptr 0)) high ∙ hash_of_string bytes
-
-        by : (is_plain m.key ≡ true) ⊎ (m.key ≡ type.Ptr 0) → Comes p args (Calling f (as_item m.key (stored_key m) x ∷ []) waits core) [] (Word (hash layout m.key v)) waits core
-        by (inl plain) =
-            subst (λ y. Comes p args (Calling f (y ∷ []) waits core) [] (Word (hash layout m.key v)) waits core) (sym (word_stored m x plain stands_so))
-            (subst (λ z. Comes p args (Calling f (Word (number_as v) ∷ []) waits core) [] (Word z) waits core) (sym (hash_word layout plain stands_so))
-            (word_hashed p args f (words_asked p layout f (subst (λ b. HasHash p layout (if b then type.Signed else m.key) f) plain has)) (number_as v) core waits))
-        by (inr h) =
-            let it = string_is refl (low core h stays stands_so) there in
-            let asked : HasHash p layout (type.Ptr 0) f = subst (λ t. HasHash p layout (if is_plain t then type.Signed else t) f) h has in
-            subst (λ y. Comes p args (Calling f (y ∷ []) waits core) [] (Word (hash layout m.key v)) waits core) (sym (text_stored m x h))
-            (subst (λ z. Comes p args (Calling f (x ∷ []) waits core) [] (Word z) waits core) (sym (text_hash it.bytes h it.high))
-            (text_hashed p args f (keyed_number (keyed.Hash type.Signed) asked.made).0 (texts_asked p layout f asked) (words_keyed (keyed_number (keyed.Hash type.Signed) asked.made).0 (asked.words refl)) structs.plain.text waits core x it.bytes it.text))
+    hashes_so f has g core waits x v stays held there = key_hashed layout known p args f m core g x v keys structs has stays held there waits
 
     -- ---- the index
 

@@ -61,6 +61,7 @@ use Rattle.dict_laws.specs.Keys.{position_from}
 use Rattle.dict_find_laws.specs.Asked.{HasAll as HasLooking}
 use Rattle.dict_find_laws.specs.Finding.{as_key}
 use Rattle.dict_find_laws.specs.Lookups.{IsAskedFor}
+use Rattle.dict_find_laws.proofs.Hashed.{still_so}
 use Rattle.dict_find_laws.proofs.Arriving.{Arrived, arrives, entry_written, first, ops0, own_number, r, s, shape_is, types0, types_long, w2}
 use Rattle.dict_find_laws.proofs.Entered.{Enters}
 use Rattle.dict_find_laws.proofs.Read.{below_more, entry_found}
@@ -213,7 +214,7 @@ module _ (known : Known) (around : Around) (place : Place) (a b : Operand) (w : 
       set = ap (λ q. q || (is_unset (as_key m x) || false)) head_set ∙ ap (λ q. q || false) (item_set m.key (stored_key m) x (held_set stands held))
 
       looked : Enters p arguments number (head ∷ as_key m x ∷ []) mid (raised 7) at
-      looked = entry_found around.layout known p numbers raised arguments n number m core mid g world.heap world.left found_dict.i head x v is.dict.mapping is.keys structs has_graphs.0 stands_mid d (record { held = stays_held is.stays held; there = λ q. (good q).0 })
+      looked = entry_found around.layout known p numbers raised arguments n number m core mid g world.heap world.left found_dict.i head x v is.dict.mapping is.keys structs has_graphs.0 stands_mid d (record { held = stays_held is.stays held; there = λ q. (good q).0 }) (still_so m core mid went.passed.memory)
 
       meant : meant_op known.program w.found.covered row.DeleteIndex (Ref found_dict.i ∷ v ∷ []) world ≡ (if has_key v d.pairs then set_object found_dict.i (Mapped (without_key v d.pairs)) Nothing else no_key) world
       meant = ap (λ o. delete_object w.found.covered found_dict.i v o world) d.object

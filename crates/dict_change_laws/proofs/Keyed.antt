@@ -1,5 +1,6 @@
 -- The keys of a dict, as they stand in its arrays, have the hashes that their graph gives.
-use Rattle.std.proofs.Common.{◌≡◌, ◌≢◌, ◌<◌, ℕ, suc, ◌^◌, Bool, true, false, List, [], ◌∷◌, ◌++◌, length, map, Option, Some, ℤ, refl, ap}
+use Rattle.dict_find_laws.specs.Keys.{IsThere}
+use Rattle.std.proofs.Common.{◌≡◌, ◌<◌, ℕ, suc, ◌^◌, Bool, true, false, List, [], ◌∷◌, ◌++◌, length, map, Option, Some, ℤ, refl, ap}
 use Rattle.std.specs.Prelude.{if◌then◌else◌}
 use Rattle.csub_tree.specs.State.{Value, Unset, Word, Byte, Flag, Fun, Null, Ptr, Static, Block, Core}
 use Rattle.csub_tree.specs.Operation.{is_unset}
@@ -9,7 +10,7 @@ use Rattle.ll_code.specs.declared.program.LlProgram.{LlProgram}
 use Rattle.ll_held.specs.Held.{is_reference}
 use Rattle.ll_leads.proofs.Ways.{Comes}
 use Rattle.ll_texts.specs.Texts.{found}
-use Rattle.rpy_tree.specs.Value.{Value as Meant, Nothing}
+use Rattle.rpy_tree.specs.Value.{Value as Meant}
 use Rattle.rtyper_layout.specs.declared.dicts.Mapping.{Mapping}
 use Rattle.rtyper_layout.specs.declared.layout.Layout.{Layout}
 use Rattle.rtyper_layout.specs.Dicts.{stored_key}
@@ -30,7 +31,7 @@ Staying g blocks statics = (x : Value) (block : Block) → use_of g x ≡ Some (
 
 -- a call of the graph with a key that is not `None` gives its hash, wherever what stays is what it is
 abbrev pub Hashes : LlProgram → List (List ℕ) → Layout → Known → Mapping → ℕ → Type 0
-Hashes p args layout known m h = (g : Ghost) (core : Core) (waits : List Frame) (x : Value) (v : Meant) → Staying g core.blocks core.statics → Holds layout known g (known.keys m.dict) x v → v ≢ Nothing
+Hashes p args layout known m h = (g : Ghost) (core : Core) (waits : List Frame) (x : Value) (v : Meant) → Staying g core.blocks core.statics → Holds layout known g (known.keys m.dict) x v → IsThere v
     → Comes p args (Calling h (as_item m.key (stored_key m) x ∷ []) waits core) [] (Word (hash layout m.key v)) waits core
 
 -- ---- items

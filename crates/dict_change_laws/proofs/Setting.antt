@@ -67,6 +67,7 @@ use Rattle.dict_laws.specs.Keys.{position_from}
 use Rattle.dict_find_laws.specs.Asked.{HasAll as HasLooking}
 use Rattle.dict_find_laws.specs.Finding.{place_word}
 use Rattle.dict_find_laws.specs.Lookups.{HasValues, IsAskedFor}
+use Rattle.dict_find_laws.proofs.Hashed.{still_so}
 use Rattle.dict_find_laws.proofs.Arriving.{own_number, same_value}
 use Rattle.dict_find_laws.proofs.Found.{keys_are_found}
 use Rattle.dict_find_laws.proofs.Read.{below_more}
@@ -320,7 +321,7 @@ module _ (known : Known) (around : Around) (place : Place) (a b c : Operand) (w 
       unfolding by_graphs
       finding vars waits =
           let it = keys_are_found around.layout known p numbers raised arguments n by_graphs.finds m core (record mid { function = number; block = 0; at = 0; vars = vars }) g world.heap world.left found_dict.i head kx k is.dict.mapping is.keys structs
-          (stores_finds around.layout n m is.dict.mapping p arguments known is.keys structs numbers raised core number has_graph) stands_mid d (record { held = key_in_place; there = λ q. (good.0 q).0 }) waits in
+          (stores_finds around.layout n m is.dict.mapping p arguments known is.keys structs numbers raised core number has_graph) stands_mid d (record { held = key_in_place; there = λ q. (good.0 q).0 }) (still_so m core mid memory) waits in
           record { end = it.end; same = it.same; leads = it.leads }
 
       abbrev vs : List Meant

@@ -1,5 +1,6 @@
 -- The graph that stores the value of a key.
-use Rattle.std.proofs.Common.{◌≡◌, ◌≢◌, ◌<◌, ◌≤◌, ◌⊎◌, inl, inr, ℕ, ◌+◌, ◌-◌, ◌^◌, ◌||◌, true, false, List, [], ◌∷◌, ◌++◌, length, Option, Some, None, pos, negsuc, refl, sym, ap, ◌∙◌, subst, arith, length-append}
+use Rattle.dict_find_laws.specs.Keys.{IsThere}
+use Rattle.std.proofs.Common.{◌≡◌, ◌<◌, ◌≤◌, ◌⊎◌, inl, inr, ℕ, ◌+◌, ◌-◌, ◌^◌, ◌||◌, true, false, List, [], ◌∷◌, ◌++◌, length, Option, Some, None, pos, negsuc, refl, sym, ap, ◌∙◌, subst, arith, length-append}
 use Rattle.std.specs.Prelude.{slice_get, slice_set}
 use Rattle.csub_tree.specs.State.{Value, Unset, Word, Flag, Block, Core}
 use Rattle.csub_tree.specs.Operation.{is_unset}
@@ -12,7 +13,7 @@ use Rattle.ll_leads.proofs.Joined.{leads_then, leads_more}
 use Rattle.ll_leads.proofs.Ways.{many, enter, gives, lacks, pays}
 use Rattle.ll_texts.specs.Follows.{Lacked}
 use Rattle.ll_texts.proofs.Numbers.{less_false}
-use Rattle.rpy_tree.specs.Value.{Value as Meant, Nothing, Mapped, Heap}
+use Rattle.rpy_tree.specs.Value.{Value as Meant, Mapped, Heap}
 use Rattle.rpy_meaning.specs.Compare.{is_equal}
 use Rattle.rpy_meaning.specs.Sequences.{with_key}
 use Rattle.rtyper_layout.specs.declared.dicts.Mapping.{Mapping}
@@ -64,7 +65,7 @@ pub record Stored (p : LlProgram) (args : List (List ℕ)) (layout : Layout) (kn
 
 module _ (p : LlProgram) (args : List (List ℕ)) (layout : Layout) (known : Known) (structs : HasLayout p layout) (n : ℕ) (m : Mapping) (mapping : mapping_at layout.mappings n ≡ Some m) (f : ℕ) (by : StoresBy p args layout known m f)
     (g : Ghost) (heap : Heap) (left : ℕ) (core : Core) (r : Represents layout known g heap left core.blocks core.statics) (steps : left ≡ core.steps) (i : ℕ) (head : Value) (home : slice_get g.homes i ≡ Some (record { sort = DictOf n; head = head })) (l : DictAt layout known g heap core.blocks core.statics m i head)
-    (kx vx : Value) (k v : Meant) (k_held : Holds layout known g (known.keys m.dict) kx k) (v_held : Holds layout known g (known.items m.dict) vx v) (k_there : is_indexed m ≡ true → k ≢ Nothing) (there : is_indexed m ≡ true → AreThere (keys_of l.pairs))
+    (kx vx : Value) (k v : Meant) (k_held : Holds layout known g (known.keys m.dict) kx k) (v_held : Holds layout known g (known.items m.dict) vx v) (k_there : is_indexed m ≡ true → IsThere k) (there : is_indexed m ≡ true → AreThere (keys_of l.pairs))
     (finding : (vars : List Value) (waits : List Frame) → Returns p args 0 (Calling by.finds (head ∷ as_item m.key (stored_key m) kx ∷ []) waits (record core { function = f; block = 0; at = 0; vars = vars })) (place_word (position_from is_equal 0 (keys_of l.pairs) k)) waits (record core { function = f; block = 0; at = 0; vars = vars })) where
   abbrev count : ℕ
   count = length l.pairs

@@ -47,7 +47,7 @@ LengthsAreReckoned = (layout : Layout) (p : LlProgram) (args : List (List ℕ)) 
 abbrev pub StandsAs : Ghost → ℕ → ℕ → Value → Type 0
 StandsAs g n i head = slice_get g.homes i ≡ Some (record { sort = DictOf n; head = head })
 
--- where there is an index, no key is `None`
+-- where there is an index, no key is `None` or has such a part
 abbrev pub AllThere : Mapping → List (Meant × Meant) → Type 0
 AllThere m pairs = is_indexed m ≡ true → AreThere (keys_of pairs)
 

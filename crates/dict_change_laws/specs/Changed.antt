@@ -1,8 +1,8 @@
--- Entries of dicts are stored and deleted, where no key and no value is converted on the way. Keys that are tuples are left out, and `None`
--- as a key where the dict has an index.
-use Rattle.std.specs.Prelude.{◌≡◌, ◌≢◌, ◌<◌, ◌^◌, ℕ, ◌+◌, true, List, [], ◌∷◌, ◌++◌, slice_get, Some}
+-- Entries of dicts are stored and deleted, where no key and no value is converted on the way. `None`, as a key or a part of one, is left out
+-- where the dict has an index.
+use Rattle.std.specs.Prelude.{◌≡◌, ◌<◌, ◌^◌, ℕ, ◌+◌, true, List, [], ◌∷◌, ◌++◌, slice_get, Some}
 use Rattle.ann_element.specs.declared.element.Element.{Element}
-use Rattle.rpy_tree.specs.Value.{Value as Meant, Ref, Nothing, Mapped}
+use Rattle.rpy_tree.specs.Value.{Value as Meant, Ref, Mapped}
 use Rattle.rpy_meaning.specs.declared.row.Covers.{Covers}
 use Rattle.rpy_meaning.specs.declared.row.RowOp.{RowOp}
 use Rattle.rpy_meaning.specs.declared.row.RowOp.TheVariants as row
@@ -22,6 +22,7 @@ use Rattle.object_laws.specs.Done.{IsDoneWhere}
 use Rattle.object_laws.specs.Known.{Known}
 use Rattle.object_laws.specs.Staying.{Stays}
 use Rattle.dict_op_laws.specs.Dicts.{there_asks}
+use Rattle.dict_find_laws.specs.Keys.{IsThere}
 use Rattle.dict_find_laws.specs.Lookups.{IsAskedFor, HasValues}
 use Rattle.dict_change_laws.specs.Asked.{Has}
 
@@ -29,14 +30,14 @@ use Rattle.dict_change_laws.specs.Asked.{Has}
 abbrev pub IsTold : (World → List Meant → Type 0) → ℕ → Known → Around → RowOp → Covers → List Ask → Place → List Operand → Writing → Type 0
 IsTold Good blocks known around o covers asks place args w = IsDoneWhere Good (λ p. Has p around.layout) blocks known around o covers asks (lower_dict_op around o place args w) place args w
 
--- none of them is `None`
+-- none of them is `None`, or has such a part
 abbrev pub AreThere : List Meant → Type 0
 AreThere [] = Unit {0}
-AreThere (v ∷ vs) = (v ≢ Nothing) × AreThere vs
+AreThere (v ∷ vs) = IsThere v × AreThere vs
 
--- where the dict has an index, neither the key nor one that it has is `None`, which has no hash
+-- where the dict has an index, neither the key nor one that it has is `None` or has such a part, which have no hash
 abbrev pub KeysAreThere : Mapping → World → List Meant → Type 0
-KeysAreThere m world (Ref r ∷ key ∷ vs) = is_indexed m ≡ true → (key ≢ Nothing) × ((pairs : List (Meant × Meant)) → slice_get world.heap r ≡ Some (Mapped pairs) → AreThere (keys_of pairs))
+KeysAreThere m world (Ref r ∷ key ∷ vs) = is_indexed m ≡ true → IsThere key × ((pairs : List (Meant × Meant)) → slice_get world.heap r ≡ Some (Mapped pairs) → AreThere (keys_of pairs))
 KeysAreThere m world vs = Unit {0}
 
 -- The number of entries, with one for each step that is left, is less than that of the places that there may be. This stays so, since what

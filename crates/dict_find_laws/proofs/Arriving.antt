@@ -1,5 +1,5 @@
 -- The dict and the key of an operation, as they come to the graph that looks for the key.
-use Rattle.std.proofs.Common.{◌≡◌, ◌≤◌, ℕ, ◌+◌, ◌==◌, Bool, true, false, List, [], ◌∷◌, ◌++◌, length, Some, refl, sym, ap, ◌∙◌, subst, arith, length-append}
+use Rattle.std.proofs.Common.{◌≡◌, ◌≤◌, inl, ℕ, ◌+◌, ◌==◌, Bool, true, false, List, [], ◌∷◌, ◌++◌, length, Some, refl, sym, ap, ◌∙◌, subst, arith, length-append}
 use Rattle.std.specs.Prelude.{slice_get, if◌then◌else◌}
 use Rattle.std.proofs.lemmas.Bool.{eqb-true}
 use Rattle.csub_tree.specs.State.{Value, Core}
@@ -133,7 +133,7 @@ module _ (known : Known) (around : Around) (a b : Operand) (n : ℕ) (m : Mappin
       longer = length-append w.body.types r.new
 
       key_goes : Went p arguments (At (s.ops ++ rest) e frames between) rest e frames between (length w1.body.types) s.y (as_key m (operand between.vars b.x))
-      key_goes = s.enters p arguments rest e frames between g v (let wide = (dict_goes rest e frames).passed.room in omega (arith, room, wide, longer, types_long)) (subst (λ x. Stands g m.key x v) (sym same_key) (key_stands around.layout known m is.keys key_held))
+      key_goes = s.enters p arguments rest e frames between g v (let wide = (dict_goes rest e frames).passed.room in omega (arith, room, wide, longer, types_long)) (λ plain. subst (λ x. Stands g m.key x v) (sym same_key) (key_stands around.layout known m is.keys (inl plain) key_held))
 
       pub arrives : Arrived p arguments rest e frames core
       arrives = record {

@@ -1,5 +1,5 @@
 -- The value of a key is got, or another value.
-use Rattle.std.proofs.Common.{◌≡◌, ◌≢◌, None, ◌<◌, ◌≤◌, ℕ, ◌+◌, ◌⊎◌, inl, inr, true, false, ◌||◌, List, [], ◌∷◌, ◌++◌, length, map, Option, Some, refl, sym, ap, ◌∙◌, subst, arith, append_assoc, length-append}
+use Rattle.std.proofs.Common.{◌≡◌, None, ◌<◌, ◌≤◌, ℕ, ◌+◌, ◌⊎◌, inl, inr, true, false, ◌||◌, List, [], ◌∷◌, ◌++◌, length, map, Option, Some, refl, sym, ap, ◌∙◌, subst, arith, append_assoc, length-append}
 use Rattle.std.specs.Prelude.{slice_get, unwrap_or}
 use Rattle.rpy_base.specs.declared.outcome.FailName.TheVariants as fail
 use Rattle.csub_tree.specs.State.{Value, Core}
@@ -7,7 +7,7 @@ use Rattle.csub_tree.specs.Operation.{is_unset}
 use Rattle.csub_tree.specs.Statement.{operand, operands, any_unset}
 use Rattle.csub_tree.specs.declared.tree.COperand.{COperand}
 use Rattle.csub_tree.specs.declared.tree.COperand.TheVariants.{Var}
-use Rattle.rpy_tree.specs.Value.{Value as Meant, Mapped, Nothing, Object}
+use Rattle.rpy_tree.specs.Value.{Value as Meant, Mapped, Object}
 use Rattle.rpy_meaning.specs.declared.row.RowOp.{RowOp}
 use Rattle.rpy_meaning.specs.Compare.{is_equal}
 use Rattle.rpy_meaning.specs.Sequences.{value_at}
@@ -54,7 +54,9 @@ use Rattle.object_laws.proofs.Valued.{Dicting, Gone, held_set, stays_held, stays
 use Rattle.dict_laws.specs.Keys.{position_from}
 use Rattle.dict_op_laws.specs.Asked.{HasKeyed}
 use Rattle.dict_find_laws.specs.Asked.{HasAll, HasFind, HasGet, valued}
-use Rattle.dict_find_laws.specs.Finding.{HasKeys, IsKey, as_key, place_word}
+use Rattle.dict_find_laws.proofs.Hashed.{still_so}
+use Rattle.dict_find_laws.specs.Finding.{StandsStill, HasKeys, IsKey, as_key, place_word}
+use Rattle.dict_find_laws.specs.Keys.{IsThere}
 use Rattle.dict_find_laws.specs.Lookups.{HasValues, IsAskedFor, get_asks}
 use Rattle.dict_find_laws.proofs.Arriving.{Arrived, arrives, key_written, first, ops0, own_number, r, s, types0, types_long, w1, w2}
 use Rattle.dict_find_laws.proofs.Found.{keys_are_found}
@@ -81,7 +83,7 @@ use Rattle.dict_find_laws.proofs.Stage.{has_first, has_more}
 
 module _ (layout : Layout) (known : Known) (p : LlProgram) (numbers : Numbers) (raised : ℕ → Value) (args : List (List ℕ)) (n f : ℕ) (m : Mapping) (t : LlType) (before core : Core) (g : Ghost) (heap : Heap) (left i : ℕ) (head x other : Value) (v : Meant)
     (mapping : mapping_at layout.mappings n ≡ Some m) (keys : HasKeys layout known m) (typed : m.value ≡ t) (structs : HasLayout p layout) (asked : HasGet p layout numbers raised before n t f) (stands : Represents layout known g heap left core.blocks core.statics)
-    (d : DictAt layout known g heap core.blocks core.statics m i head) (key : IsKey layout known g m x v) (other_set : is_unset other ≡ false) where
+    (d : DictAt layout known g heap core.blocks core.statics m i head) (key : IsKey layout known g m x v) (other_set : is_unset other ≡ false) (still : StandsStill m before core) where
   abbrev reads : ℕ
   reads = (keyed_number (keyed.Value m.dict) asked.made).0
 
@@ -111,7 +113,7 @@ module _ (layout : Layout) (known : Known) (p : LlProgram) (numbers : Numbers) (
   found_at : (o : Option ℕ) → position_from is_equal 0 (keys_of d.pairs) v ≡ o → (function block at : ℕ) (vars : List Value) (waits : List Frame)
       → Comes p args (Calling finds (head ∷ as_key m x ∷ []) waits (record core { function = function; block = block; at = at; vars = vars })) [] (place_word o) waits (record core { function = function; block = block; at = at; vars = vars })
   found_at o e function block at vars waits =
-      let it = keys_are_found layout known p numbers raised args n finds m before (record core { function = function; block = block; at = at; vars = vars }) g heap left i head x v mapping keys structs has_finds stands d key waits in
+      let it = keys_are_found layout known p numbers raised args n finds m before (record core { function = function; block = block; at = at; vars = vars }) g heap left i head x v mapping keys structs has_finds stands d key still waits in
       subst (λ o. Comes p args (Calling finds (head ∷ as_key m x ∷ []) waits (record core { function = function; block = block; at = at; vars = vars })) [] (place_word o) waits (record core { function = function; block = block; at = at; vars = vars })) e
       (record { end = it.end; same = it.same; leads = it.leads })
 
@@ -133,7 +135,7 @@ module _ (layout : Layout) (known : Known) (p : LlProgram) (numbers : Numbers) (
 same_pairs : (ps qs : List (Meant × Meant)) → Some (Mapped ps) ≡ Some (Mapped qs) → ps ≡ qs
 same_pairs ps qs e = cc
 
-no_void : (around : Around) (place : Place) (d : DictShape) (x : COperand) (b : Operand) (other : Option Operand) (t : LlType) (w : Writing) → (t ≡ type.Void → ⊥) → get_to around place d x b other t w ≡ get_as around place d x b other t w
+pub no_void : (around : Around) (place : Place) (d : DictShape) (x : COperand) (b : Operand) (other : Option Operand) (t : LlType) (w : Writing) → (t ≡ type.Void → ⊥) → get_to around place d x b other t w ≡ get_as around place d x b other t w
 no_void around place d x b other type.Void w there = absurd (there refl)
 no_void around place d x b other type.Signed w there = refl
 no_void around place d x b other type.Char w there = refl
@@ -246,7 +248,7 @@ module _ (known : Known) (around : Around) (place : Place) (a b : Operand) (w : 
       no_dict u gone = subst (λ l. Follows 0 known around place p arguments (At (dict_ops ++ l) e frames core) rest e frames core g raised most (length w.body.types) world (failure w.found.covered.attribute 9 fail.Attribute world)) (append_assoc key_ops behind rest)
           ((r known around a b n m is w).misses 0 known place p numbers raised arguments (key_ops ++ behind) rest e frames core core g most (length w.body.types) world has_there gone.may gone.low)
 
-      module _ (v u : Meant) (held : Holds around.layout known g b.element (operand core.vars b.x) v) (found_dict : Dicting around.layout known g a.element (operand core.vars a.x) u) (there : is_indexed m ≡ true → v ≢ Nothing)
+      module _ (v u : Meant) (held : Holds around.layout known g b.element (operand core.vars b.x) v) (found_dict : Dicting around.layout known g a.element (operand core.vars a.x) u) (there : is_indexed m ≡ true → IsThere v)
           (z : Value) (other : Meant) (z_is : (mid : Core) → Passed (length w.body.types) core mid → operand mid.vars o ≡ z) (z_held : Holds around.layout known g place.element z other) where
         home : slice_get g.homes found_dict.i ≡ Some (record { sort = DictOf n; head = operand core.vars a.x })
         home = subst (λ k. slice_get g.homes found_dict.i ≡ Some (record { sort = DictOf k; head = operand core.vars a.x })) (ap pointed (sym found_dict.typed ∙ is.dict.typed)) found_dict.home
@@ -292,7 +294,7 @@ module _ (known : Known) (around : Around) (place : Place) (a b : Operand) (w : 
             (on went.way (on (calls_at same set_all comes) (sets y (is_set_at mid m1 y (omega (arith, room, m1_is, new_long, wide))) y_set))) y_held
 
         other_taken : at ≡ None → Answered (Gives other world)
-        other_taken none = takes z other z_set z_held (other_got around.layout known p numbers raised arguments n number m t core mid g world.heap world.left found_dict.i head x z v is.dict.mapping is.keys as_placed structs has_graph stands_mid d key_is z_set none)
+        other_taken none = takes z other z_set z_held (other_got around.layout known p numbers raised arguments n number m t core mid g world.heap world.left found_dict.i head x z v is.dict.mapping is.keys as_placed structs has_graph stands_mid d key_is z_set (still_so m core mid went.passed.memory) none)
 
         module _ (i : ℕ) (is_at : at ≡ Some i) (all : Arrays around.layout known g mid.blocks mid.statics m found_dict.i d.pairs d.places d.one d.two) where
           abbrev it : Sought v d.pairs i
@@ -309,7 +311,7 @@ module _ (known : Known) (around : Around) (place : Place) (a b : Operand) (w : 
 
           value_taken : Answered (Gives it.value world)
           value_taken = takes worth.value it.value (held_set stands_mid value_held) (stays_held stay value_held)
-              (value_got around.layout known p numbers raised arguments n number m t core mid g world.heap world.left found_dict.i head x z v is.dict.mapping is.keys as_placed structs has_graph stands_mid d key_is z_set i is_at it.inside all worth value_of)
+              (value_got around.layout known p numbers raised arguments n number m t core mid g world.heap world.left found_dict.i head x z v is.dict.mapping is.keys as_placed structs has_graph stands_mid d key_is z_set (still_so m core mid went.passed.memory) i is_at it.inside all worth value_of)
 
         by_place : (o : Option ℕ) → at ≡ o → Answered (Gives (unwrap_or (value_at v d.pairs) other) world)
         by_place None none = subst (λ o. Answered (Gives (unwrap_or o other) world)) (sym (unsought v d.pairs 0 none)) (other_taken none)

@@ -1,5 +1,5 @@
 -- `get` with another value, for a key that is missing.
-use Rattle.std.proofs.Common.{◌≡◌, ◌≢◌, ◌<◌, ◌≤◌, ℕ, ◌+◌, ◌⊎◌, inl, inr, true, List, [], ◌∷◌, ◌++◌, length, Option, Some, refl, sym, ap, ◌∙◌, subst}
+use Rattle.std.proofs.Common.{◌≡◌, ◌<◌, ◌≤◌, ℕ, ◌+◌, ◌⊎◌, inl, inr, true, List, [], ◌∷◌, ◌++◌, length, Option, Some, refl, sym, ap, ◌∙◌, subst}
 use Rattle.std.specs.Prelude.{codes}
 use Rattle.csub_tree.specs.State.{Value, Core}
 use Rattle.csub_tree.specs.Statement.{operand}
@@ -28,6 +28,7 @@ use Rattle.object_laws.specs.Values.{Given, Holds}
 use Rattle.object_laws.proofs.Passing.{operand_kept}
 use Rattle.object_laws.proofs.Valued.{Dicting, Gone, dict_or_none, stays_held, stays_typed}
 use Rattle.dict_find_laws.specs.Asked.{HasAll}
+use Rattle.dict_find_laws.specs.Keys.{IsThere}
 use Rattle.dict_find_laws.specs.Lookups.{HasValues, IsAskedFor, IsTold, SecondIsThere, ValuesAreGot, get_asks}
 use Rattle.dict_find_laws.proofs.Arriving.{same_value, s, shape_is, w2}
 use Rattle.ann_element.specs.declared.element.Element.{Element}
@@ -53,7 +54,7 @@ module _ (known : Known) (around : Around) (place : Place) (a b c : Operand) (w 
     Done vs = Follows 0 known around place p arguments (Here known around place a b w n m value is values stay c.x site (a ∷ b ∷ c ∷ []) p numbers raised arguments rest e frames core g world structs has stands left room inside below.0 below.1.0 (references world.heap vs)) rest e frames core g raised (references world.heap vs) (length w.body.types) world
         (meant_op known.program w.found.covered (row.Method name site) vs world)
 
-    either : (u v y : Meant) → Holds around.layout known g b.element (operand core.vars b.x) v → Holds around.layout known g c.element (operand core.vars c.x) y → (is_indexed m ≡ true → v ≢ Nothing)
+    either : (u v y : Meant) → Holds around.layout known g b.element (operand core.vars b.x) v → Holds around.layout known g c.element (operand core.vars c.x) y → (is_indexed m ≡ true → IsThere v)
         → Dicting around.layout known g a.element (operand core.vars a.x) u ⊎ Gone kind.MaybeDict a.element (operand core.vars a.x) u → Done (u ∷ v ∷ y ∷ [])
     either u v y held held_other there (inl it) = subst (λ u. Done (u ∷ v ∷ y ∷ [])) (sym it.high)
         (got_so known around place a b w n m value is values stay c.x site (a ∷ b ∷ c ∷ []) p numbers raised arguments rest e frames core g world structs has stands left room inside below.0 below.1.0 (references world.heap (Ref it.i ∷ v ∷ y ∷ [])) v u held it there (operand core.vars c.x) y

@@ -1,5 +1,5 @@
 -- `get` without another value: `None` for a key that is missing.
-use Rattle.std.proofs.Common.{◌≡◌, ◌≢◌, None, ◌<◌, ◌≤◌, ℕ, ◌+◌, ◌⊎◌, inl, inr, true, false, List, [], ◌∷◌, ◌++◌, length, Option, Some, refl, sym, ap, ◌∙◌, subst}
+use Rattle.std.proofs.Common.{◌≡◌, None, ◌<◌, ◌≤◌, ℕ, ◌+◌, ◌⊎◌, inl, inr, true, false, List, [], ◌∷◌, ◌++◌, length, Option, Some, refl, sym, ap, ◌∙◌, subst}
 use Rattle.std.specs.Prelude.{codes}
 use Rattle.csub_tree.specs.State.{Value, Null, Core}
 use Rattle.csub_tree.specs.Layout.{constant}
@@ -35,6 +35,7 @@ use Rattle.object_laws.specs.Represents.{Represents}
 use Rattle.object_laws.specs.Values.{Given, Holds, Plain, Missing, Stands, missing, may_be_missing}
 use Rattle.object_laws.proofs.Valued.{Dicting, Gone, dict_or_none, function_type, simple_is_there}
 use Rattle.dict_find_laws.specs.Asked.{HasAll}
+use Rattle.dict_find_laws.specs.Keys.{IsThere}
 use Rattle.dict_find_laws.specs.Lookups.{HasValues, IsAskedFor, IsTold, SecondIsThere, ValuesAreGotOrNone, get_asks}
 use Rattle.dict_find_laws.proofs.Arriving.{r, s, shape_is}
 use Rattle.ann_element.specs.declared.element.Element.{Element}
@@ -88,7 +89,7 @@ module _ (known : Known) (around : Around) (place : Place) (a b : Operand) (w : 
     Done vs = Follows 0 known around place p arguments (Here known around place a b w n m value is values stay nothing site (a ∷ b ∷ []) p numbers raised arguments rest e frames core g world structs has stands left room inside below.0 below.1.0 (references world.heap vs)) rest e frames core g raised (references world.heap vs) (length w.body.types) world
         (meant_op known.program w.found.covered (row.Method method site) vs world)
 
-    either : (u v : Meant) → Holds around.layout known g b.element (operand core.vars b.x) v → (is_indexed m ≡ true → v ≢ Nothing)
+    either : (u v : Meant) → Holds around.layout known g b.element (operand core.vars b.x) v → (is_indexed m ≡ true → IsThere v)
         → Dicting around.layout known g a.element (operand core.vars a.x) u ⊎ Gone kind.MaybeDict a.element (operand core.vars a.x) u → Done (u ∷ v ∷ [])
     either u v held there (inl it) = subst (λ u. Done (u ∷ v ∷ [])) (sym it.high)
         (got_so known around place a b w n m value is values stay nothing site (a ∷ b ∷ []) p numbers raised arguments rest e frames core g world structs has stands left room inside below.0 below.1.0 (references world.heap (Ref it.i ∷ v ∷ [])) v u held it there Null Nothing

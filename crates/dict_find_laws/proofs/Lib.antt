@@ -18,6 +18,7 @@ pub mod Hashed
 pub mod Hashing
 pub mod Indexed
 pub mod Keyed
+pub mod Keying
 pub mod Listed
 pub mod Listing
 pub mod Many
@@ -33,6 +34,8 @@ pub mod Scanned
 pub mod Shaped
 pub mod Sought
 pub mod Stage
+pub mod Telling
+pub mod Tupled
 pub mod Within
 pub mod Worth
 pub mod Zipped

@@ -51,7 +51,7 @@ at_most_one _ = omega arith
 
 -- an item of a block between others
 module _ {p : LlProgram} {args : List (List ℕ)} {ops : List LlOp} {e : LlExit} {frames : List Frame} {core : Core} {n b : ℕ} {i x : COperand} where
-  writes_between : (k : ℕ) (bs zs : List (Option Block)) (fields pre post : List Value) (old v : Value) → shape_at (shapes_of p.structs) n ≡ shape_over n k None → core.blocks ≡ bs ++ Some (array_with n fields (pre ++ old ∷ post)) ∷ zs → read core.vars b ≡ Ptr (length bs) → operand core.vars i ≡ Word (pos (length pre))
+  pub writes_between : (k : ℕ) (bs zs : List (Option Block)) (fields pre post : List Value) (old v : Value) → shape_at (shapes_of p.structs) n ≡ shape_over n k None → core.blocks ≡ bs ++ Some (array_with n fields (pre ++ old ∷ post)) ∷ zs → read core.vars b ≡ Ptr (length bs) → operand core.vars i ≡ Word (pos (length pre))
       → operand core.vars x ≡ v → is_unset v ≡ false → Leads p args 1 (At (op.SetItem n b i x ∷ ops) e frames core) [] (At ops e frames (record core { at = core.at + 1; blocks = bs ++ Some (array_with n fields (pre ++ v ∷ post)) ∷ zs }))
   writes_between k bs zs fields pre post old v shape is at place_is value set =
       let items : List Value = pre ++ old ∷ post in

@@ -1,5 +1,5 @@
 -- The value of a key is read.
-use Rattle.std.proofs.Common.{◌≡◌, ◌≢◌, ℤ, ◌&&◌, None, ◌<◌, ◌≤◌, ℕ, ◌+◌, ◌⊎◌, inl, inr, Bool, true, false, ◌||◌, List, [], ◌∷◌, ◌++◌, length, map, Option, Some, pos, refl, sym, ap, ◌∙◌, subst, arith, append_assoc, length-append}
+use Rattle.std.proofs.Common.{◌≡◌, ℤ, ◌&&◌, None, ◌<◌, ◌≤◌, ℕ, ◌+◌, ◌⊎◌, inl, inr, Bool, true, false, ◌||◌, List, [], ◌∷◌, ◌++◌, length, map, Option, Some, pos, refl, sym, ap, ◌∙◌, subst, arith, append_assoc, length-append}
 use Rattle.std.specs.Prelude.{slice_get, not}
 use Rattle.std.proofs.lemmas.List.{length-set}
 use Rattle.rpy_base.specs.declared.outcome.FailName.TheVariants as fail
@@ -57,7 +57,9 @@ use Rattle.object_laws.proofs.Passing.{Passed, none_passed, both_passed, sets_mo
 use Rattle.object_laws.proofs.Valued.{Dicting, Gone, dict_or_none, held_set, stays_held, stays_there, stays_typed}
 use Rattle.dict_laws.specs.Keys.{position_from}
 use Rattle.dict_find_laws.specs.Asked.{HasAll, HasEntry}
-use Rattle.dict_find_laws.specs.Finding.{HasKeys, IsKey, as_key}
+use Rattle.dict_find_laws.proofs.Hashed.{still_so}
+use Rattle.dict_find_laws.specs.Finding.{StandsStill, HasKeys, IsKey, as_key}
+use Rattle.dict_find_laws.specs.Keys.{IsThere}
 use Rattle.dict_find_laws.specs.Lookups.{HasValues, IsAskedFor, IsTold, SecondIsThere, ValuesAreRead}
 use Rattle.dict_find_laws.proofs.Arriving.{Arrived, arrives, entry_written, first, ops0, own_number, r, s, shape_is, types0, types_long, w2}
 use Rattle.dict_find_laws.proofs.Found.{keys_are_found}
@@ -88,7 +90,7 @@ use Rattle.dict_find_laws.proofs.Stage.{five_parts, has_first, has_more}
 
 module _ (layout : Layout) (known : Known) (p : LlProgram) (numbers : Numbers) (raised : ℕ → Value) (args : List (List ℕ)) (n f : ℕ) (m : Mapping) (before core : Core) (g : Ghost) (heap : Heap) (left i : ℕ) (head x : Value) (v : Meant)
     (mapping : mapping_at layout.mappings n ≡ Some m) (keys : HasKeys layout known m) (structs : HasLayout p layout) (asked : HasEntry p layout numbers raised before n f) (stands : Represents layout known g heap left core.blocks core.statics)
-    (d : DictAt layout known g heap core.blocks core.statics m i head) (key : IsKey layout known g m x v) where
+    (d : DictAt layout known g heap core.blocks core.statics m i head) (key : IsKey layout known g m x v) (still : StandsStill m before core) where
   entry_is : slice_get p.graphs f ≡ Some (entry_graph (keyed_number (keyed.Find (dict_at layout n).dict) asked.made).0 (block_of [] (op.Call None (small_number (small.Raise 7) (keyed_number (keyed.Find (dict_at layout n).dict) asked.made).1).0 [] ∷ []) (exit.Fail 1)) (dict_at layout n))
   unfolding dict_graph entry failing
   entry_is = asked.graph
@@ -97,7 +99,7 @@ module _ (layout : Layout) (known : Known) (p : LlProgram) (numbers : Numbers) (
   pub entry_found : Enters p args f (head ∷ as_key m x ∷ []) core (raised 7) (position_from is_equal 0 (keys_of d.pairs) v)
   entry_found = enters p args f (keyed_number (keyed.Find (dict_at layout n).dict) asked.made).0 (small_number (small.Raise 7) (keyed_number (keyed.Find (dict_at layout n).dict) asked.made).1).0 (dict_at layout n) entry_is core head (as_key m x) (raised 7)
       (found_set core.blocks core.statics head _ d.head_is) (as_item_set m.key (stored_key m) x (held_set stands key.held)) asked.raises.0 (position_from is_equal 0 (keys_of d.pairs) v)
-      (λ function block at vars waits. (let it = keys_are_found layout known p numbers raised args n (keyed_number (keyed.Find (dict_at layout n).dict) asked.made).0 m before (record core { function = function; block = block; at = at; vars = vars }) g heap left i head x v mapping keys structs asked.finds stands d key waits in
+      (λ function block at vars waits. (let it = keys_are_found layout known p numbers raised args n (keyed_number (keyed.Find (dict_at layout n).dict) asked.made).0 m before (record core { function = function; block = block; at = at; vars = vars }) g heap left i head x v mapping keys structs asked.finds stands d key still waits in
       record { end = it.end; same = it.same; leads = it.leads }))
 
 -- ---- the operation
@@ -244,7 +246,7 @@ module _ (known : Known) (around : Around) (place : Place) (a b : Operand) (w : 
         (subst (λ l. Follows 0 known around place p arguments (At (dict_ops ++ l) e frames core) rest e frames core g raised (references world.heap (Nothing ∷ v ∷ [])) (length w.body.types) world (failure w.found.covered.attribute 9 fail.Attribute world)) (append_assoc key_ops behind rest ∙ all_behind)
         ((r known around a b n m is w).misses 0 known place p numbers raised arguments (key_ops ++ behind) rest e frames core core g (references world.heap (Nothing ∷ v ∷ [])) (length w.body.types) world has_there gone.may gone.low))
 
-    module _ (v u : Meant) (held : Holds around.layout known g b.element (operand core.vars b.x) v) (found_dict : Dicting around.layout known g a.element (operand core.vars a.x) u) (there : is_indexed m ≡ true → v ≢ Nothing) where
+    module _ (v u : Meant) (held : Holds around.layout known g b.element (operand core.vars b.x) v) (found_dict : Dicting around.layout known g a.element (operand core.vars a.x) u) (there : is_indexed m ≡ true → IsThere v) where
       home : slice_get g.homes found_dict.i ≡ Some (record { sort = DictOf n; head = operand core.vars a.x })
       home = subst (λ k. slice_get g.homes found_dict.i ≡ Some (record { sort = DictOf k; head = operand core.vars a.x })) (ap pointed (sym found_dict.typed ∙ is.dict.typed)) found_dict.home
 
@@ -279,7 +281,7 @@ module _ (known : Known) (around : Around) (place : Place) (a b : Operand) (w : 
       set = ap (λ q. q || (is_unset (as_key m x) || false)) head_set ∙ ap (λ q. q || false) (as_item_set m.key (stored_key m) x (held_set stands held))
 
       looked : Enters p arguments number (head ∷ as_key m x ∷ []) mid (raised 7) at
-      looked = entry_found around.layout known p numbers raised arguments n number m core mid g world.heap world.left found_dict.i head x v is.dict.mapping is.keys structs has_graphs.0 stands_mid d (record { held = stays_held is.stays held; there = there })
+      looked = entry_found around.layout known p numbers raised arguments n number m core mid g world.heap world.left found_dict.i head x v is.dict.mapping is.keys structs has_graphs.0 stands_mid d (record { held = stays_held is.stays held; there = there }) (still_so m core mid went.passed.memory)
 
       meant : meant_op known.program w.found.covered (row.Index literal) (Ref found_dict.i ∷ v ∷ []) world ≡ if_some no_key (value_at v d.pairs) give world
       meant = ap (λ o. index_object w.found.covered v o world) d.object
@@ -364,7 +366,7 @@ module _ (known : Known) (around : Around) (place : Place) (a b : Operand) (w : 
       there_so : Done (u ∷ v ∷ [])
       there_so = subst (λ u. Done (u ∷ v ∷ [])) (sym found_dict.high) (subst (Answered vs) (sym meant) (by_place at refl))
 
-    either : (v u : Meant) → Holds around.layout known g b.element (operand core.vars b.x) v → (is_indexed m ≡ true → v ≢ Nothing) → Dicting around.layout known g a.element (operand core.vars a.x) u ⊎ Gone kind.MaybeDict a.element (operand core.vars a.x) u → Done (u ∷ v ∷ [])
+    either : (v u : Meant) → Holds around.layout known g b.element (operand core.vars b.x) v → (is_indexed m ≡ true → IsThere v) → Dicting around.layout known g a.element (operand core.vars a.x) u ⊎ Gone kind.MaybeDict a.element (operand core.vars a.x) u → Done (u ∷ v ∷ [])
     either v u held there (inl it) = there_so v u held it there
     either v u held there (inr gone) = dict_missing v u gone
 

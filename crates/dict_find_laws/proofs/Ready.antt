@@ -30,13 +30,13 @@ use Rattle.rtyper_data.specs.Converting.{by_small, present}
 use Rattle.rtyper_data.specs.Finding.{small_number}
 use Rattle.rtyper_data.specs.Seen.{Around, Operand, Place, kind_of, type_of, Writing, writing}
 use Rattle.rtyper_dict.specs.Operands.{of_dict, of_dict_or_none, there}
-use Rattle.rtyper_dict.specs.Parts.{stored}
+use Rattle.rtyper_dict.specs.Parts.{as_word, stored}
 use Rattle.lower_laws.specs.Asked.{all_asked, HasSmall}
 use Rattle.lower_laws.specs.Values.{IsBelow}
-use Rattle.lower_laws.proofs.Doing.{after}
+use Rattle.lower_laws.proofs.Doing.{after, same_type_is}
 use Rattle.dict_find_laws.specs.Asked.{HasAll}
 use Rattle.dict_op_laws.specs.Dicts.{if_missing, there_asks}
-use Rattle.object_laws.specs.Dicts.{as_item}
+use Rattle.object_laws.specs.Dicts.{as_item, as_word as word_of}
 use Rattle.object_laws.specs.Known.{Known}
 use Rattle.object_laws.specs.Done.{Follows}
 use Rattle.object_laws.specs.Ghost.{Ghost}
@@ -174,7 +174,7 @@ pub record Stored (t : LlType) (x : COperand) (body : Body) : Type 0 where
   pub new : List LlType
   pub written : stored t (kept_as t) x body ≡ (y, record { types = body.types ++ new; ops = body.ops ++ ops })
   pub inside : IsBelow (length body.types) x → IsBelow (length body.types + length new) y
-  pub enters : (p : LlProgram) (arguments : List (List ℕ)) (rest : List LlOp) (e : LlExit) (frames : List Frame) (core : Core) (g : Ghost) (v : Meant) → length body.types + length new ≤ length core.vars → Stands g t (operand core.vars x) v
+  pub enters : (p : LlProgram) (arguments : List (List ℕ)) (rest : List LlOp) (e : LlExit) (frames : List Frame) (core : Core) (g : Ghost) (v : Meant) → length body.types + length new ≤ length core.vars → (is_plain t ≡ true → Stands g t (operand core.vars x) v)
       → Went p arguments (At (ops ++ rest) e frames core) rest e frames core (length body.types) y (as_item t (kept_as t) (operand core.vars x))
 
 module _ (x : COperand) (body : Body) where
@@ -207,7 +207,7 @@ module _ (x : COperand) (body : Body) where
   byte_word h (text y bytes s) = absurd (cc)
   byte_word h missing = absurd (cc)
 
-  pub stored_key_ready : (t : LlType) → (is_plain t ≡ true) ⊎ (t ≡ type.Ptr 0) → Stored t x body
+  pub stored_key_ready : (t : LlType) → (is_plain t ≡ true) ⊎ ((q : ℕ) × (t ≡ type.Ptr q)) → Stored t x body
   unfolding stored
   stored_key_ready type.Signed h = as_it_is type.Signed refl (λ value. refl)
   stored_key_ready type.Bool h = record {
@@ -218,7 +218,7 @@ module _ (x : COperand) (body : Body) where
     inside = λ below. (let q : k < k + 1 = omega arith in q);
     enters = λ p arguments rest e frames core g v room s. record {
       mid = after core k (as_item type.Bool type.Signed (operand core.vars x));
-      way = turns (as_item type.Bool type.Signed (operand core.vars x)) (flag_word refl s);
+      way = turns (as_item type.Bool type.Signed (operand core.vars x)) (flag_word refl (s refl));
       passed = sets_more k (as_item type.Bool type.Signed (operand core.vars x)) (omega arith) none_passed;
       is = is_set_at core k (as_item type.Bool type.Signed (operand core.vars x)) (omega (arith, room));
     };
@@ -231,14 +231,14 @@ module _ (x : COperand) (body : Body) where
     inside = λ below. (let q : k < k + 1 = omega arith in q);
     enters = λ p arguments rest e frames core g v room s. record {
       mid = after core k (as_item type.Char type.Signed (operand core.vars x));
-      way = turns (as_item type.Char type.Signed (operand core.vars x)) (byte_word refl s);
+      way = turns (as_item type.Char type.Signed (operand core.vars x)) (byte_word refl (s refl));
       passed = sets_more k (as_item type.Char type.Signed (operand core.vars x)) (omega arith) none_passed;
       is = is_set_at core k (as_item type.Char type.Signed (operand core.vars x)) (omega (arith, room));
     };
   }
-  stored_key_ready (type.Ptr n) (inr h) = subst (λ t. Stored t x body) (sym h) (as_it_is (type.Ptr 0) refl (λ value. refl))
+  stored_key_ready (type.Ptr n) (inr h) = as_it_is (type.Ptr n) (ap (λ c. if c then (x, body) else as_word (type.Ptr n) x body) (same_type_is (type.Ptr n))) (λ value. ap (λ c. if c then value else word_of value) (same_type_is (type.Ptr n)))
   stored_key_ready (type.Ptr n) (inl h) = absurd (cc)
   stored_key_ready type.Void (inl h) = absurd (cc)
-  stored_key_ready type.Void (inr h) = absurd (cc)
+  stored_key_ready type.Void (inr h) = absurd (let q = h.1 in cc)
   stored_key_ready type.Fn (inl h) = absurd (cc)
-  stored_key_ready type.Fn (inr h) = absurd (cc)
+  stored_key_ready type.Fn (inr h) = absurd (let q = h.1 in cc)

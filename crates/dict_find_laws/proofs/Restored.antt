@@ -49,14 +49,14 @@ pub record IsOf (t : LlType) (x : Value) : Type 0 where
   pub flags : t ≡ type.Bool → (b : Bool) × (x ≡ Flag b)
   pub bytes : t ≡ type.Char → (b : ℕ) × (b < 256) × (x ≡ Byte b)
 
-flag_in : {g : Ghost} {t : LlType} {x : Value} {v : Meant} → t ≡ type.Bool → Stands g t x v → (b : Bool) × (x ≡ Flag b)
+pub flag_in : {g : Ghost} {t : LlType} {x : Value} {v : Meant} → t ≡ type.Bool → Stands g t x v → (b : Bool) × (x ≡ Flag b)
 flag_in h (flag b) = (b, refl)
 flag_in h (word z f) = absurd (cc)
 flag_in h (byte b s) = absurd (cc)
 flag_in h (text x bytes s) = absurd (cc)
 flag_in h missing = absurd (cc)
 
-byte_in : {g : Ghost} {t : LlType} {x : Value} {v : Meant} → t ≡ type.Char → Stands g t x v → (b : ℕ) × (b < 256) × (x ≡ Byte b)
+pub byte_in : {g : Ghost} {t : LlType} {x : Value} {v : Meant} → t ≡ type.Char → Stands g t x v → (b : ℕ) × (b < 256) × (x ≡ Byte b)
 byte_in h (byte b s) = (b, s, refl)
 byte_in h (word z f) = absurd (cc)
 byte_in h (flag b) = absurd (cc)

@@ -1,5 +1,5 @@
 -- Whether a key has an entry.
-use Rattle.std.proofs.Common.{◌≡◌, ◌≢◌, ◌<◌, ◌≤◌, ℕ, ◌+◌, ◌⊎◌, inl, inr, Bool, true, false, ◌||◌, List, [], ◌∷◌, ◌++◌, length, Option, Some, pos, refl, sym, ap, ◌∙◌, subst, arith, append_assoc, length-append}
+use Rattle.std.proofs.Common.{◌≡◌, ◌<◌, ◌≤◌, ℕ, ◌+◌, ◌⊎◌, inl, inr, Bool, true, false, ◌||◌, List, [], ◌∷◌, ◌++◌, length, Option, Some, pos, refl, sym, ap, ◌∙◌, subst, arith, append_assoc, length-append}
 use Rattle.std.specs.Prelude.{slice_get, is_some, option_map, not}
 use Rattle.std.proofs.lemmas.List.{append-nil, length-set}
 use Rattle.rpy_base.specs.declared.outcome.FailName.TheVariants as fail
@@ -10,7 +10,7 @@ use Rattle.csub_tree.specs.declared.tree.CBinary.TheVariants as binary
 use Rattle.csub_tree.specs.declared.tree.CUnary.TheVariants as unary
 use Rattle.csub_tree.specs.declared.tree.COperand.{COperand}
 use Rattle.csub_tree.specs.declared.tree.COperand.TheVariants.{Var}
-use Rattle.rpy_tree.specs.Value.{Value as Meant, Flag as MeantFlag, Nothing, Ref}
+use Rattle.rpy_tree.specs.Value.{Value as Meant, Word as MeantWord, Flag as MeantFlag, Text, Nothing, Tuple, Fun, Ref}
 use Rattle.rpy_tree.specs.declared.syntax.CmpOp.{CmpOp}
 use Rattle.rpy_tree.specs.declared.syntax.CmpOp.TheVariants as compared
 use Rattle.rpy_meaning.specs.declared.row.Covers.{Covers}
@@ -60,17 +60,18 @@ use Rattle.object_laws.specs.Done.{Follows, HasLayout, references}
 use Rattle.object_laws.specs.Ghost.{Ghost, DictOf}
 use Rattle.object_laws.specs.Known.{Known}
 use Rattle.object_laws.specs.Represents.{Represents}
-use Rattle.object_laws.specs.Values.{Given, Holds, Stands, word, flag, byte, text, missing}
+use Rattle.object_laws.specs.Values.{Given, Holds}
 use Rattle.object_laws.proofs.Blocks.{found_set}
 use Rattle.object_laws.proofs.Passing.{Passed, sets_more, is_set_at, calls_at}
 use Rattle.object_laws.proofs.Valued.{Dicting, Gone, dict_or_none, held_set, stays_held}
 use Rattle.dict_laws.specs.Keys.{position_from}
 use Rattle.dict_find_laws.specs.Asked.{HasAll, HasFind}
+use Rattle.dict_find_laws.proofs.Hashed.{still_so}
 use Rattle.dict_find_laws.specs.Finding.{as_key, place_word}
+use Rattle.dict_find_laws.specs.Keys.{IsThere}
 use Rattle.dict_find_laws.specs.Lookups.{FirstIsThere, IsAskedFor, IsTold, KeysAreLookedFor}
 use Rattle.dict_find_laws.proofs.Arriving.{Arrived, arrives, entry_written, first, ops0, own_number, r, s, shape_is, types0, types_long, w2}
 use Rattle.dict_find_laws.proofs.Found.{keys_are_found}
-use Rattle.dict_find_laws.proofs.Hashed.{key_stands}
 use Rattle.dict_find_laws.proofs.Sought.{has_is, is_at_least}
 use Rattle.dict_find_laws.proofs.Worth.{as_item_set}
 use Rattle.dict_find_laws.proofs.Stage.{five_parts, has_first, has_more}
@@ -80,12 +81,14 @@ record Asks (c : Covers) (f : Bool → Bool) (v : Meant) : Type 0 where
   there : (i : ℕ) (world : World) → meant_within c f v (Ref i) world ≡ flag_if_any (option_map f (is_in_object v (slice_get world.heap i))) world
   none : (world : World) → meant_within c f v Nothing world ≡ failure c.attribute 9 fail.Attribute world
 
-asks_of : (c : Covers) (f : Bool → Bool) {g : Ghost} {t : LlType} {x : Value} {v : Meant} → Stands g t x v → Asks c f v
-asks_of c f (word z h) = record { there = λ i world. refl; none = λ world. refl }
-asks_of c f (flag b) = record { there = λ i world. refl; none = λ world. refl }
-asks_of c f (byte b h) = record { there = λ i world. refl; none = λ world. refl }
-asks_of c f (text x bytes h) = record { there = λ i world. refl; none = λ world. refl }
-asks_of c f missing = record { there = λ i world. refl; none = λ world. refl }
+asks_of : (c : Covers) (f : Bool → Bool) (v : Meant) → Asks c f v
+asks_of c f (MeantWord z) = record { there = λ i world. refl; none = λ world. refl }
+asks_of c f (MeantFlag b) = record { there = λ i world. refl; none = λ world. refl }
+asks_of c f (Text bytes) = record { there = λ i world. refl; none = λ world. refl }
+asks_of c f Nothing = record { there = λ i world. refl; none = λ world. refl }
+asks_of c f (Tuple vs) = record { there = λ i world. refl; none = λ world. refl }
+asks_of c f (Fun g) = record { there = λ i world. refl; none = λ world. refl }
+asks_of c f (Ref j) = record { there = λ i world. refl; none = λ world. refl }
 
 -- the answer, or the opposite
 abbrev turned : Bool → Bool → Bool
@@ -208,16 +211,13 @@ module _ (reversed : Bool) (o : CmpOp) (known : Known) (around : Around) (place 
     has_graph : HasFind p around.layout numbers raised core n number
     has_graph = (has_more p around numbers raised core (there_asks around b w.found.covered) (Make looks ∷ []) w.found has).0
 
-    key_here : {x : Value} {v : Meant} → Holds around.layout known g a.element x v → Stands g m.key x v
-    key_here held = key_stands around.layout known m is.keys (stays_held is.stays held)
-
     dict_missing : (v u : Meant) → Holds around.layout known g a.element (operand core.vars a.x) v → Gone kind.MaybeDict b.element (operand core.vars b.x) u → Done (v ∷ u ∷ [])
     dict_missing v u held gone = subst (λ u. Done (v ∷ u ∷ [])) (sym gone.high)
-        (subst (λ answer. Follows 0 known around place p arguments Here rest e frames core g raised (references world.heap (v ∷ Nothing ∷ [])) (length w.body.types) world answer) (sym (means v Nothing world ∙ (asks_of w.found.covered (turned reversed) (key_here held)).none world))
+        (subst (λ answer. Follows 0 known around place p arguments Here rest e frames core g raised (references world.heap (v ∷ Nothing ∷ [])) (length w.body.types) world answer) (sym (means v Nothing world ∙ (asks_of w.found.covered (turned reversed) v).none world))
         (subst (λ l. Follows 0 known around place p arguments (At (dict_ops ++ l) e frames core) rest e frames core g raised (references world.heap (v ∷ Nothing ∷ [])) (length w.body.types) world (failure w.found.covered.attribute 9 fail.Attribute world)) (append_assoc key_ops behind rest)
         ((r known around b a n m is w).misses 0 known place p numbers raised arguments (key_ops ++ behind) rest e frames core core g (references world.heap (v ∷ Nothing ∷ [])) (length w.body.types) world has_there gone.may gone.low)))
 
-    module _ (v u : Meant) (held : Holds around.layout known g a.element (operand core.vars a.x) v) (found_dict : Dicting around.layout known g b.element (operand core.vars b.x) u) (there : is_indexed m ≡ true → v ≢ Nothing) where
+    module _ (v u : Meant) (held : Holds around.layout known g a.element (operand core.vars a.x) v) (found_dict : Dicting around.layout known g b.element (operand core.vars b.x) u) (there : is_indexed m ≡ true → IsThere v) where
       home : slice_get g.homes found_dict.i ≡ Some (record { sort = DictOf n; head = operand core.vars b.x })
       home = subst (λ k. slice_get g.homes found_dict.i ≡ Some (record { sort = DictOf k; head = operand core.vars b.x })) (ap pointed (sym found_dict.typed ∙ is.dict.typed)) found_dict.home
 
@@ -243,7 +243,7 @@ module _ (reversed : Bool) (o : CmpOp) (known : Known) (around : Around) (place 
       x = operand core.vars a.x
 
       comes : (waits : List Frame) → Comes p arguments (Calling number (operand core.vars b.x ∷ as_key m x ∷ []) waits mid) [] (place_word at) waits mid
-      comes waits = (let it = keys_are_found around.layout known p numbers raised arguments n number m core mid g world.heap world.left found_dict.i (operand core.vars b.x) x v is.dict.mapping is.keys structs has_graph stands_mid d (record { held = stays_held is.stays held; there = there }) waits in
+      comes waits = (let it = keys_are_found around.layout known p numbers raised arguments n number m core mid g world.heap world.left found_dict.i (operand core.vars b.x) x v is.dict.mapping is.keys structs has_graph stands_mid d (record { held = stays_held is.stays held; there = there }) (still_so m core mid went.passed.memory) waits in
           record { end = it.end; same = it.same; leads = it.leads })
 
       same : operands mid.vars (ready_x ∷ ready_y ∷ []) ≡ operand core.vars b.x ∷ as_key m x ∷ []
@@ -285,7 +285,7 @@ module _ (reversed : Bool) (o : CmpOp) (known : Known) (around : Around) (place 
       )
 
       meant : meant_op known.program w.found.covered (row.Compare o) (v ∷ Ref found_dict.i ∷ []) world ≡ Gives (MeantFlag (turned reversed t)) world
-      meant = means v (Ref found_dict.i) world ∙ (asks_of w.found.covered (turned reversed) (key_here held)).there found_dict.i world ∙ ap (λ o. flag_if_any (option_map (turned reversed) (is_in_object v o)) world) d.object
+      meant = means v (Ref found_dict.i) world ∙ (asks_of w.found.covered (turned reversed) v).there found_dict.i world ∙ ap (λ o. flag_if_any (option_map (turned reversed) (is_in_object v o)) world) d.object
           ∙ ap (λ b. flag_if_any (Some (turned reversed b)) world) (has_is v d.pairs 0)
 
       there_so : Done (v ∷ u ∷ [])
@@ -293,7 +293,7 @@ module _ (reversed : Bool) (o : CmpOp) (known : Known) (around : Around) (place 
           (subst (λ answer. Follows 0 known around place p arguments Here rest e frames core g raised (references world.heap (v ∷ Ref found_dict.i ∷ [])) (length w.body.types) world answer) (sym meant)
           (gives_flags around raised flags (references world.heap (v ∷ Ref found_dict.i ∷ [])) (length w.body.types) it.0 (turned reversed t) stands left it.1 (omega (arith, room, inside)) (on way it.2))))
 
-    either : (v u : Meant) → Holds around.layout known g a.element (operand core.vars a.x) v → (is_indexed m ≡ true → v ≢ Nothing) → Dicting around.layout known g b.element (operand core.vars b.x) u ⊎ Gone kind.MaybeDict b.element (operand core.vars b.x) u → Done (v ∷ u ∷ [])
+    either : (v u : Meant) → Holds around.layout known g a.element (operand core.vars a.x) v → (is_indexed m ≡ true → IsThere v) → Dicting around.layout known g b.element (operand core.vars b.x) u ⊎ Gone kind.MaybeDict b.element (operand core.vars b.x) u → Done (v ∷ u ∷ [])
     either v u held there (inl it) = there_so v u held it there
     either v u held there (inr gone) = dict_missing v u held gone
 

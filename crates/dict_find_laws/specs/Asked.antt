@@ -1,5 +1,5 @@
 -- Graphs that look into dicts stand at their numbers, with those that they call.
-use Rattle.std.specs.Prelude.{◌≡◌, ℕ, true, List, [], ◌∷◌, Some, slice_get}
+use Rattle.std.specs.Prelude.{◌≡◌, ◌==◌, ℕ, zero, suc, true, false, List, [], ◌∷◌, Some, slice_get}
 use Rattle.csub_tree.specs.State.{Value, Core}
 use Rattle.ll_code.specs.declared.program.LlType.{LlType}
 use Rattle.ll_code.specs.declared.program.LlType.TheVariants as type
@@ -11,33 +11,62 @@ use Rattle.rtyper_data.specs.declared.found.Found.{Found}
 use Rattle.rtyper_data.specs.declared.small.Keyed.{Keyed}
 use Rattle.rtyper_data.specs.declared.small.Keyed.TheVariants as keyed
 use Rattle.rtyper_data.specs.declared.small.Small.TheVariants as small
-use Rattle.rtyper_data.specs.Graphs.{body_of}
+use Rattle.rtyper_data.specs.Graphs.{body_of, fields_at}
 use Rattle.rtyper_data.specs.Seen.{writing}
 use Rattle.rtyper_dict.specs.declared.parts.DictShape.{DictShape}
 use Rattle.rtyper_dict.specs.Graphs.{dict_graph}
+use Rattle.rtyper_dict.specs.Hashing.{key_item}
 use Rattle.rtyper_dict.specs.Listing.{get_types, got}
 use Rattle.rtyper_dict.specs.Looking.{find_reads, find_types, is_key, test_of}
 use Rattle.rtyper_dict.specs.Parts.{dict_at, keyed_number}
 use Rattle.lower_laws.specs.Asked.{Ask, Help, Make, Has as HasOther, AllRaise}
 use Rattle.list_laws.specs.Asked.{HasMake}
 use Rattle.object_laws.specs.Done.{AllAsked}
+use Rattle.conversion_laws.specs.Asked.{Has as HasConversion}
 use Rattle.dict_op_laws.specs.Asked.{HasKeyed}
 
--- the graph that hashes keys of this type, and that for words, by which it mixes the hash of a string
-pub record HasHash (p : LlProgram) (layout : Layout) (t : LlType) (f : ℕ) : Type 0 where
+-- ---- hashes
+
+-- the graphs that hash the fields of a tuple are asked for in turn, and are those of their types
+abbrev pub FieldsHashed : (LlType → ℕ → Type 0) → List LlType → Found → Type 0
+FieldsHashed Hashes [] found = Unit {0}
+FieldsHashed Hashes (t ∷ ts) found = Hashes (key_item t) (keyed_number (keyed.Hash (key_item t)) found).0 × FieldsHashed Hashes ts (keyed_number (keyed.Hash (key_item t)) found).1
+
+abbrev pub fields_asked : List LlType → Found → Found
+fields_asked [] found = found
+fields_asked (t ∷ ts) found = fields_asked ts (keyed_number (keyed.Hash (key_item t)) found).1
+
+-- The graph that hashes keys of this type, and that for words, by which it mixes the hash of a string or a tuple. Of a tuple it calls those
+-- that hash its fields.
+pub record HashesBy (Hashes : LlType → ℕ → Type 0) (p : LlProgram) (layout : Layout) (t : LlType) (f : ℕ) : Type 0 where
   pub made : Found
   pub graph : slice_get p.graphs f ≡ Some (dict_graph layout (keyed.Hash t) made).0
   pub words : t ≡ type.Ptr 0 → HasKeyed p layout (keyed.Hash type.Signed) (keyed_number (keyed.Hash type.Signed) made).0
+  pub fields : (n : ℕ) → t ≡ type.Ptr n → (n == 0) ≡ false → FieldsHashed Hashes (fields_at layout n) made
+  pub mixes : (n : ℕ) → t ≡ type.Ptr n → (n == 0) ≡ false → HasKeyed p layout (keyed.Hash type.Signed) (keyed_number (keyed.Hash type.Signed) (fields_asked (fields_at layout n) made)).0
+
+-- with what it asks for, so many times
+abbrev pub HashesTo : ℕ → LlProgram → Layout → LlType → ℕ → Type 0
+HashesTo zero p layout t f = Unit {0}
+HashesTo (suc k) p layout t f = HashesBy (HashesTo k p layout) p layout t f
+
+-- any number of times
+abbrev pub HasHash : LlProgram → Layout → LlType → ℕ → Type 0
+HasHash p layout t f = (k : ℕ) → HashesTo k p layout t f
+
+-- ---- looking for a key
 
 -- what is asked for behind the comparison of keys
 abbrev pub compared : Layout → DictShape → Found → Found
 compared layout d found = (is_key layout d 14 (test_of (find_types d) (find_reads d) found)).1.found
 
--- the graph that looks for a key, the helper by which it compares strings, and the graph by which it hashes where there is an index
+-- the graph that looks for a key, the helper by which it compares strings, or the graph by which it compares tuples, with what that asks for,
+-- and the graph by which it hashes where there is an index
 pub record HasFind (p : LlProgram) (layout : Layout) (numbers : Numbers) (raised : ℕ → Value) (core : Core) (n f : ℕ) : Type 0 where
   pub made : Found
   pub graph : slice_get p.graphs f ≡ Some (dict_graph layout (keyed.Find n) made).0
   pub texts : (dict_at layout n).stored_key ≡ type.Ptr 0 → HasOther p layout numbers raised core (Help helper.StrEqual) made
+  pub tuples : (q : ℕ) → (dict_at layout n).stored_key ≡ type.Ptr q → (q == 0) ≡ false → HasConversion p layout numbers raised core (Make (small.Equal q q)) made
   pub hashes : (dict_at layout n).is_indexed ≡ true → HasHash p layout (dict_at layout n).stored_key (keyed_number (keyed.Hash (dict_at layout n).stored_key) (compared layout (dict_at layout n) made)).0
 
 -- the graph that gives the place of a key which has to be there, what it looks by, and what raises the exception of a missing key

@@ -1,8 +1,8 @@
--- Keys are looked for in dicts, where no key and no value is converted on the way. Keys that are tuples are left out, and `None` as a key
--- where the dict has an index.
-use Rattle.std.specs.Prelude.{◌≡◌, ◌≢◌, ◌⊎◌, ℕ, ℤ, true, List, [], ◌∷◌, ◌++◌, Option, Some, codes}
+-- Keys are looked for in dicts, where no key and no value is converted on the way. `None`, as a key or a part of one, is left out where the
+-- dict has an index.
+use Rattle.std.specs.Prelude.{◌≡◌, ◌⊎◌, ℕ, ℤ, true, List, [], ◌∷◌, ◌++◌, Option, Some, codes}
 use Rattle.ann_element.specs.declared.element.Element.{Element}
-use Rattle.rpy_tree.specs.Value.{Value as Meant, Nothing}
+use Rattle.rpy_tree.specs.Value.{Value as Meant}
 use Rattle.rpy_tree.specs.declared.syntax.CmpOp.{CmpOp}
 use Rattle.rpy_meaning.specs.declared.row.Covers.{Covers}
 use Rattle.rpy_meaning.specs.declared.row.RowOp.{RowOp}
@@ -25,6 +25,7 @@ use Rattle.object_laws.specs.Values.{may_be_missing}
 use Rattle.dict_op_laws.specs.Dicts.{IsDictOf, there_asks}
 use Rattle.dict_find_laws.specs.Asked.{Has}
 use Rattle.dict_find_laws.specs.Finding.{HasKeys}
+use Rattle.dict_find_laws.specs.Keys.{IsThere}
 
 -- what is written asks for this, and does what the operation does of such values, with no block more
 abbrev pub IsTold : (World → List Meant → Type 0) → Known → Around → RowOp → Covers → List Ask → Place → List Operand → Writing → Type 0
@@ -43,10 +44,10 @@ pub record HasValues (around : Around) (known : Known) (m : Mapping) (value : El
   pub value_is : known.items m.dict ≡ Some value
   pub typed : m.value ≡ field_type (element_type around.layout value)
 
--- where there is an index, the first operand, or the second one, is not `None`
+-- where there is an index, neither the first operand, or the second one, nor a part of it is `None`
 abbrev pub FirstIsThere : Mapping → World → List Meant → Type 0
 FirstIsThere m world [] = Unit {0}
-FirstIsThere m world (v ∷ vs) = is_indexed m ≡ true → v ≢ Nothing
+FirstIsThere m world (v ∷ vs) = is_indexed m ≡ true → IsThere v
 
 abbrev pub SecondIsThere : Mapping → World → List Meant → Type 0
 SecondIsThere m world [] = Unit {0}

@@ -1,0 +1,10 @@
+pub mod Arguments
+pub mod Behind
+pub mod Functions
+pub mod Initialised
+pub mod Looked
+pub mod Methods
+pub mod Resulting
+pub mod Several
+pub mod Standing
+pub mod Through

@@ -1,0 +1,15 @@
+pub mod Certain
+pub mod Composed
+pub mod Covered
+pub mod Dicts
+pub mod First
+pub mod Getting
+pub mod GettingAs
+pub mod GotAs
+pub mod Kept
+pub mod Keyed
+pub mod Operands
+pub mod Reading
+pub mod Setting
+pub mod Valued
+pub mod Within
