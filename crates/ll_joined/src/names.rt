@@ -1,4 +1,7 @@
 // Operations with other names for their variables.
+ghost use Rattle.std.specs.Prelude.{◌≡◌, ◌++◌, map, option_map, IfOk, OnOk};
+ghost use Rattle.ll_joined.specs.Named as spec;
+
 use csub_tree::COperand;
 use ll_code::{LlExit, LlLink, LlOp, LlType, VarId};
 use rpy_base::{NoMem, Seq};
@@ -13,17 +16,21 @@ pub enum Names<'a> {
     Values(&'a [COperand]),
 }
 
-fn by_pairs(pairs: &[(VarId, VarId)], v: VarId) -> VarId {
-    for (from, to) in pairs {
-        if *from == v {
-            return *to;
+fn by_pairs(pairs: &[(VarId, VarId)], v: VarId) -> VarId
+    ensures { result ≡ spec.by_pairs pairs.now v }
+{
+    for pair in pairs {
+        if pair.0 == v {
+            return pair.1;
         }
     }
     v
 }
 
 impl<'a> Names<'a> {
-    pub fn of(self, v: VarId) -> VarId {
+    pub fn of(self, v: VarId) -> VarId
+        ensures { result ≡ spec.name_of (spec.naming self.entry) v }
+    {
         match self {
             Names::Pairs(pairs) => by_pairs(pairs, v),
             Names::Places(places) => match places.get(v as usize) {
@@ -37,7 +44,9 @@ impl<'a> Names<'a> {
         }
     }
 
-    fn value(self, v: VarId) -> COperand {
+    fn value(self, v: VarId) -> COperand
+        ensures { result ≡ spec.value_of (spec.naming self.entry) v }
+    {
         match self {
             Names::Values(values) => match values.get(v as usize) {
                 Some(value) => *value,
@@ -47,7 +56,9 @@ impl<'a> Names<'a> {
         }
     }
 
-    pub fn operand(self, x: COperand) -> COperand {
+    pub fn operand(self, x: COperand) -> COperand
+        ensures { result ≡ spec.operand_by (spec.naming self.entry) x }
+    {
         match x {
             COperand::Var(v) => self.value(v),
             COperand::Const(c) => COperand::Const(c),
@@ -55,7 +66,9 @@ impl<'a> Names<'a> {
     }
 }
 
-pub fn operands(alloc: Global, names: Names<'_>, xs: &[COperand]) -> Result<Seq<COperand>, NoMem> {
+pub fn operands(alloc: Global, names: Names<'_>, xs: &[COperand]) -> Result<Seq<COperand>, NoMem>
+    ensures { IfOk result (λ made. made ≡ map (spec.operand_by (spec.naming names.entry)) xs.now) }
+{
     let mut named = Seq::new(alloc);
     for x in xs {
         named.push(names.operand(*x))?;
@@ -63,7 +76,9 @@ pub fn operands(alloc: Global, names: Names<'_>, xs: &[COperand]) -> Result<Seq<
     Ok(named)
 }
 
-pub fn variables(alloc: Global, names: Names<'_>, given: &[VarId]) -> Result<Seq<VarId>, NoMem> {
+pub fn variables(alloc: Global, names: Names<'_>, given: &[VarId]) -> Result<Seq<VarId>, NoMem>
+    ensures { IfOk result (λ made. made ≡ map (spec.name_of (spec.naming names.entry)) given.now) }
+{
     let mut named = Seq::new(alloc);
     for v in given {
         named.push(names.of(*v))?;
@@ -71,10 +86,20 @@ pub fn variables(alloc: Global, names: Names<'_>, given: &[VarId]) -> Result<Seq
     Ok(named)
 }
 
+/// The variables themselves.
+pub fn copied(alloc: Global, given: &[VarId]) -> Result<Seq<VarId>, NoMem>
+    ensures { IfOk result (λ made. made ≡ given.now) }
+{
+    let given = Vec::from_slice(alloc, given)?;
+    Ok(Seq::from_vec(given))
+}
+
 // ---- operations
 
 // One that calls nothing and reads or makes a block of memory, or else `ExcClear`.
-fn of_memory(names: Names<'_>, op: &LlOp) -> LlOp {
+fn of_memory(names: Names<'_>, op: &LlOp) -> LlOp
+    ensures { result ≡ spec.of_memory (spec.naming names.entry) op.now }
+{
     match op {
         LlOp::GetField(a, n, b, k) => LlOp::GetField(names.of(*a), *n, names.of(*b), *k),
         LlOp::SetField(n, b, k, x) => LlOp::SetField(*n, names.of(*b), *k, names.operand(*x)),
@@ -92,7 +117,9 @@ fn of_memory(names: Names<'_>, op: &LlOp) -> LlOp {
 }
 
 // One that calls nothing.
-fn of_values(names: Names<'_>, op: &LlOp) -> LlOp {
+fn of_values(names: Names<'_>, op: &LlOp) -> LlOp
+    ensures { result ≡ spec.of_values (spec.naming names.entry) op.now }
+{
     match op {
         LlOp::Set(a, x) => LlOp::Set(names.of(*a), names.operand(*x)),
         LlOp::Unary(a, o, x) => LlOp::Unary(names.of(*a), *o, names.operand(*x)),
@@ -108,24 +135,39 @@ fn of_values(names: Names<'_>, op: &LlOp) -> LlOp {
         LlOp::Arg(a, x, y) => LlOp::Arg(names.of(*a), names.operand(*x), names.operand(*y)),
         LlOp::Put(x) => LlOp::Put(names.operand(*x)),
         LlOp::Raise(v) => LlOp::Raise(names.of(*v)),
-        _ => of_memory(names, op),
+        LlOp::GetField(_, _, _, _)
+        | LlOp::SetField(_, _, _, _)
+        | LlOp::GetItem(_, _, _, _)
+        | LlOp::SetItem(_, _, _, _)
+        | LlOp::New(_, _, _)
+        | LlOp::NewArray(_, _, _, _)
+        | LlOp::Free(_)
+        | LlOp::Call(_, _, _)
+        | LlOp::CallFn(_, _, _, _, _)
+        | LlOp::ExcClear => of_memory(names, op),
     }
 }
 
-fn into(names: Names<'_>, a: Option<VarId>) -> Option<VarId> {
+fn into(names: Names<'_>, a: Option<VarId>) -> Option<VarId>
+    ensures { result ≡ option_map (spec.name_of (spec.naming names.entry)) a }
+{
     match a {
         None => None,
         Some(a) => Some(names.of(a)),
     }
 }
 
-fn types(alloc: Global, kinds: &[LlType]) -> Result<Seq<LlType>, NoMem> {
+fn types(alloc: Global, kinds: &[LlType]) -> Result<Seq<LlType>, NoMem>
+    ensures { IfOk result (λ made. made ≡ kinds.now) }
+{
     let kinds = Vec::from_slice(alloc, kinds)?;
     Ok(Seq::from_vec(kinds))
 }
 
 /// An operation with these names.
-pub fn named(alloc: Global, names: Names<'_>, op: &LlOp) -> Result<LlOp, NoMem> {
+pub fn named(alloc: Global, names: Names<'_>, op: &LlOp) -> Result<LlOp, NoMem>
+    ensures { IfOk result (λ made. made ≡ spec.named (spec.naming names.entry) op.now) }
+{
     match op {
         LlOp::Call(a, graph, xs) => {
             let xs = operands(alloc, names, xs.as_slice())?;
@@ -146,7 +188,9 @@ pub fn push_named(
     names: Names<'_>,
     ops: &[LlOp],
     all: &mut Seq<LlOp>,
-) -> Result<(), NoMem> {
+) -> Result<(), NoMem>
+    ensures { OnOk result (all.new ≡ all.old ++ map (spec.named (spec.naming names.entry)) ops.now) }
+{
     for op in ops {
         all.push(named(alloc, names, op)?)?;
     }
@@ -156,14 +200,18 @@ pub fn push_named(
 // ---- exits
 
 /// The numbers of blocks: what stands at a number's place, or else that.
-pub fn number_of(numbers: &[u64], to: u64) -> u64 {
+pub fn number_of(numbers: &[u64], to: u64) -> u64
+    ensures { result ≡ spec.number_of numbers.now to }
+{
     match numbers.get(to as usize) {
         None => to,
         Some(number) => *number,
     }
 }
 
-fn link(alloc: Global, names: Names<'_>, numbers: &[u64], given: &LlLink) -> Result<LlLink, NoMem> {
+fn link(alloc: Global, names: Names<'_>, numbers: &[u64], given: &LlLink) -> Result<LlLink, NoMem>
+    ensures { IfOk result (λ made. made ≡ spec.link_by (spec.naming names.entry) numbers.now given.now) }
+{
     Ok(LlLink {
         to: number_of(numbers, given.to),
         args: operands(alloc, names, given.args.as_slice())?,
@@ -175,7 +223,9 @@ fn link_or_none(
     names: Names<'_>,
     numbers: &[u64],
     given: &Option<LlLink>,
-) -> Result<Option<LlLink>, NoMem> {
+) -> Result<Option<LlLink>, NoMem>
+    ensures { IfOk result (λ made. made ≡ option_map (spec.link_by (spec.naming names.entry) numbers.now) given.now) }
+{
     match given {
         None => Ok(None),
         Some(given) => Ok(Some(link(alloc, names, numbers, given)?)),
@@ -188,7 +238,9 @@ pub fn exit(
     names: Names<'_>,
     numbers: &[u64],
     given: &LlExit,
-) -> Result<LlExit, NoMem> {
+) -> Result<LlExit, NoMem>
+    ensures { IfOk result (λ made. made ≡ spec.exit_by (spec.naming names.entry) numbers.now given.now) }
+{
     match given {
         LlExit::Goto(to) => Ok(LlExit::Goto(link(alloc, names, numbers, to)?)),
         LlExit::If(v, there, elsewhere) => {

@@ -1,0 +1,12 @@
+pub mod Asked
+pub mod Closed
+pub mod Counting
+pub mod Kept
+pub mod Moving
+pub mod Renaming
+pub mod Runs
+pub mod Standing
+pub mod Statics
+pub mod Steps
+pub mod Straightened
+pub mod Typing

@@ -1,0 +1,4 @@
+pub mod Asks
+pub mod Fewer
+pub mod Renamed
+pub mod Straight
