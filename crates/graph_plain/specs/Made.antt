@@ -16,7 +16,8 @@ use Rattle.flow_meaning.specs.Meaning.{start}
 use Rattle.flow_space.specs.Placed.{StandFor}
 use Rattle.flow_space.specs.Trees.{functions_of}
 use Rattle.graph_told.specs.Plain.{ArePlain}
-use Rattle.graph_told.specs.Told.{IsTold, Reaches}
+use Rattle.flow_runs.specs.Runs.{Reaches}
+use Rattle.graph_told.specs.Told.{IsTold}
 
 abbrev pub MadeTreesArePlain : Type 0
 MadeTreesArePlain = (p : Program) (r : Resolved) → IsMadeOf p r → ArePlain (functions_of r)

@@ -21,7 +21,8 @@ use Rattle.flow_meaning.specs.Machine.{Bound, Frame, State, Calling, At as Stood
 use Rattle.flow_stands.specs.Places.{range, Jump, Shape, Go, Fork, Does, Plain, GiveBack, GiveUp, shift, link, links, numbered, act}
 use Rattle.graph_shapes.specs.Shapes.{Joins, HasShape}
 use Rattle.graph_shapes.proofs.Parts.{inputs_are, shift_count, range_count}
-use Rattle.graph_told.specs.Told.{IsTold, Reaches, Here, Then}
+use Rattle.flow_runs.specs.Runs.{Reaches, Here, Then}
+use Rattle.graph_told.specs.Told.{IsTold}
 use Rattle.graph_told.proofs.Facts.{At, Facts, pick, with_value, Free, AllFree, Keeps, KeptAt, Operates}
 use Rattle.graph_told.proofs.Environments.{names, places, passed_names, taken_names, values_are, passed_is, bound_is}
 
@@ -261,8 +262,8 @@ module _ (P : Program) (gs : Graphs) (J : ℕ → Facts)
   sound_step (Throwing r (frame ∷ frames) w) t sound e = thrown_step r frame frames w t sound.0 sound.1 e
 
   pub sound_reaches : (s t : State) → Reaches P gs s t → Sound s → Sound t
-  sound_reaches _ _ (Here s) sound = sound
-  sound_reaches _ t (Then s mid _ e rest) sound = sound_reaches mid t rest (sound_step s mid sound e)
+  sound_reaches _ _ Here sound = sound
+  sound_reaches s t (Then {mid = mid} e rest) sound = sound_reaches mid t rest (sound_step s mid sound e)
 
   -- ---- what is told
 

@@ -12,8 +12,9 @@ use Rattle.resolved_meaning.specs.Trees.{program_of}
 use Rattle.flow_graph.specs.declared.graph.Exit.{Exit}
 use Rattle.flow_graph.specs.declared.graph.Graphs.{Graphs}
 use Rattle.flow_graph.specs.declared.graph.Op.{Op}
-use Rattle.flow_meaning.specs.Machine.{Bound, Frame, State, At, Goes, step, values_of}
+use Rattle.flow_meaning.specs.Machine.{Bound, Frame, At, values_of}
 use Rattle.flow_meaning.specs.Meaning.{start}
+use Rattle.flow_runs.specs.Runs.{Reaches}
 use Rattle.flow_space.specs.Placed.{NodesAt}
 use Rattle.flow_space.specs.Trees.{functions_of}
 use Rattle.graph_told.specs.Plain.{ArePlain}
@@ -46,11 +47,6 @@ IsTold p row.NonNegative w vs = (x y : Value) × (vs ≡ x ∷ y ∷ []) × AreO
 IsTold p o w vs = Unit {0}
 
 -- ---- runs
-
--- some steps of the machine lead from the one state to the other
-pub data Reaches (p : Program) (gs : Graphs) : State → State → Type 0 where
-  Here : (state : State) → Reaches p gs state state
-  Then : (from mid to : State) → step p gs from ≡ Goes mid → Reaches p gs mid to → Reaches p gs from to
 
 -- Of graphs that stand for trees that narrow nothing themselves, wherever a run from the start stands before an operation with operands that are bound, what
 -- it tells of them is true. The program of the run has the constants of the trees.
