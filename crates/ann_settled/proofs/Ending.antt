@@ -103,8 +103,15 @@ module _ (p : Program) (q : Planned) (marks : List Bool) (h : AreSpots q.plan q.
           free = subst (Free (spots q.plan)) (sym g.named.named)
               (free_named (spots q.plan) g.grown (free_on q marks h g.grown (cells_there p q g.grown g.is_grown.grown) g.is_grown.free));
         },
-        λ b. subst (partial.IsPartial (whole q.plan) (spots q.plan) (spec.begin p q)) (sym g.named.named)
-            (partial_named (whole q.plan) (spots q.plan) (spec.begin p q) g.grown (partial_grown (whole q.plan) (spots q.plan) (spec.begin p q) g.grown b g.is_grown.grown)),
+        (
+          λ b. subst (partial.IsPartial (whole q.plan) (spots q.plan) (spec.begin p q)) (sym g.named.named)
+              (partial_named (whole q.plan) (spots q.plan) (spec.begin p q) g.grown (partial_grown (whole q.plan) (spots q.plan) (spec.begin p q) g.grown b g.is_grown.grown)),
+          record {
+            grown = g.grown;
+            is_grown = record { grown = g.is_grown.grown; free = free_on q marks h g.grown (cells_there p q g.grown g.is_grown.grown) g.is_grown.free };
+            named = g.named.named;
+          },
+        ),
       )
 
   first_at : (b : Assignment) (c : ℕ) → partial.IsFirst (whole q.plan) (spots_in marks) (spec.begin p q) b c → partial.IsFirst (whole q.plan) (spots q.plan) (spec.begin p q) b c

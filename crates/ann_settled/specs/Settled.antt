@@ -42,6 +42,13 @@ Basis p q = partial.Basis (whole q.plan) (spots q.plan) (begin p q)
 abbrev pub IsGrown : Program → Planned → State → Type 0
 IsGrown p q s = Basis p q → partial.IsPartial (whole q.plan) (spots q.plan) (begin p q) (assignment s)
 
+-- Steps led from the start to an assignment without conflict, each of which met one need that was asked of the assignment as it was then; and what
+-- stands in the state is that assignment, its elements written with the least site of each class.
+pub record Grew (q : Planned) (start : Assignment) (s : State) : Type 0 where
+  pub grown : Assignment
+  pub is_grown : partial.IsGrown (whole q.plan) (spots q.plan) start grown
+  pub named : assignment s ≡ partial.with_leaders grown
+
 abbrev pub NoneFree : Program → Planned → Type 0
 NoneFree p q = Basis p q → partial.NoneFree (whole q.plan) (spots q.plan) (begin p q)
 
@@ -75,9 +82,9 @@ abbrev pub IsTellable : Program → Planned → Assignment → Stop → Type 0
 IsTellable p q a (stop.Conflict c) = (among c (spot_cells q.plan) ≡ true) × HasLeaders p a.same
 IsTellable p q a stop.NoMem = Unit {0}
 
--- closed and free, and below each that is; or none is, and growing meets the conflict that is told
+-- closed and free, grown step by step, and below each that is closed and free; or none is, and growing meets the conflict that is told
 abbrev pub Ends : Program → Planned → Result State Unsettled → Type 0
-Ends p q (Ok s) = IsClosed q s × IsGrown p q s
+Ends p q (Ok s) = IsClosed q s × (IsGrown p q s × Grew q (begin p q) s)
 Ends p q (Err (unsettled.Conflict t)) = NoneFree p q × IsMet p q.plan (begin p q) t
 Ends p q (Err unsettled.NoMem) = Unit {0}
 
@@ -89,16 +96,18 @@ abbrev pub IsRead : Planned → State → Annotation → Type 0
 IsRead q s n = (n ≡ annotation s q.plan.classes n.nodes q.plan.places) × AreNodes q.plan s n.nodes
 
 abbrev pub Closes : Program → Planned → Result Annotation Unsettled → Type 0
-Closes p q (Ok n) = (s : State) × (IsRead q s n × (IsClosed q s × IsGrown p q s))
+Closes p q (Ok n) = (s : State) × (IsRead q s n × (IsClosed q s × (IsGrown p q s × Grew q (begin p q) s)))
 Closes p q (Err (unsettled.Conflict t)) = NoneFree p q × IsMet p q.plan (begin p q) t
 Closes p q (Err unsettled.NoMem) = Unit {0}
 
 -- The annotation is what stands in these cells and marks, one for each part of the program; all that the rules of its graphs ask holds there; no
--- parameter, result, attribute, item, key or result of an operation is in conflict; its elements are well-formed; and it is below each assignment of
--- which that holds. What is said of others, and of elements, rests on classes that are a tree and on a site, which each program has.
+-- parameter, result, attribute, item, key or result of an operation is in conflict; it grew step by step from the annotation in which nothing is reached,
+-- and is written with the least site of each class; its elements are well-formed; and it is below each assignment of which that holds. What is said of
+-- others, and of elements that are well-formed, rests on classes that are a tree and on a site, which each program has.
 pub record IsSettled (p : Program) (gs : Graphs) (t : Tables) (n : Annotation) (s : State) : Type 0 where
   pub read : IsRead (planned p gs t) s n
   pub closed : IsClosed (planned p gs t) s
+  pub grew : Grew (planned p gs t) (start (planned p gs t)) s
   pub fits : HasClasses t → 0 < length p.sites → Fits t.classes (start (planned p gs t)) (assignment s)
   pub least : HasClasses t → 0 < length p.sites → IsLeast t.classes (rules (whole (planned p gs t).plan)) (spots (planned p gs t).plan) (start (planned p gs t)) (assignment s)
 

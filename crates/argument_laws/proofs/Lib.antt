@@ -1,5 +1,5 @@
 mod Filling
 mod Giving
-mod Programs
+pub mod Programs
 mod Reading
-mod Starting
+pub mod Starting

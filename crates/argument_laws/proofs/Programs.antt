@@ -1,5 +1,5 @@
 -- In programs that are made of flow graphs the list of arguments is given.
-use Rattle.std.specs.Prelude.{filter_map}
+use Rattle.std.specs.Prelude.{filter_map, None}
 use Rattle.rtyper_data.specs.declared.small.Listed.TheVariants.{Make}
 use Rattle.rtyper_data.specs.declared.small.Small.TheVariants as small
 use Rattle.list_texts.specs.Arguments.{arguments}
@@ -21,12 +21,12 @@ programs_have_arguments known classes p r few stands =
 
 pub programs_are_given_arguments : ProgramsAreGivenArguments
 programs_are_given_arguments known classes p r meant items keys static graphs arguments steps is stands few builtin statics takes given less =
-    arguments_are_given (setting_in known classes p r (seen_in known classes p r meant items keys static) graphs arguments) (layout_for known classes).first_list stands.arguments steps
+    arguments_are_given (setting_in known classes p r (seen_in known classes p r meant items keys static (λ s. None)) graphs arguments) (layout_for known classes).first_list stands.arguments steps
     (layouts_are_had_by_programs known classes p r is.structs) (programs_have_arguments known classes p r is.graphs stands) takes given
     (record { ghost = _; stands = memory_begins_in_programs known classes p r meant items keys static (filter_map (λ object. object) meant.sites) steps is.numbered is.structs few builtin statics less })
 
 pub programs_run_with_arguments : ProgramsRunWithArguments
 programs_run_with_arguments known classes p r meant items keys static graphs arguments steps is calls few builtin statics takes given less done good k end ran =
     let stands = entries_stand known classes (layout_for known classes) p r is.graphs in
-    programs_run known classes p r meant items keys static graphs arguments steps is stands calls done
+    programs_run known classes p r meant items keys static (λ s. None) graphs arguments steps is stands calls done
     (programs_are_given_arguments known classes p r meant items keys static graphs arguments steps is stands few builtin statics takes given less) good k end ran

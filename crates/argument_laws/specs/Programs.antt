@@ -1,7 +1,7 @@
 -- In programs that are made of flow graphs the list of arguments is given.
 use Rattle.flow_runs.specs.Runs.{AreGood}
-use Rattle.run_laws.specs.Points.{is_keyed}
-use Rattle.std.specs.Prelude.{◌≡◌, ◌<◌, ◌^◌, ℕ, List, length, Option}
+use Rattle.run_laws.specs.Points.{is_keyed, truth_known}
+use Rattle.std.specs.Prelude.{◌≡◌, ◌<◌, ◌^◌, ℕ, List, length, Option, None}
 use Rattle.ann_element.specs.declared.element.Element.{Element}
 use Rattle.csub_tree.specs.State.{Block}
 use Rattle.class_desc.specs.Tables.{Tables}
@@ -33,9 +33,9 @@ abbrev pub ProgramsAreGivenArguments : Type 0
 ProgramsAreGivenArguments = (known : Known) (classes : Tables) (p : LlProgram) (r : IsLaid known classes p) (meant : Program) (items keys : ℕ → Option Element) (static : ℕ → Option Block) (graphs : Graphs) (arguments : List (List ℕ)) (steps : ℕ)
     → IsMeant known classes p r meant → (stands : EntryStands known (world_in known classes (layout_for known classes) p r) (last_in known classes (layout_for known classes) p r) p)
     → length p.statics < 2 ^ 64 → AreBuiltin (world_in known classes (layout_for known classes) p r) → AreStatics (world_in known classes (layout_for known classes) p r) p static
-    → TakesTexts (setting_in known classes p r (seen_in known classes p r meant items keys static) graphs arguments) (layout_for known classes).first_list
+    → TakesTexts (setting_in known classes p r (seen_in known classes p r meant items keys static (λ s. None)) graphs arguments) (layout_for known classes).first_list
     → CanBeGiven arguments steps → steps < 2 ^ 62
-    → ArgumentsAreGiven (setting_in known classes p r (seen_in known classes p r meant items keys static) graphs arguments) stands.arguments steps
+    → ArgumentsAreGiven (setting_in known classes p r (seen_in known classes p r meant items keys static (λ s. None)) graphs arguments) stands.arguments steps
 
 -- So a whole run, from its start, ends as that of the flow graphs does, where that ends, the parts of the program are done, and each operation of
 -- the run is as the laws of operations ask.
@@ -43,9 +43,9 @@ abbrev pub ProgramsRunWithArguments : Type 0
 ProgramsRunWithArguments = (known : Known) (classes : Tables) (p : LlProgram) (r : IsLaid known classes p) (meant : Program) (items keys : ℕ → Option Element) (static : ℕ → Option Block) (graphs : Graphs) (arguments : List (List ℕ)) (steps : ℕ)
     → IsMeant known classes p r meant → CallsEntry known
     → length p.statics < 2 ^ 64 → AreBuiltin (world_in known classes (layout_for known classes) p r) → AreStatics (world_in known classes (layout_for known classes) p r) p static
-    → TakesTexts (setting_in known classes p r (seen_in known classes p r meant items keys static) graphs arguments) (layout_for known classes).first_list
+    → TakesTexts (setting_in known classes p r (seen_in known classes p r meant items keys static (λ s. None)) graphs arguments) (layout_for known classes).first_list
     → CanBeGiven arguments steps → steps < 2 ^ 62
-    → IsDone known (world_in known classes (layout_for known classes) p r) (seen_in known classes p r meant items keys static) (numbers_in known classes (layout_for known classes) p r) (first_in known classes (layout_for known classes) p r) (last_in known classes (layout_for known classes) p r) graphs p arguments
-    → AreGood meant graphs (setting_in known classes p r (seen_in known classes p r meant items keys static) graphs arguments).made (is_keyed (setting_in known classes p r (seen_in known classes p r meant items keys static) graphs arguments)) (start meant arguments steps)
+    → IsDone known (world_in known classes (layout_for known classes) p r) (seen_in known classes p r meant items keys static (λ s. None)) (numbers_in known classes (layout_for known classes) p r) (first_in known classes (layout_for known classes) p r) (last_in known classes (layout_for known classes) p r) graphs p arguments
+    → AreGood meant graphs (setting_in known classes p r (seen_in known classes p r meant items keys static (λ s. None)) graphs arguments).made (is_keyed (setting_in known classes p r (seen_in known classes p r meant items keys static (λ s. None)) graphs arguments)) (truth_known (setting_in known classes p r (seen_in known classes p r meant items keys static (λ s. None)) graphs arguments)) (start meant arguments steps)
     → (k : ℕ) (end : Run) → run meant graphs k (start meant arguments steps) ≡ Ended end
-    → EndsIf (setting_in known classes p r (seen_in known classes p r meant items keys static) graphs arguments) end.outcome (begin meant arguments steps 0).world end.world (machine.start p steps)
+    → EndsIf (setting_in known classes p r (seen_in known classes p r meant items keys static (λ s. None)) graphs arguments) end.outcome (begin meant arguments steps 0).world end.world (machine.start p steps)

@@ -1,5 +1,5 @@
 -- Links that a test chooses from.
-use Rattle.std.proofs.Common.{◌≡◌, ◌<◌, ◌≤◌, inl, inr, ℕ, ◌+◌, Bool, true, false, List, [], ◌++◌, length, Option, Some, None, refl, sym, ap, ◌∙◌, subst, arith, append_assoc}
+use Rattle.std.proofs.Common.{◌≡◌, ◌<◌, ◌≤◌, ◌⊎◌, inl, inr, ℕ, ◌+◌, Bool, true, false, List, [], ◌++◌, length, Option, Some, None, refl, sym, ap, ◌∙◌, subst, arith, append_assoc}
 use Rattle.std.specs.Prelude.{slice_get, if◌then◌else◌}
 use Rattle.std.proofs.lemmas.List.{append-nil, length-append}
 use Rattle.csub_tree.specs.declared.tree.COperand.TheVariants.{Var, Const}
@@ -29,8 +29,8 @@ use Rattle.rtyper_op.specs.declared.text.Test.TheVariants.{Known as IsKnown, By}
 use Rattle.rtyper_op.specs.Texts.{truth_by, truth_of}
 use Rattle.rtyper_data.specs.declared.body.Body.{Body}
 use Rattle.rtyper_data.specs.Seen.{Writing}
-use Rattle.rtyper_program.specs.Links.{arguments as arguments_of, branch, by_test, goto, inputs_in, link_of}
-use Rattle.rtyper_program.specs.Seen.{Lowered, element_at, is_block_reached, operand_of}
+use Rattle.rtyper_program.specs.Links.{branch, by_test, goto, known_truth, link_of, truth_test, known_test}
+use Rattle.rtyper_program.specs.Seen.{Lowered, element_at, operand_of}
 use Rattle.object_laws.specs.Done.{HasLayout}
 use Rattle.object_laws.specs.Ghost.{Ghost, Grown}
 use Rattle.object_laws.specs.Known.{Known}
@@ -40,18 +40,21 @@ use Rattle.object_laws.proofs.Valued.{plain_stands}
 use Rattle.lower_laws.specs.Values.{is_plain}
 use Rattle.lower_laws.proofs.Typing.{place_of_flags}
 use Rattle.rtyper_layout.specs.Types.{type_seen}
+use Rattle.rtyper_layout.specs.Kinds.{kind_seen}
+use Rattle.rtyper_layout.specs.declared.kind.Kind.TheVariants as kind
 use Rattle.object_laws.proofs.Growing.{grown_none, holds_grows}
-use Rattle.run_laws.specs.Points.{Setting, names_of, Stand, Way, IsAt}
+use Rattle.run_laws.specs.Points.{Setting, is_conflict, names_of, Stand, Way, IsAt}
 use Rattle.run_laws.specs.Does.{Does, Jumps, Chooses}
 use Rattle.run_laws.proofs.Steps.{grown_both, stays, way_then}
-use Rattle.block_laws.specs.Exits.{AnswersBy, AreWays, BranchesAreTaken, FlagsAreTests, IsNever, IsTested, IsWay, TestedBy, Tests}
+use Rattle.block_laws.specs.Exits.{AnswersBy, AreWays, BranchesAreTaken, FlagsAreTests, IsNever, IsTested, IsToldOf, TestedBy, Tests}
 use Rattle.block_laws.specs.Links.{setting, AllAmong, Ends, HasBlocks, IsLink}
 use Rattle.block_laws.specs.Operations.{HasTypes}
+use Rattle.block_laws.proofs.Adding.{Adds, link_adds}
 use Rattle.block_laws.proofs.Passing.{Fit, Moved, arrived, fit_kept, goes_on, jumps, link_is, passes, there}
 use Rattle.block_laws.proofs.Variables.{stand_kept}
 
 module _ (l : Lowered) (known : Known) (graphs : Graphs) (p : LlProgram) (arguments : List (List ℕ)) (numbers : Numbers) (below : ℕ) (has : HasLayout p l.world.around.layout) (types : HasTypes (setting l known graphs p arguments) l.number below) (names : List ℕ) (v : ℕ)
-    (graph : slice_get graphs.graphs l.number ≡ Some l.graph) (blocks : HasBlocks (setting l known graphs p arguments) l) where
+    (graph : slice_get graphs.graphs l.number ≡ Some l.graph) (blocks : HasBlocks (setting l known graphs p arguments) l) (free : is_conflict ((setting l known graphs p arguments).element l.number v) ≡ false) where
   abbrev s : Setting
   s = setting l known graphs p arguments
 
@@ -96,30 +99,9 @@ module _ (l : Lowered) (known : Known) (graphs : Graphs) (p : LlProgram) (argume
         };
       }
 
-  -- a block that is not reached takes nothing
-  nothing_passed : (link : Link) (w : Writing) → is_block_reached l.known.annotation l.number link.to ≡ false → link_of l None link w ≡ (record { to = link.to; args = [] }, w)
-  unfolding link_of
-  nothing_passed link w h = ap (λ b. (record { to = link.to; args = (arguments_of l None link.args 0 (if b then inputs_in (slice_get l.graph.blocks link.to) else []) ([], w)).0 }, (arguments_of l None link.args 0 (if b then inputs_in (slice_get l.graph.blocks link.to) else []) ([], w)).1)) h
-
-  of_never : (b : Bool) (link : Link) (w : Writing) → IsNever s l v b link → Stage b link w
-  of_never b link w it = record {
-    ops = [];
-    new = [];
-    written = ap (λ (k : LlLink × Writing). k.1.body.ops) (nothing_passed link w it.reached) ∙ sym (append-nil w.body.ops);
-    added = ap (λ (k : LlLink × Writing). k.1.body.types) (nothing_passed link w it.reached) ∙ sym (append-nil w.body.types);
-    Fine = λ env ghost vars. Unit {0};
-    follows = λ next e frames core g env heap left stands same room stand named. record { end = core; way = stays s; ghost = g; grown = grown_none; stands = stands; same = same; fine = tt; others = λ k h. refl; room = refl; function = refl };
-    keeps = λ env g ghost vars vars2 grown kept fine. tt;
-    goes = λ frames env world mid ghost value x fine stands same room enters runs held answer. absurd (it.never ghost value x world held answer);
-  }
-
-  stage : (b : Bool) (link : Link) (w : Writing) → below ≤ length w.body.types → IsWay s numbers l names v b link w → Stage b link w
-  stage b link w enough (inl it) = of_link b link w enough it
-  stage b link w enough (inr it) = of_never b link w it
-
   -- ---- one way alone
 
-  one_way : (b : Bool) (link : Link) (after : Writing) (first second : Link) → ((t : Bool) (env : List Bound) (world : World) (g : Ghost) (frames : List Frame) (from : State) → t ≡ b → Jumps s l.number link env world g frames from → Chooses s l.number first second t env world g frames from) → (w : Writing) → AnswersBy s l v w b after → below ≤ length w.body.types → IsWay s numbers l names v b link after
+  one_way : (b : Bool) (link : Link) (after : Writing) (first second : Link) → ((t : Bool) (env : List Bound) (world : World) (g : Ghost) (frames : List Frame) (from : State) → t ≡ b → Jumps s l.number link env world g frames from → Chooses s l.number first second t env world g frames from) → (w : Writing) → AnswersBy s l v w b after → below ≤ length w.body.types → IsLink s numbers l names link after
       → Ends s l names (exit.If v first second) w (goto (link_of l None link after))
   one_way b link after first second chooses w answers enough way = record {
     ops = st.ops;
@@ -133,22 +115,45 @@ module _ (l : Lowered) (known : Known) (graphs : Graphs) (p : LlProgram) (argume
       same_count = ap (λ (body : Body). length body.types) answers.same
 
       st : Stage b link after
-      st = stage b link after (omega (arith, enough, same_count)) way
+      st = of_link b link after (omega (arith, enough, same_count)) way
 
       does : length w.body.types + length st.new ≤ s.size l.number → Does s l.number names [] (exit.If v first second) st.ops (made.Goto (link_of l None link after).0)
-      does enters frames core g env world at t h = by (look env v) refl h
+      does enters frames core g env world at told t h = by (look env v) refl h
         where
           by : (o : Option Meant) → look env v ≡ o → truth_at world o ≡ Some t → Chooses s l.number first second t env world g frames (At st.ops (made.Goto (link_of l None link after).0) frames core)
           by None e k = absurd (cc)
           by (Some x) e k =
-              let held = at.variables.bound v x e in
-              let same = answers.answer g (read core.vars v) x world t held k in
+              let held = at.variables.bound v x e free in
+              let same = answers.answer g core (read core.vars v) x world t at.stands (λ d q. ap (truth_at world) (sym e) ∙ told d q) held k in
               let m = st.follows [] (made.Goto (link_of l None link after).0) frames core g env world.heap world.left at.stands at.left (let r = at.room in omega (arith, r, enters, same_count)) at.variables at.named in
               let runs = at.runs ∙ ap Some (sym m.function) in
               let j = st.goes frames env world m.end m.ghost (read core.vars v) x m.fine m.stands m.same (m.room ∙ at.room) (omega (arith, enters, same_count)) runs (holds_grows m.grown held) (subst (λ c. truth_in world x ≡ Some c) same k) in
               chooses t env world g frames (At st.ops (made.Goto (link_of l None link after).0) frames core) same
               (j.onward g (At st.ops (made.Goto (link_of l None link after).0) frames core) m.grown
               (subst (λ (ops : List LlOp). Way s (At ops (made.Goto (link_of l None link after).0) frames core) [] j.state) (append-nil st.ops) (way_then s m.way (record { most = 0; leads = one_step j.is refl }))))
+
+  -- what is never taken does anything
+  never_way : (b : Bool) (link : Link) (after : Writing) (first second : Link) (w : Writing) → AnswersBy s l v w b after → IsNever s l v b → Ends s l names (exit.If v first second) w (goto (link_of l None link after))
+  never_way b link after first second w answers never = record {
+    ops = it.ops;
+    new = it.new;
+    written = it.written ∙ ap (λ (ops : List LlOp). ops ++ it.ops) (ap (λ (body : Body). body.ops) answers.same);
+    types = it.types ∙ ap (λ (ts : List LlType). ts ++ it.new) (ap (λ (body : Body). body.types) answers.same);
+    does = λ enters. does;
+  }
+    where
+      it : Adds after (link_of l None link after).1
+      it = link_adds l None link after
+
+      does : Does s l.number names [] (exit.If v first second) it.ops (made.Goto (link_of l None link after).0)
+      does frames core g env world at told t h = by (look env v) refl h
+        where
+          by : (o : Option Meant) → look env v ≡ o → truth_at world o ≡ Some t → Chooses s l.number first second t env world g frames (At it.ops (made.Goto (link_of l None link after).0) frames core)
+          by None e k = absurd (cc)
+          by (Some x) e k =
+              let held = at.variables.bound v x e free in
+              let meant : IsToldOf s l v world x = λ d q. ap (truth_at world) (sym e) ∙ told d q in
+              absurd (never g (read core.vars v) x world meant held (subst (λ c. truth_in world x ≡ Some c) (answers.answer g core (read core.vars v) x world t at.stands meant held k) k))
 
   -- ---- two ways
 
@@ -173,7 +178,7 @@ module _ (l : Lowered) (known : Known) (graphs : Graphs) (p : LlProgram) (argume
 
     module _ (enters : length w.body.types + length all_new ≤ s.size l.number) (frames : List Frame) (core : Core) (g : Ghost) (env : List Bound) (world : World) (at : IsAt s g l.number names env world core) (b : Bool) (x : Meant) (is : look env v ≡ Some x) (truth : truth_in world x ≡ Some b) where
       held : Holds l.world.around.layout known g (s.element l.number v) (read core.vars v) x
-      held = at.variables.bound v x is
+      held = at.variables.bound v x is free
 
       asks : Tests s l w t b (one.ops ++ (two.ops ++ [])) exits frames core g world test.ops
       asks = test.follows (one.ops ++ (two.ops ++ [])) exits frames core g world x b at.stands at.left (let r = at.room in omega (arith, r, enters, new_count)) held truth
@@ -239,7 +244,7 @@ module _ (l : Lowered) (known : Known) (graphs : Graphs) (p : LlProgram) (argume
         joined a b c d = append_assoc (a ++ b) c d ∙ append_assoc a b (c ++ d)
 
         does : length w.body.types + length all_new ≤ s.size l.number → Does s l.number names [] (exit.If v first second) all_ops exits
-        does enters frames core g env world at b h = by (look env v) refl h
+        does enters frames core g env world at told b h = by (look env v) refl h
           where
             by : (o : Option Meant) → look env v ≡ o → truth_at world o ≡ Some b → Chooses s l.number first second b env world g frames (At all_ops exits frames core)
             by None e k = absurd (cc)
@@ -253,18 +258,23 @@ module _ (l : Lowered) (known : Known) (graphs : Graphs) (p : LlProgram) (argume
 
   -- ---- by the test
 
+  known_way : (b : Bool) (link : Link) (after : Writing) (first second : Link) → ((t : Bool) (env : List Bound) (world : World) (g : Ghost) (frames : List Frame) (from : State) → t ≡ b → Jumps s l.number link env world g frames from → Chooses s l.number first second t env world g frames from) → (w : Writing) → AnswersBy s l v w b after → below ≤ length w.body.types → IsLink s numbers l names link after ⊎ IsNever s l v b
+      → Ends s l names (exit.If v first second) w (goto (link_of l None link after))
+  known_way b link after first second chooses w answers enough (inl way) = one_way b link after first second chooses w answers enough way
+  known_way b link after first second chooses w answers enough (inr never) = never_way b link after first second w answers never
+
   tested : (first second : Link) (w : Writing) → below ≤ length w.body.types → (test : Test) (after : Writing) → IsTested s l v w test after → AreWays s numbers l names v first second test after → Ends s l names (exit.If v first second) w (by_test l first second test after)
-  tested first second w enough (IsKnown true) after answers way = one_way true first after first second (λ t env world g frames from e jumps. subst (λ c. Chooses s l.number first second c env world g frames from) (sym e) jumps) w answers enough way
-  tested first second w enough (IsKnown false) after answers way = one_way false second after first second (λ t env world g frames from e jumps. subst (λ c. Chooses s l.number first second c env world g frames from) (sym e) jumps) w answers enough way
+  tested first second w enough (IsKnown true) after answers way = known_way true first after first second (λ t env world g frames from e jumps. subst (λ c. Chooses s l.number first second c env world g frames from) (sym e) jumps) w answers enough way
+  tested first second w enough (IsKnown false) after answers way = known_way false second after first second (λ t env world g frames from e jumps. subst (λ c. Chooses s l.number first second c env world g frames from) (sym e) jumps) w answers enough way
   tested first second w enough (By (Var t)) after test ways = two_ways first second w t after enough test
-      (stage true first after (enough_tested w t after enough test) ways.0)
-      (stage false second (link_of l None first after).1 (enough_passed true first after (enough_tested w t after enough test) (stage true first after (enough_tested w t after enough test) ways.0)) ways.1)
+      (of_link true first after (enough_tested w t after enough test) ways.0)
+      (of_link false second (link_of l None first after).1 (enough_passed true first after (enough_tested w t after enough test) (of_link true first after (enough_tested w t after enough test) ways.0)) ways.1)
   tested first second w enough (By (Const c)) after test ways = absurd test
 
 pub branches_are_taken : BranchesAreTaken
 unfolding branch
-branches_are_taken l known graphs p arguments numbers below names v first second w has types enough graph blocks test ways =
-    tested l known graphs p arguments numbers below has types names v graph blocks first second w enough (truth_of l.world.around (operand_of l v) w).0 (truth_of l.world.around (operand_of l v) w).1 test ways
+branches_are_taken l known graphs p arguments numbers below names v first second w has types enough graph blocks free test ways =
+    tested l known graphs p arguments numbers below has types names v graph blocks free first second w enough (truth_test l.world.around (operand_of l v) w).0 (truth_test l.world.around (operand_of l v) w).1 test ways
 
 -- ---- truth values
 
@@ -282,24 +292,41 @@ flag_of_bool (type.Ptr n) x v h stands = absurd (cc)
 flag_of_bool type.Void x v h stands = absurd (cc)
 flag_of_bool type.Fn x v h stands = absurd (cc)
 
+module _ (l : Lowered) (known : Known) (graphs : Graphs) (p : LlProgram) (arguments : List (List ℕ)) (v : ℕ) (w : Writing) (is : kind_seen (element_at l.known.annotation l.number v) ≡ kind.Flag) (inside : v < length w.body.types) where
+  flag_tested : TestedBy (setting l known graphs p arguments) l v w v w
+  flag_tested = record {
+    ops = [];
+    new = [];
+    written = sym (append-nil w.body.ops);
+    types = sym (append-nil w.body.types);
+    inside = omega (arith, inside);
+    follows = λ next e frames core g world x b stands left room held truth. record {
+      end = core;
+      way = stays (setting l known graphs p arguments);
+      ghost = g;
+      grown = grown_none;
+      stands = stands;
+      left = left;
+      answer = (let it = flag_of_bool (type_seen l.world.around.layout (element_at l.known.annotation l.number v)) (read core.vars v) x (place_of_flags l.world.around.layout (element_at l.known.annotation l.number v) is) (plain_stands (ap is_plain is) held) in let q : Some it.flag ≡ Some b = sym (ap (truth_in world) it.high) ∙ truth in let r : it.flag ≡ b = cc in it.low ∙ ap Flag r);
+      others = λ n h. refl;
+      room = refl;
+      function = refl;
+    };
+  }
+
+  truth_tested : IsTested (setting l known graphs p arguments) l v w (truth_of l.world.around (operand_of l v) w).0 (truth_of l.world.around (operand_of l v) w).1
+  unfolding truth_of
+  truth_tested = subst (λ (made : Test × Writing). IsTested (setting l known graphs p arguments) l v w made.0 made.1) (sym (ap (λ k. truth_by k l.world.around (operand_of l v) w) is)) flag_tested
+
+-- a test of what is known needs nothing, and any other is that of the truth
+pub known_tested : (l : Lowered) (known : Known) (graphs : Graphs) (p : LlProgram) (arguments : List (List ℕ)) (v : ℕ) (w : Writing)
+    → IsTested (setting l known graphs p arguments) l v w (truth_of l.world.around (operand_of l v) w).0 (truth_of l.world.around (operand_of l v) w).1
+    → IsTested (setting l known graphs p arguments) l v w (truth_test l.world.around (operand_of l v) w).0 (truth_test l.world.around (operand_of l v) w).1
+known_tested l known graphs p arguments v w tests = by (known_truth (element_at l.known.annotation l.number v)) refl
+  where
+    by : (o : Option Bool) → known_truth (element_at l.known.annotation l.number v) ≡ o → IsTested (setting l known graphs p arguments) l v w (known_test o l.world.around (operand_of l v) w).0 (known_test o l.world.around (operand_of l v) w).1
+    by None e = tests
+    by (Some b) e = record { same = refl; answer = λ g core value x world c stands told held truth. (let t : truth_in world x ≡ Some b = told b e in let q : Some c ≡ Some b = sym truth ∙ t in cc) }
+
 pub flags_are_tests : FlagsAreTests
-unfolding truth_of
-flags_are_tests l known graphs p arguments v w is inside = subst (λ (made : Test × Writing). IsTested (setting l known graphs p arguments) l v w made.0 made.1) (sym (ap (λ k. truth_by k l.world.around (operand_of l v) w) is)) (record {
-  ops = [];
-  new = [];
-  written = sym (append-nil w.body.ops);
-  types = sym (append-nil w.body.types);
-  inside = omega (arith, inside);
-  follows = λ next e frames core g world x b stands left room held truth. record {
-    end = core;
-    way = stays (setting l known graphs p arguments);
-    ghost = g;
-    grown = grown_none;
-    stands = stands;
-    left = left;
-    answer = (let it = flag_of_bool (type_seen l.world.around.layout (element_at l.known.annotation l.number v)) (read core.vars v) x (place_of_flags l.world.around.layout (element_at l.known.annotation l.number v) is) (plain_stands (ap is_plain is) held) in let q : Some it.flag ≡ Some b = sym (ap (truth_in world) it.high) ∙ truth in let r : it.flag ≡ b = cc in it.low ∙ ap Flag r);
-    others = λ n h. refl;
-    room = refl;
-    function = refl;
-  };
-})
+flags_are_tests l known graphs p arguments v w is inside = known_tested l known graphs p arguments v w (truth_tested l known graphs p arguments v w is inside)

@@ -33,7 +33,7 @@ use Rattle.object_laws.specs.Known.{Known}
 use Rattle.object_laws.specs.Values.{Holds}
 use Rattle.object_laws.proofs.Growing.{grown_none}
 use Rattle.object_laws.proofs.Valued.{Gone, Instancing, held_set, instance_or_none}
-use Rattle.run_laws.specs.Points.{Setting, Way}
+use Rattle.run_laws.specs.Points.{Setting, is_conflict, Way}
 use Rattle.run_laws.specs.Does.{Does, Leaves}
 use Rattle.run_laws.proofs.Steps.{way_then}
 use Rattle.block_laws.specs.Exits.{AreExceptions, IsGiven, ResultsAreGiven, ExceptionsLeave}
@@ -59,9 +59,9 @@ module _ (l : Lowered) (known : Known) (graphs : Graphs) (p : LlProgram) (argume
     by = it.converts there
 
     gives : length w.body.types + length by.is.new ≤ s.size l.number → Does s l.number names [] (exit.Return v) by.is.ops (made.Return (Some converted.0))
-    gives enters frames core g env world at x h =
+    gives enters frames core g env world at told x h =
         let m = moved l known graphs p arguments numbers below has types (λ ghost y. Holds l.world.around.layout known ghost seen y x) at.left
-        (by.is.follows p numbers known.exception arguments [] (made.Return (Some converted.0)) frames core g world.heap world.left x has (by.stood core g world.heap world.left at.stands at.left) at.stands at.left (let r = at.room in omega (arith, r, enters)) it.inside (at.variables.bound v x h)) in
+        (by.is.follows p numbers known.exception arguments [] (made.Return (Some converted.0)) frames core g world.heap world.left x has (by.stood core g world.heap world.left at.stands at.left) at.stands at.left (let r = at.room in omega (arith, r, enters)) it.inside (at.variables.bound v x h it.free)) in
         record {
           x = operand m.end.vars converted.0;
           end = m.end;
@@ -76,7 +76,7 @@ module _ (l : Lowered) (known : Known) (graphs : Graphs) (p : LlProgram) (argume
 
   -- one without a type is never given
   nothing_given : l.result ≡ type.Void → Does s l.number names [] (exit.Return v) [] (made.Return None)
-  nothing_given void frames core g env world at x h = absurd (types.typed g v (read core.vars v) x (at.variables.bound v x h) (it.never void))
+  nothing_given void frames core g env world at told x h = absurd (types.typed g v (read core.vars v) x (at.variables.bound v x h it.free) (it.never void))
 
   gives_as : (t : LlType) → (t ≡ type.Void → ⊥) → give_as l v t w ≡ returned (given l.world.around (operand_of l v) t w)
   gives_as type.Signed there = refl
@@ -116,10 +116,10 @@ results_are_given l known graphs p arguments numbers below names v w has types i
 module _ (l : Lowered) (known : Known) (graphs : Graphs) (p : LlProgram) (arguments : List (List ℕ)) (below : ℕ) (names : List ℕ) (v class : ℕ) (w : Writing) (types : HasTypes (setting l known graphs p arguments) l.number below)
     (is : element_at l.known.annotation l.number v ≡ Some (element.Instance class false)) (all : AreExceptions known class) where
   raises : Does (setting l known graphs p arguments) l.number names [] (exit.Raise v) [] (raise_as v (type_at l v))
-  raises frames core g env world at r h = by (instance_or_none class false is held)
+  raises frames core g env world at told r h = by (instance_or_none class false is held)
     where
       held : Holds l.world.around.layout known g (element_at l.known.annotation l.number v) (read core.vars v) (Ref r)
-      held = at.variables.bound v (Ref r) h
+      held = at.variables.bound v (Ref r) h (ap is_conflict is)
 
       typed : type_at l v ≡ type.Void → ⊥
       typed = types.typed g v (read core.vars v) (Ref r) held

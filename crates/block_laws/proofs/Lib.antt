@@ -1,3 +1,4 @@
+pub mod Adding
 pub mod Branching
 pub mod Converting
 pub mod Escaping

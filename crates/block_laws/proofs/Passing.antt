@@ -47,12 +47,12 @@ use Rattle.object_laws.proofs.Growing.{grown_none, holds_grows}
 use Rattle.object_laws.proofs.Valued.{held_set}
 use Rattle.object_laws.proofs.Blocks.{found_set}
 use Rattle.conversion_laws.specs.Converted.{Blank, never, word, flag, byte, null, function, text, Came}
-use Rattle.run_laws.specs.Points.{Setting, names_of, Stand, IsAt, Way}
+use Rattle.run_laws.specs.Points.{Setting, is_conflict, names_of, Stand, IsAt, Way}
 use Rattle.run_laws.specs.Does.{Does, Begins, Jumps}
 use Rattle.run_laws.proofs.Steps.{grown_both, way_then, stays}
 use Rattle.block_laws.specs.Operations.{HasTypes}
 use Rattle.block_laws.specs.Links.{setting, AreDistinct, AllAmong, AllUnder, HasBlock, HasBlocks, Converts, OneConverts, AllConvert, IsLink, Ends, LinksArePassed}
-use Rattle.block_laws.proofs.Variables.{stand_kept, blank_grows}
+use Rattle.block_laws.proofs.Variables.{stand_kept, blank_grows, typed_free}
 
 -- ---- types
 
@@ -95,13 +95,13 @@ module _ (l : Lowered) (known : Known) (graphs : Graphs) (p : LlProgram) (argume
 
   -- ---- what arrives
 
-  -- a value, or what stands for nothing
+  -- a value, where there is no conflict, or what stands for nothing
   abbrev pub Fits : Ghost → Option Element → Option Meant → Value → Type 0
-  Fits g seen (Some x) value = Holds l.world.around.layout known g seen value x
+  Fits g seen (Some x) value = is_conflict seen ≡ false → Holds l.world.around.layout known g seen value x
   Fits g seen None value = Blank g (type_seen l.world.around.layout seen) value
 
   pub fits_grow : {g new : Ghost} (seen : Option Element) (o : Option Meant) (value : Value) → Grown g new → Fits g seen o value → Fits new seen o value
-  fits_grow seen (Some x) value grown it = holds_grows grown it
+  fits_grow seen (Some x) value grown it = λ free. holds_grows grown (it free)
   fits_grow seen None value grown it = blank_grows grown it
 
   abbrev pub source : List Bound → List ℕ → Option Meant
@@ -111,7 +111,7 @@ module _ (l : Lowered) (known : Known) (graphs : Graphs) (p : LlProgram) (argume
   -- for each input that has a type an operand, which has what its place of the link has
   pub data Fit (g : Ghost) (env : List Bound) (vars : List Value) : List ℕ → List ℕ → List COperand → Type 0 where
     None_left : (rest : List ℕ) → Fit g env vars [] rest []
-    Skip : (v : ℕ) (inputs rest : List ℕ) (ys : List COperand) → type_at l v ≡ type.Void → ((x : Meant) → source env rest ≡ Some x → ⊥) → Fit g env vars inputs (tail rest) ys → Fit g env vars (v ∷ inputs) rest ys
+    Skip : (v : ℕ) (inputs rest : List ℕ) (ys : List COperand) → type_at l v ≡ type.Void → ((x : Meant) → source env rest ≡ Some x → is_conflict (s.element l.number v) ≡ false → ⊥) → Fit g env vars inputs (tail rest) ys → Fit g env vars (v ∷ inputs) rest ys
     Take : (v : ℕ) (inputs rest : List ℕ) (y : COperand) (ys : List COperand) → (type_at l v ≡ type.Void → ⊥) → Fits g (s.element l.number v) (source env rest) (operand vars y) → Fit g env vars inputs (tail rest) ys
         → Fit g env vars (v ∷ inputs) rest (y ∷ ys)
 
@@ -210,8 +210,13 @@ module _ (l : Lowered) (known : Known) (graphs : Graphs) (p : LlProgram) (argume
     function = c.function;
   }
 
-  pub one_converted : (v a : ℕ) (others : List ℕ) (w : Writing) → a < length w.body.types → Converts s numbers (s.element l.number a) (s.element l.number v) (Var a) w → One v (a ∷ others) w (value_as l.world.around.layout (Var a) (type_at l a) (type_at l v) w)
-  one_converted v a others w inside c =
+  -- what is held fits
+  pub fine_fits : {n : ℕ} {next : List LlOp} {e : LlExit} {frames : List Frame} {core : Core} {g : Ghost} {heap : Heap} {left : ℕ} {from : State} {seen : Option Element} {x : Meant} (y : COperand)
+      → Moved n next e frames core g heap left (λ ghost vars. Holds l.world.around.layout known ghost seen (operand vars y) x) from → Moved n next e frames core g heap left (λ ghost vars. Fits ghost seen (Some x) (operand vars y)) from
+  fine_fits y m = record { end = m.end; way = m.way; ghost = m.ghost; grown = m.grown; stands = m.stands; same = m.same; fine = λ free. m.fine; others = m.others; room = m.room; function = m.function }
+
+  pub one_converted : (v a : ℕ) (others : List ℕ) (w : Writing) → a < length w.body.types → is_conflict (s.element l.number a) ≡ false → Converts s numbers (s.element l.number a) (s.element l.number v) (Var a) w → One v (a ∷ others) w (value_as l.world.around.layout (Var a) (type_at l a) (type_at l v) w)
+  one_converted v a others w inside free c =
       let it = c.is in
       record {
         ops = it.ops;
@@ -227,8 +232,8 @@ module _ (l : Lowered) (known : Known) (graphs : Graphs) (p : LlProgram) (argume
           → Moved (length w.body.types) next e frames core g heap left (λ ghost vars. Fits ghost (s.element l.number v) (look env a) (operand vars (value_as l.world.around.layout (Var a) (type_at l a) (type_at l v) w).0)) (At (c.is.ops ++ next) e frames core)
       by ops next e frames core g env heap left stands same fits stand own (Some x) h =
           subst (λ (o : Option Meant). Moved (length w.body.types) next e frames core g heap left (λ ghost vars. Fits ghost (s.element l.number v) o (operand vars (value_as l.world.around.layout (Var a) (type_at l a) (type_at l v) w).0)) (At (c.is.ops ++ next) e frames core)) (sym h)
-          (moved (λ ghost y. Holds l.world.around.layout known ghost (s.element l.number v) y x) same
-          (c.is.follows p numbers known.exception arguments next e frames core g heap left x has (c.stood core g heap left stands same) stands same fits inside (stand.bound a x h)))
+          (fine_fits _ (moved (λ ghost y. Holds l.world.around.layout known ghost (s.element l.number v) y x) same
+          (c.is.follows p numbers known.exception arguments next e frames core g heap left x has (c.stood core g heap left stands same) stands same fits inside (stand.bound a x h free))))
       by ops next e frames core g env heap left stands same fits stand own None h =
           subst (λ (o : Option Meant). Moved (length w.body.types) next e frames core g heap left (λ ghost vars. Fits ghost (s.element l.number v) o (operand vars (value_as l.world.around.layout (Var a) (type_at l a) (type_at l v) w).0)) (At (c.is.ops ++ next) e frames core)) (sym h)
           (moved (λ ghost y. Blank ghost (type_at l v) y) same
@@ -274,16 +279,16 @@ module _ (l : Lowered) (known : Known) (graphs : Graphs) (p : LlProgram) (argume
   under_more m n [] h u = tt
   under_more m n (y ∷ ys) h u = (below_more m n h y u.0, under_more m n ys h u.1)
 
-  -- the first of them has no type
-  abbrev pub HasNone : List ℕ → Type 0
-  HasNone [] = Unit {0}
-  HasNone (a ∷ others) = type_at l a ≡ type.Void
+  -- the first of them has no type, where the input is in no conflict
+  abbrev pub HasNone : ℕ → List ℕ → Type 0
+  HasNone v [] = Unit {0}
+  HasNone v (a ∷ others) = is_conflict (s.element l.number v) ≡ false → (is_conflict (s.element l.number a) ≡ false) × (type_at l a ≡ type.Void)
 
-  pub nothing_there : {g : Ghost} {env : List Bound} {vars : List Value} (rest : List ℕ) → HasNone rest → Stand s g l.number env vars → (x : Meant) → source env rest ≡ Some x → ⊥
-  nothing_there [] none stand x h = absurd (cc)
-  nothing_there {g = g} {vars = vars} (a ∷ others) none stand x h = types.typed g a (read vars a) x (stand.bound a x h) none
+  pub nothing_there : {g : Ghost} {env : List Bound} {vars : List Value} (v : ℕ) (rest : List ℕ) → HasNone v rest → Stand s g l.number env vars → (x : Meant) → source env rest ≡ Some x → is_conflict (s.element l.number v) ≡ false → ⊥
+  nothing_there v [] none stand x h free = absurd (cc)
+  nothing_there {g = g} {vars = vars} v (a ∷ others) none stand x h free = types.typed g a (read vars a) x (stand.bound a x h (none free).0) (none free).1
 
-  skips : (v : ℕ) (inputs rest : List ℕ) (xs : List COperand) (w : Writing) (result : List COperand × Writing) → type_at l v ≡ type.Void → HasNone rest → Pass inputs (tail rest) xs w result → Pass (v ∷ inputs) rest xs w result
+  skips : (v : ℕ) (inputs rest : List ℕ) (xs : List COperand) (w : Writing) (result : List COperand × Writing) → type_at l v ≡ type.Void → HasNone v rest → Pass inputs (tail rest) xs w result → Pass (v ∷ inputs) rest xs w result
   skips v inputs rest xs w result void none it = record {
     ys = it.ys;
     ops = it.ops;
@@ -294,7 +299,7 @@ module _ (l : Lowered) (known : Known) (graphs : Graphs) (p : LlProgram) (argume
     under = it.under;
     follows = λ next e frames core g env heap left stands same fits stand own.
         let m = it.follows next e frames core g env heap left stands same fits stand (own_rest rest (names_of env) own) in
-        record { end = m.end; way = m.way; ghost = m.ghost; grown = m.grown; stands = m.stands; same = m.same; fine = Skip v inputs rest it.ys void (nothing_there rest none stand) m.fine; others = m.others; room = m.room; function = m.function };
+        record { end = m.end; way = m.way; ghost = m.ghost; grown = m.grown; stands = m.stands; same = m.same; fine = Skip v inputs rest it.ys void (nothing_there v rest none stand) m.fine; others = m.others; room = m.room; function = m.function };
   }
 
   module _ (v : ℕ) (inputs rest : List ℕ) (xs : List COperand) (w : Writing) (one_made : COperand × Writing) (result : List COperand × Writing) (there : type_at l v ≡ type.Void → ⊥) (enough : below ≤ length w.body.types)
@@ -351,14 +356,14 @@ module _ (l : Lowered) (known : Known) (graphs : Graphs) (p : LlProgram) (argume
 
   one_passes : (v : ℕ) (rest : List ℕ) (w : Writing) → (type_at l v ≡ type.Void → ⊥) → AllUnder (length w.body.types) rest → OneConverts s numbers l (slice_get rest 0) v w → One v rest w (passed l None (slice_get rest 0) (type_at l v) w)
   one_passes v [] w there inside converts = one_default v w
-  one_passes v (a ∷ others) w there inside converts = one_converted v a others w inside.0 (converts.1 there)
+  one_passes v (a ∷ others) w there inside converts = let c = converts (typed_free l.world.around.layout (s.element l.number v) there) in one_converted v a others w inside.0 c.0 (c.2 there)
 
   longer_one : (v : ℕ) (rest : List ℕ) (w : Writing) (result : COperand × Writing) → One v rest w result → length w.body.types ≤ length result.1.body.types
   longer_one v rest w result it = let e : length result.1.body.types ≡ length w.body.types + length it.new = ap (λ (ts : List LlType). length ts) it.added ∙ length-append w.body.types it.new in omega (arith, e)
 
-  none_of : (v : ℕ) (w : Writing) (rest : List ℕ) → type_at l v ≡ type.Void → OneConverts s numbers l (slice_get rest 0) v w → HasNone rest
+  none_of : (v : ℕ) (w : Writing) (rest : List ℕ) → type_at l v ≡ type.Void → OneConverts s numbers l (slice_get rest 0) v w → HasNone v rest
   none_of v w [] void converts = tt
-  none_of v w (a ∷ others) void converts = converts.0 void
+  none_of v w (a ∷ others) void converts = λ free. let c = converts free in (c.0, c.1 void)
 
   pub rest_at : (args rest : List ℕ) (n : ℕ) → ((k : ℕ) → slice_get args (n + k) ≡ slice_get rest k) → (k : ℕ) → slice_get args (n + 1 + k) ≡ slice_get (tail rest) k
   rest_at args [] n h k = ap (slice_get args) (let z : n + 1 + k ≡ n + suc k = omega arith in z) ∙ h (suc k)
@@ -430,7 +435,7 @@ module _ (l : Lowered) (known : Known) (graphs : Graphs) (p : LlProgram) (argume
   -- what the inputs take, one for each that has a type
   pub data FitAll (g : Ghost) (env : List Bound) : List ℕ → List ℕ → List Value → Type 0 where
     NoMore : (rest : List ℕ) → FitAll g env [] rest []
-    Without : (v : ℕ) (inputs rest : List ℕ) (xs : List Value) → type_at l v ≡ type.Void → ((x : Meant) → source env rest ≡ Some x → ⊥) → FitAll g env inputs (tail rest) xs → FitAll g env (v ∷ inputs) rest xs
+    Without : (v : ℕ) (inputs rest : List ℕ) (xs : List Value) → type_at l v ≡ type.Void → ((x : Meant) → source env rest ≡ Some x → is_conflict (s.element l.number v) ≡ false → ⊥) → FitAll g env inputs (tail rest) xs → FitAll g env (v ∷ inputs) rest xs
     With : (v : ℕ) (inputs rest : List ℕ) (x : Value) (xs : List Value) → (type_at l v ≡ type.Void → ⊥) → Fits g (s.element l.number v) (source env rest) x → FitAll g env inputs (tail rest) xs → FitAll g env (v ∷ inputs) rest (x ∷ xs)
 
   pub fit_all : {g : Ghost} {env : List Bound} {vars : List Value} {inputs rest : List ℕ} {ys : List COperand} → Fit g env vars inputs rest ys → FitAll g env inputs rest (operands vars ys)
@@ -448,7 +453,7 @@ module _ (l : Lowered) (known : Known) (graphs : Graphs) (p : LlProgram) (argume
   blank_set stands there (text x bytes is) = found_set _ _ x _ (stands.stays x _ is.is)
 
   pub fits_set : {g : Ghost} {heap : Heap} {left : ℕ} {blocks : List (Option Memory)} {statics : List Memory} (v : ℕ) (o : Option Meant) (x : Value) → Represents l.world.around.layout known g heap left blocks statics → (type_at l v ≡ type.Void → ⊥) → Fits g (s.element l.number v) o x → is_unset x ≡ false
-  fits_set v (Some value) x stands there it = held_set stands it
+  fits_set v (Some value) x stands there it = held_set stands (it (typed_free l.world.around.layout (s.element l.number v) there))
   fits_set v None x stands there it = blank_set stands there it
 
   pub all_set : {g : Ghost} {heap : Heap} {left : ℕ} {blocks : List (Option Memory)} {statics : List Memory} {env : List Bound} {inputs rest : List ℕ} {xs : List Value} → Represents l.world.around.layout known g heap left blocks statics → FitAll g env inputs rest xs → any_unset xs ≡ false
@@ -485,7 +490,7 @@ module _ (l : Lowered) (known : Known) (graphs : Graphs) (p : LlProgram) (argume
     where
       nothing : (o : Option Meant) → source env rest ≡ o → Fits g (s.element l.number v) o (read (set_all vars (typed l inputs) xs) u)
       nothing None e = subst (λ t. Blank g t (read (set_all vars (typed l inputs) xs) u)) (sym void) (never (read (set_all vars (typed l inputs) xs) u))
-      nothing (Some x) e = absurd (empty x e)
+      nothing (Some x) e = λ free. absurd (empty x e free)
 
       by : (among u inputs ≡ true → Fits g (s.element l.number u) (look (passed_on env inputs (tail rest)) u) (read (set_all vars (typed l inputs) xs) u)) → (b : Bool) → (v == u) ≡ b → (b || among u inputs) ≡ true
           → Fits g (s.element l.number u) (look (passed_on env (v ∷ inputs) rest) u) (read (set_all vars (typed l (v ∷ inputs)) xs) u)
@@ -600,7 +605,7 @@ module _ (l : Lowered) (known : Known) (graphs : Graphs) (p : LlProgram) (argume
     own at = subst (λ (ns : List ℕ). AllAmong link.args ns) (sym at.named) it.own
 
     link_does : length w.body.types + length passes.new ≤ s.size l.number → Does s l.number names [] (exit.Goto link) passes.ops (made.Goto (link_of l None link w).0)
-    link_does enters frames core g env world at =
+    link_does enters frames core g env world at told =
         let m = passes.follows [] (made.Goto (link_of l None link w).0) frames core g env world.heap world.left at.stands at.left (let r = at.room in omega (arith, r, enters)) at.variables (own at) in
         let runs = at.runs ∙ ap Some (sym m.function) in
         let room = m.room ∙ at.room in

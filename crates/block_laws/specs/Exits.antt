@@ -23,26 +23,27 @@ use Rattle.rtyper_layout.specs.Kinds.{kind_seen}
 use Rattle.rtyper_layout.specs.Types.{type_seen}
 use Rattle.rtyper_op.specs.declared.text.Test.{Test}
 use Rattle.rtyper_op.specs.declared.text.Test.TheVariants.{Known as IsKnown, By}
-use Rattle.rtyper_op.specs.Texts.{truth_of}
 use Rattle.rtyper_data.specs.Seen.{Writing}
 use Rattle.rtyper_program.specs.Blocks.{raise_as}
-use Rattle.rtyper_program.specs.Links.{branch, give_back, link_of}
+use Rattle.rtyper_program.specs.Links.{branch, give_back, link_of, truth_test}
 use Rattle.rtyper_program.specs.Seen.{Lowered, operand_of, type_at}
 use Rattle.object_laws.specs.Done.{HasLayout}
 use Rattle.object_laws.specs.Ghost.{Ghost, Grown}
 use Rattle.object_laws.specs.Known.{Known}
 use Rattle.object_laws.specs.Represents.{Represents}
 use Rattle.object_laws.specs.Values.{Holds}
-use Rattle.run_laws.specs.Points.{Setting, Way}
+use Rattle.run_laws.specs.Points.{Setting, is_conflict, truth_known, Way}
 use Rattle.block_laws.specs.Links.{setting, Converts, Ends, HasBlocks, IsLink}
 use Rattle.block_laws.specs.Operations.{HasTypes}
 
 -- ---- results
 
--- The type of the result is that of what is known of it, and what is given is converted to that; where it has no type, nothing is ever given.
+-- The type of the result is that of what is known of it, and what is given, which is in no conflict, is converted to that; where it has no type, nothing
+-- is ever given.
 pub record IsGiven (s : Setting) (numbers : Numbers) (l : Lowered) (v : ℕ) (w : Writing) : Type 0 where
   pub result : l.result ≡ type_seen s.around.layout (slice_get s.around.results l.number)
   pub inside : v < length w.body.types
+  pub free : is_conflict (s.element l.number v) ≡ false
   pub never : l.result ≡ type.Void → type_at l v ≡ type.Void
   pub converts : l.result ≢ type.Void → Converts s numbers (s.element l.number v) (slice_get s.around.results l.number) (Var v) w
 
@@ -87,39 +88,39 @@ pub record TestedBy (s : Setting) (l : Lowered) (v : ℕ) (w : Writing) (t : ℕ
       → length w.body.types + length new ≤ length core.vars → Holds s.around.layout s.known g (s.element l.number v) (read core.vars v) x → truth_in world x ≡ Some b
       → Tests s l w t b next e frames core g world ops
 
--- the answer of the test is always this one, and nothing is written
+-- what is known of the truth of the variable is told
+abbrev pub IsToldOf : Setting → Lowered → ℕ → World → Meant → Type 0
+IsToldOf s l v world x = (b : Bool) → truth_known s l.number v ≡ Some b → truth_in world x ≡ Some b
+
+-- the answer of the test is always this one, over memory that represents the heap, and nothing is written
 pub record AnswersBy (s : Setting) (l : Lowered) (v : ℕ) (w : Writing) (b : Bool) (after : Writing) : Type 0 where
   pub same : after.body ≡ w.body
-  pub answer : (g : Ghost) (value : Value) (x : Meant) (world : World) (c : Bool) → Holds s.around.layout s.known g (s.element l.number v) value x → truth_in world x ≡ Some c → c ≡ b
+  pub answer : (g : Ghost) (core : Core) (value : Value) (x : Meant) (world : World) (c : Bool) → Represents s.around.layout s.known g world.heap world.left core.blocks core.statics → IsToldOf s l v world x → Holds s.around.layout s.known g (s.element l.number v) value x → truth_in world x ≡ Some c → c ≡ b
 
 abbrev pub IsTested : Setting → Lowered → ℕ → Writing → Test → Writing → Type 0
 IsTested s l v w (IsKnown b) after = AnswersBy s l v w b after
 IsTested s l v w (By (Var t)) after = TestedBy s l v w t after
 IsTested s l v w (By (Const c)) after = ⊥
 
--- a way that is never taken leads to a block that is not reached
-pub record IsNever (s : Setting) (l : Lowered) (v : ℕ) (b : Bool) (link : Link) : Type 0 where
-  pub reached : s.reached l.number link.to ≡ false
-  pub never : (g : Ghost) (value : Value) (x : Meant) (world : World) → Holds s.around.layout s.known g (s.element l.number v) value x → truth_in world x ≡ Some b → ⊥
+-- the test never has this answer
+abbrev pub IsNever : Setting → Lowered → ℕ → Bool → Type 0
+IsNever s l v b = (g : Ghost) (value : Value) (x : Meant) (world : World) → IsToldOf s l v world x → Holds s.around.layout s.known g (s.element l.number v) value x → truth_in world x ≡ Some b → ⊥
 
-abbrev pub IsWay : Setting → Numbers → Lowered → List ℕ → ℕ → Bool → Link → Writing → Type 0
-IsWay s numbers l names v b link w = IsLink s numbers l names link w ⊎ IsNever s l v b link
-
--- the links of a test, behind what is written for it
+-- the links of a test, behind what is written for it: of one that is known the one that is taken, if it ever is
 abbrev pub AreWays : Setting → Numbers → Lowered → List ℕ → ℕ → Link → Link → Test → Writing → Type 0
-AreWays s numbers l names v there elsewhere (IsKnown true) w = IsWay s numbers l names v true there w
-AreWays s numbers l names v there elsewhere (IsKnown false) w = IsWay s numbers l names v false elsewhere w
-AreWays s numbers l names v there elsewhere (By x) w = IsWay s numbers l names v true there w × IsWay s numbers l names v false elsewhere (link_of l None there w).1
+AreWays s numbers l names v there elsewhere (IsKnown true) w = IsLink s numbers l names there w ⊎ IsNever s l v true
+AreWays s numbers l names v there elsewhere (IsKnown false) w = IsLink s numbers l names elsewhere w ⊎ IsNever s l v false
+AreWays s numbers l names v there elsewhere (By x) w = IsLink s numbers l names there w × IsLink s numbers l names elsewhere (link_of l None there w).1
 
 -- by the truth of a variable one of two links is taken
 abbrev pub BranchesAreTaken : Type 0
 BranchesAreTaken = (l : Lowered) (known : Known) (graphs : Graphs) (p : LlProgram) (arguments : List (List ℕ)) (numbers : Numbers) (below : ℕ) (names : List ℕ) (v : ℕ) (there elsewhere : Link) (w : Writing)
-    → HasLayout p l.world.around.layout → HasTypes (setting l known graphs p arguments) l.number below → below ≤ length w.body.types → slice_get graphs.graphs l.number ≡ Some l.graph → HasBlocks (setting l known graphs p arguments) l
-    → IsTested (setting l known graphs p arguments) l v w (truth_of l.world.around (operand_of l v) w).0 (truth_of l.world.around (operand_of l v) w).1
-    → AreWays (setting l known graphs p arguments) numbers l names v there elsewhere (truth_of l.world.around (operand_of l v) w).0 (truth_of l.world.around (operand_of l v) w).1
+    → HasLayout p l.world.around.layout → HasTypes (setting l known graphs p arguments) l.number below → below ≤ length w.body.types → slice_get graphs.graphs l.number ≡ Some l.graph → HasBlocks (setting l known graphs p arguments) l → is_conflict ((setting l known graphs p arguments).element l.number v) ≡ false
+    → IsTested (setting l known graphs p arguments) l v w (truth_test l.world.around (operand_of l v) w).0 (truth_test l.world.around (operand_of l v) w).1
+    → AreWays (setting l known graphs p arguments) numbers l names v there elsewhere (truth_test l.world.around (operand_of l v) w).0 (truth_test l.world.around (operand_of l v) w).1
     → Ends (setting l known graphs p arguments) l names (exit.If v there elsewhere) w (branch l v there elsewhere w)
 
--- a variable that is a truth value is the test itself
+-- a variable that is a truth value is the test itself, or its answer is known
 abbrev pub FlagsAreTests : Type 0
 FlagsAreTests = (l : Lowered) (known : Known) (graphs : Graphs) (p : LlProgram) (arguments : List (List ℕ)) (v : ℕ) (w : Writing) → kind_seen ((setting l known graphs p arguments).element l.number v) ≡ kind.Flag → v < length w.body.types
-    → IsTested (setting l known graphs p arguments) l v w (truth_of l.world.around (operand_of l v) w).0 (truth_of l.world.around (operand_of l v) w).1
+    → IsTested (setting l known graphs p arguments) l v w (truth_test l.world.around (operand_of l v) w).0 (truth_test l.world.around (operand_of l v) w).1

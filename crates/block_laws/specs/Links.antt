@@ -33,7 +33,7 @@ use Rattle.object_laws.specs.Represents.{Represents}
 use Rattle.conversion_laws.specs.Asked.{Has, asks_for}
 use Rattle.conversion_laws.specs.Going.{Goes}
 use Rattle.conversion_laws.specs.Converted.{IsConverted}
-use Rattle.run_laws.specs.Points.{Setting, BlockAt}
+use Rattle.run_laws.specs.Points.{Setting, is_conflict, BlockAt}
 use Rattle.run_laws.specs.Does.{Does}
 use Rattle.block_laws.specs.Operations.{HasTypes}
 
@@ -102,9 +102,10 @@ module _ (s : Setting) (numbers : Numbers) where
   module _ (l : Lowered) where
     abbrev pub OneConverts : Option ℕ → ℕ → Writing → Type 0
     OneConverts None v w = Unit {0}
-    OneConverts (Some a) v w = (type_at l v ≡ type.Void → type_at l a ≡ type.Void) × (type_at l v ≢ type.Void → Converts (s.element l.number a) (s.element l.number v) (Var a) w)
+    OneConverts (Some a) v w = is_conflict (s.element l.number v) ≡ false → (is_conflict (s.element l.number a) ≡ false) × (type_at l v ≡ type.Void → type_at l a ≡ type.Void) × (type_at l v ≢ type.Void → Converts (s.element l.number a) (s.element l.number v) (Var a) w)
 
-    -- what stands at the places of a link, from the n-th on, for the inputs; what goes to one without a type has none
+    -- What stands at the places of a link, from the n-th on, for the inputs; what goes to one without a type has none. What goes to one in conflict may be
+    -- anything.
     abbrev pub AllConvert : List ℕ → ℕ → List ℕ → List COperand × Writing → Type 0
     AllConvert args n [] written = Unit {0}
     AllConvert args n (v ∷ inputs) written = OneConverts (slice_get args n) v written.1 × AllConvert args (n + 1) inputs (with_argument l None (slice_get args n) (type_at l v) written)

@@ -12,15 +12,16 @@ use Rattle.flow_runs.specs.Good.{IsGood}
 use Rattle.object_laws.specs.Ghost.{Ghost}
 use Rattle.run_laws.specs.Points.{IsAt, is_keyed}
 use Rattle.run_laws.specs.Does.{Follows as FollowsSo}
-use Rattle.block_laws.specs.Operations.{DoesOrEnters, Raises}
+use Rattle.block_laws.specs.Operations.{Acts, AreRead, NeverGives}
+use Rattle.block_laws.proofs.Adding.{link_adds}
 use Rattle.block_laws.specs.Links.{Ends}
 use Rattle.block_laws.proofs.Escaping.{exceptions_escape}
 use Rattle.block_laws.proofs.Operating.{operations_are_followed}
-use Rattle.block_laws.proofs.Variables.{operands_given}
+use Rattle.block_laws.proofs.Variables.{none_given, operands_given}
 use Rattle.throw_laws.specs.Pieces.{AreQuiet, nowhere}
 use Rattle.throw_laws.specs.Quiet.{IsLoud}
 use Rattle.throw_laws.proofs.Calm.{quiet_operations_never_throw}
-use Rattle.catch_laws.specs.Caught.{IsTold}
+use Rattle.catch_laws.specs.Caught.{GoesOn, IsTold}
 use Rattle.std.proofs.Common.{◌≡◌, ◌<◌, ◌≤◌, ◌⊎◌, inl, inr, ℕ, ◌+◌, Bool, true, false, List, [], ◌∷◌, ◌++◌, length, Option, Some, None, refl, sym, ap, ◌∙◌, subst, arith, append_assoc}
 use Rattle.std.specs.Prelude.{slice_get, if◌then◌else◌}
 use Rattle.std.proofs.lemmas.List.{append-nil, length-append}
@@ -133,12 +134,30 @@ module _ (l : Lowered) (known : Known) (graphs : Graphs) (p : LlProgram) (argume
   enough_here : below ≤ length w.body.types
   enough_here = (let k = op_is.types in omega (arith, k, enough))
 
+  -- what is written for the link, where the operation gives a value or not
+  record LinkWritten : Type 0 where
+    ops : List LlOp
+    more : List LlType
+    is : on_way.body.ops ≡ w.body.ops ++ ops
+    types : on_way.body.types ≡ w.body.types ++ more
+    does : NeverGives seen l.number o ⊎ (length w.body.types + length more ≤ seen.size l.number → Does seen l.number (names ++ o.result ∷ []) [] (exit.Goto without) ops (made.Goto last))
+
+  link_written : LinkWritten
+  link_written = by ways.way
+    where
+      by : GoesOn seen numbers l names o without w → LinkWritten
+      by (inl link) =
+          let it : Ends seen l (names ++ o.result ∷ []) (exit.Goto without) w (goto (link_of l None without w)) = block.links_are_passed l known graphs p arguments numbers below (names ++ o.result ∷ []) without w around.layout around.types enough_here around.graph around.blocks link in
+          record { ops = it.ops; more = it.new; is = it.written; types = it.types; does = inr it.does }
+      by (inr gives) =
+          let it = link_adds l None without w in
+          record { ops = it.ops; more = it.new; is = it.written; types = it.types; does = inl gives }
+
   abbrev way_new : List LlType
-  way_new = (block.passes l known graphs p arguments numbers below around.layout around.types (names ++ o.result ∷ []) without w enough_here around.graph around.blocks ways.link).new
+  way_new = link_written.more
 
   way_types : on_way.body.types ≡ w.body.types ++ way_new
-  way_types = ap (λ (k : LlLink × Writing). k.1.body.types) (block.link_is l known graphs p arguments numbers below around.layout around.types (names ++ o.result ∷ []) without w enough_here around.graph around.blocks ways.link)
-      ∙ (block.passes l known graphs p arguments numbers below around.layout around.types (names ++ o.result ∷ []) without w enough_here around.graph around.blocks ways.link).added
+  way_types = link_written.types
 
   way_long : length w.body.types ≤ length on_way.body.types
   way_long = (let k : length on_way.body.types ≡ length w.body.types + length way_new = ap (λ (ts : List LlType). length ts) way_types ∙ length-append w.body.types way_new in omega (arith, k))
@@ -190,8 +209,8 @@ module _ (l : Lowered) (known : Known) (graphs : Graphs) (p : LlProgram) (argume
           let found : IsTaken seen l names caught_so hands any takes.0 = handlers_found l known graphs p arguments numbers below around.layout around.types names caught_so beyond ways.new around.graph around.blocks around.classes hands any start_work inside (ways.any_done h) (ways.hands_done h) placed_takes in
           subst (λ (ops : List LlOp). Does seen l.number names (o ∷ []) (exit.OnRaise v hands any without) ops into.exit) same
           (caught_operations_are_followed l known graphs p arguments numbers (quiet_by takes.1.writing.found) below start new names o caught_so hands any without w written ways.conversions takes.0 it.left into.exit
-          around.layout around.types around.params around.graph around.blocks told enough op_is.types op_is.is op_is.fresh op_is.inside ways.link ways.are (omega (arith, room, room_of, count, one)) beyond (omega (arith, room, room_of, count, one)) found
-          (record { number = placed.number; is = placed.is; graph = placed.graph; stands = placed.stands; cut = it.cut placed.extra; fits = ways.fits }));
+          around.layout around.types around.graph around.blocks told enough op_is.types op_is.is op_is.are_read op_is.fresh op_is.inside ways.own ways.way ways.are (omega (arith, room, room_of, count, one)) beyond (omega (arith, room, room_of, count, one)) found
+          (record { number = placed.number; is = placed.is; graph = placed.graph; stands = placed.stands; cut = it.cut placed.extra; fits = ways.fits (let long = way_long in omega (arith, room, room_of, count, one, long)) (omega (arith, room, room_of, count, one)) }));
     }
 
   -- ---- where none may raise
@@ -205,20 +224,23 @@ module _ (l : Lowered) (known : Known) (graphs : Graphs) (p : LlProgram) (argume
   types_more : HasTypes seen l.number start
   types_more = record { typed = around.types.typed; under = λ u there. (let k = around.types.under u there in omega (arith, k, enough)) }
 
-  link_ends : Ends seen l (names ++ o.result ∷ []) (exit.Goto without) w (goto (link_of l None without w))
-  link_ends = block.links_are_passed l known graphs p arguments numbers below (names ++ o.result ∷ []) without w around.layout around.types enough_here around.graph around.blocks ways.link
+  link_ops : ways.conversions ≡ link_written.ops
+  link_ops = cancel w.body.ops ways.conversions link_written.ops (sym ways.are ∙ link_written.is)
 
-  link_ops : ways.conversions ≡ link_ends.ops
-  link_ops = cancel w.body.ops ways.conversions link_ends.ops (sym ways.are ∙ link_ends.written)
+  link_long : length on_way.body.types ≡ length w.body.types + length link_written.more
+  link_long = ap (λ (ts : List LlType). length ts) link_written.types ∙ length-append w.body.types link_written.more
 
-  link_long : length on_way.body.types ≡ length w.body.types + length link_ends.new
-  link_long = ap (λ (ts : List LlType). length ts) link_ends.types ∙ length-append w.body.types link_ends.new
+  behind_it : length on_way.body.types ≤ seen.size l.number → NeverGives seen l.number o ⊎ Does seen l.number (names ++ o.result ∷ []) [] plain ways.conversions ends
+  behind_it room = by link_written.does
+    where
+      by : NeverGives seen l.number o ⊎ (length w.body.types + length link_written.more ≤ seen.size l.number → Does seen l.number (names ++ o.result ∷ []) [] (exit.Goto without) link_written.ops (made.Goto last)) → NeverGives seen l.number o ⊎ Does seen l.number (names ++ o.result ∷ []) [] plain ways.conversions ends
+      by (inl never) = inl never
+      by (inr does) = inr (subst (λ (ops : List LlOp). Does seen l.number (names ++ o.result ∷ []) [] (exit.Goto without) ops ends) (sym link_ops) (does (let m = link_long in omega (arith, room, m))))
 
   -- as if nothing were caught
   plain_does : length on_way.body.types ≤ seen.size l.number → Does seen l.number names (o ∷ []) plain all ends
-  plain_does room = operations_are_followed seen l.number names o [] plain start new written ways.conversions ends types_more around.params op_is.is (let k = op_is.types in let m = link_long in omega (arith, room, k, m)) op_is.fresh
-      (exceptions_escape seen l.number names [] plain tt) (λ x frames core. refl)
-      (subst (λ (ops : List LlOp). Does seen l.number (names ++ o.result ∷ []) [] (exit.Goto without) ops ends) (sym link_ops) (link_ends.does (let m = link_long in omega (arith, room, m))))
+  plain_does room = operations_are_followed seen l.number names o [] plain start new written ways.conversions ends types_more op_is.is op_is.are_read (let k = op_is.types in let m = link_long in omega (arith, room, k, m)) op_is.fresh
+      (exceptions_escape seen l.number names [] plain tt) (λ x frames core. refl) (behind_it room)
 
   module _ (placed : IsPlaced seen l (record { writing = on_way; extra = e })) (told : IsTold seen (quiet_by w.found)) (calm : AreQuiet (quiet_by w.found) written)
       (frames : List Frame) (core : Core) (g : Ghost) (env : List Bound) (world : World) (at : IsAt seen g l.number names env world core) where
@@ -236,22 +258,24 @@ module _ (l : Lowered) (known : Known) (graphs : Graphs) (p : LlProgram) (argume
     Follows e2 answer = FollowsSo seen (Does seen l.number (names ++ o.result ∷ []) [] e2) l.number names env o [] e2 world g frames (At all ends frames core) answer
 
     abbrev Alone : Answer → Type 0
-    Alone answer = DoesOrEnters seen l.number o start alone [] stop [] core g world answer ⊎ Raises seen start alone [] stop [] core g world answer
+    Alone answer = Acts seen l.number o start alone [] stop [] core g world answer
 
     same : (answer : Answer) → Follows plain answer → Alone answer → Follows (exit.OnRaise v hands any without) answer
     same (Gives x w2) it how = it
-    same (Throws r w2) it (inl how) = absurd (silent _ how.follows.leads.path tt)
-    same (Throws r w2) it (inr (inl how)) = absurd (silent _ how.leads.path tt)
-    same (Throws r w2) it (inr (inr how)) = absurd (silent _ how.1.leads.path tt)
+    same (Throws r w2) it (inl how) = absurd (silent _ how.way.leads.path tt)
+    same (Throws r w2) it (inr how) = absurd (silent _ how.way.leads.path tt)
     same (Fails name) it how = it
     same Lacks it how = it
-    same (Enters callee values instead w2) it (inl how) = absurd (silent _ how.follows.leads.path (λ q. absurd (let z : true ≡ false = sym q ∙ told.loud callee how.follows.number how.follows.graph in cc)))
-    same (Enters callee values instead w2) it (inr how) = absurd how
+    same (Enters callee values instead w2) it how = absurd (silent _ how.way.leads.path (λ q. absurd (let z : true ≡ false = sym q ∙ told.loud callee how.number how.is in cc)))
     same Bad it how = it
 
     quietly : length on_way.body.types ≤ seen.size l.number → (vs : List Meant) → values_of env o.args ≡ Some vs → IsGood known.program seen.made (is_keyed seen l.number o) o.op world vs → Follows (exit.OnRaise v hands any without) (meant_op known.program o.covered o.op vs world)
-    quietly room vs args good = same (meant_op known.program o.covered o.op vs world) (plain_does room frames core g env world vs at args good)
-        (op_is.is [] stop [] core g world vs at.stands at.left (let r = at.room in let k = op_is.types in let m = link_long in omega (arith, r, room, k, m)) (operands_given seen l.number g env core at.variables o.args vs args) good)
+    quietly room vs args good = by op_is.are_read
+      where
+        by : AreRead seen l.number o.args → Follows (exit.OnRaise v hands any without) (meant_op known.program o.covered o.op vs world)
+        by (inl free) = same (meant_op known.program o.covered o.op vs world) (plain_does room frames core g env world vs at args good)
+            (op_is.is [] stop [] core g world vs at.stands at.left (let r = at.room in let k = op_is.types in let m = link_long in omega (arith, r, room, k, m)) (operands_given seen l.number g env core at.variables o.args vs free args) good)
+        by (inr gives) = absurd (none_given seen l.number g env core at.variables o.args vs gives args)
 
   goes_by : any_raises w.found (length front) w.body.ops ≡ false → DoesSo seen l names o (exit.OnRaise v hands any without) front w (goes_on l v hands any e (goto (link_of l None without w)))
   goes_by h = record {

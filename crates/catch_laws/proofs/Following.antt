@@ -25,7 +25,6 @@ use Rattle.ll_leads.specs.Path.{Path, Stay, Go, total}
 use Rattle.ll_leads.proofs.Joined.{path_then}
 use Rattle.ll_live.specs.Live.{among, variables_in}
 use Rattle.ll_live.proofs.Appended.{among_append}
-use Rattle.ll_texts.specs.Follows.{FailedAs}
 use Rattle.rpy_tree.specs.Value.{Value as Meant, Ref}
 use Rattle.rpy_meaning.specs.Meaning.{class_in, class_of}
 use Rattle.rpy_meaning.specs.Operations.{op as meant_op}
@@ -37,8 +36,6 @@ use Rattle.flow_graph.specs.declared.graph.Link.{Link}
 use Rattle.flow_graph.specs.declared.graph.Op.{Op}
 use Rattle.flow_meaning.specs.Machine as flow
 use Rattle.flow_meaning.specs.Machine.{Bound, bind, look, block_in, catching, values_of}
-use Rattle.lower_laws.specs.Done.{Threw}
-use Rattle.lower_laws.specs.Helped.{Lacked}
 use Rattle.rtyper_layout.specs.Types.{type_seen}
 use Rattle.rtyper_data.specs.Seen.{Writing}
 use Rattle.rtyper_program.specs.declared.links.Caught.{Caught}
@@ -46,43 +43,47 @@ use Rattle.rtyper_program.specs.Cuts.{passed_by}
 use Rattle.rtyper_program.specs.Links.{arguments as arguments_of, inputs_at, link_of, typed}
 use Rattle.rtyper_program.specs.Live.{with_new}
 use Rattle.rtyper_program.specs.Seen.{Lowered, type_at}
-use Rattle.object_laws.specs.Done.{Came as Done, HasLayout}
+use Rattle.object_laws.specs.Done.{HasLayout}
 use Rattle.object_laws.specs.Ghost.{Ghost, Grown, InstanceOf}
 use Rattle.object_laws.specs.Known.{Known}
 use Rattle.object_laws.specs.Represents.{Represents}
 use Rattle.object_laws.specs.Values.{Holds}
 use Rattle.object_laws.proofs.Blocks.{found_set}
-use Rattle.object_laws.proofs.Growing.{grown_none, holds_grows}
+use Rattle.object_laws.proofs.Growing.{holds_grows}
 use Rattle.object_laws.proofs.Valued.{held_set}
 use Rattle.conversion_laws.specs.Converted.{Blank, never}
-use Rattle.call_laws.specs.Entered.{Entered as EntersBy}
-use Rattle.call_laws.specs.Raised.{Raised}
 use Rattle.flow_runs.specs.Good.{IsGood}
 use Rattle.run_laws.specs.Points.{Setting, is_keyed, names_of, IsAt, Stand, Way, IsException}
-use Rattle.run_laws.specs.Does.{Does, Came, Thrown, Left, Handled, Entered, Over, Follows as FollowsSo}
+use Rattle.run_laws.specs.Does.{Does, Came, Thrown, Again, Left, Handled, Entered, Over, Follows as FollowsSo}
 use Rattle.run_laws.proofs.Steps.{grown_both}
-use Rattle.block_laws.specs.Operations.{DoesOrEnters, HasTypes, HasParameters, IsOperation, Raises, place_of}
+use Rattle.block_laws.specs.Operations.{AreRead, Acts, Called, Failed as FailedSo, Gave, Lacked, Raised, Threw, HasTypes, IsOperation}
 use Rattle.block_laws.specs.Links.{setting, AllAmong, HasBlocks, IsLink}
-use Rattle.block_laws.proofs.Operating.{full_parameters, all_long}
+use Rattle.block_laws.proofs.Adding.{link_adds}
 use Rattle.block_laws.proofs.Passing as block
 use Rattle.block_laws.proofs.Passing.{equal}
-use Rattle.block_laws.proofs.Variables.{names_more, stand_more, operands_given, void_or_not, blank_grows}
+use Rattle.block_laws.proofs.Variables.{names_more, stand_more, none_given, operands_given, void_or_not, blank_grows}
 use Rattle.throw_laws.specs.Pieces as pieces
 use Rattle.throw_laws.specs.Ready as pieces_ready
 use Rattle.throw_laws.specs.Pieces.{AllIn, AreSet, IsReady, IsSetting, StandsCut, Here, Within, nowhere, elsewhere}
 use Rattle.throw_laws.specs.Ready.{AllFit, ReadIn, through}
 use Rattle.throw_laws.proofs.Catching.{cut_ways_lead_on, exceptions_are_caught, raises_are_caught, calls_are_made, pieces_end, pieces_go_on, here_at}
 use Rattle.throw_laws.proofs.Readying.{operations_are_ready, returns_are_ready}
-use Rattle.catch_laws.specs.Caught.{CaughtOperationsAreFollowed, IsCutSo, IsTold, ReadsInside, needed_by}
+use Rattle.catch_laws.specs.Caught.{CaughtOperationsAreFollowed, GoesOn, IsCutSo, IsTold, ReadsInside, needed_by}
 use Rattle.catch_laws.specs.Handlers.{IsCaughtAt, IsTaken, Lands}
 use Rattle.catch_laws.proofs.Handling.{lands_after, names_set, typed_has, typed_in}
 use Rattle.catch_laws.proofs.Reading.{AreAmong, Passes, own_variables, new_in, live_in, left_in, right_in, none_in, one_in, passes_in, through_append, read_append, through_more}
 
+-- what is thrown over a heap with more objects is thrown over that from before
+thrown_since : {s : Setting} {f r : ℕ} {w : World} {g0 g2 : Ghost} {frames : List Frame} {env : List Bound} {ops : List Op} {e : Exit} {from : State} → Grown g0 g2 → Thrown s f r w g2 frames env ops e from → Thrown s f r w g0 frames env ops e from
+thrown_since h (Handled n b inner q it) = Handled n b inner q (record { low = it.low; block = it.block; end = it.end; way = it.way; ghost = it.ghost; grown = grown_both h it.grown; at = it.at })
+thrown_since h (Left q it) = Left q (record { x = it.x; end = it.end; way = it.way; ghost = it.ghost; grown = grown_both h it.grown; is = it.is; stands = it.stands; left = it.left })
+thrown_since h (Again v inner q has it) = Again v inner q has (record { x = it.x; end = it.end; way = it.way; ghost = it.ghost; grown = grown_both h it.grown; is = it.is; stands = it.stands; left = it.left })
+
 module _ (l : Lowered) (known : Known) (graphs : Graphs) (p : LlProgram) (arguments : List (List ℕ)) (numbers : Numbers) (quiet : ℕ → Bool) (below start new : ℕ) (names : List ℕ) (o : Op) (caught : Caught) (hands : List (ℕ × Link)) (any : Option Link) (without : Link) (w : Writing)
     (written conversions : List LlOp) (by : LlLink) (left : List LlOp) (ends : LlExit)
-    (has : HasLayout p l.world.around.layout) (types : HasTypes (setting l known graphs p arguments) l.number below) (params_fit : HasParameters (setting l known graphs p arguments)) (graph_is : slice_get graphs.graphs l.number ≡ Some l.graph) (blocks : HasBlocks (setting l known graphs p arguments) l) (told : IsTold (setting l known graphs p arguments) quiet)
-    (enough : below ≤ start) (longer : start + new ≤ length w.body.types) (does_it : IsOperation (setting l known graphs p arguments) l.number o start new written) (fresh : among o.result names ≡ false) (inside : ReadsInside l names o.result written)
-    (link : IsLink (setting l known graphs p arguments) numbers l (names ++ o.result ∷ []) without w) (conversions_are : (link_of l None without w).1.body.ops ≡ w.body.ops ++ conversions) (room_for : length (link_of l None without w).1.body.types ≤ (setting l known graphs p arguments).size l.number)
+    (has : HasLayout p l.world.around.layout) (types : HasTypes (setting l known graphs p arguments) l.number below) (graph_is : slice_get graphs.graphs l.number ≡ Some l.graph) (blocks : HasBlocks (setting l known graphs p arguments) l) (told : IsTold (setting l known graphs p arguments) quiet)
+    (enough : below ≤ start) (longer : start + new ≤ length w.body.types) (does_it : IsOperation (setting l known graphs p arguments) l.number o start new written) (are_read : AreRead (setting l known graphs p arguments) l.number o.args) (fresh : among o.result names ≡ false) (inside : ReadsInside l names o.result written)
+    (own : AllAmong without.args (names ++ o.result ∷ [])) (onward : GoesOn (setting l known graphs p arguments) numbers l names o without w) (conversions_are : (link_of l None without w).1.body.ops ≡ w.body.ops ++ conversions) (room_for : length (link_of l None without w).1.body.types ≤ (setting l known graphs p arguments).size l.number)
     (beyond : below ≤ caught.exception) (under : caught.exception < (setting l known graphs p arguments).size l.number) (taken : IsTaken (setting l known graphs p arguments) l names caught hands any by)
     (cut : IsCutSo (setting l known graphs p arguments) l quiet caught.exception by (written ++ conversions) (link_of l None without w).0 left ends) where
   abbrev s : Setting
@@ -185,14 +186,14 @@ module _ (l : Lowered) (known : Known) (graphs : Graphs) (p : LlProgram) (argume
 
   -- what the link passes on is set behind the operations
   sources : AreAmong l None without.args (through written (typed l names))
-  sources a h there = one_in a (through written (typed l names)) (on (among_both a names (o.result ∷ []) (at_own without.args (names ++ o.result ∷ []) a link.own h)))
+  sources a h there = one_in a (through written (typed l names)) (on (among_both a names (o.result ∷ []) (at_own without.args (names ++ o.result ∷ []) a own h)))
     where
       on : (among a names ≡ true) ⊎ (among a (o.result ∷ []) ≡ true) → among a (through written (typed l names)) ≡ true
       on (inl k) = through_more written (typed l names) a (typed_has l names a k there)
       on (inr k) = subst (λ (n : ℕ). among n (through written (typed l names)) ≡ true) (sym (result_is a k)) (inside.sets (subst (λ (n : ℕ). type_at l n ≡ type.Void → ⊥) (result_is a k) there))
 
   sources_behind : AreAmong l None without.args (typed l (names ++ o.result ∷ []))
-  sources_behind a h there = one_in a (typed l (names ++ o.result ∷ [])) (typed_has l (names ++ o.result ∷ []) a (at_own without.args (names ++ o.result ∷ []) a link.own h) there)
+  sources_behind a h there = one_in a (typed l (names ++ o.result ∷ [])) (typed_has l (names ++ o.result ∷ []) a (at_own without.args (names ++ o.result ∷ []) a own h) there)
 
   base_behind : AllIn base (typed l (names ++ o.result ∷ []))
   base_behind u h = let k = typed_in l names u (base_in u h) in typed_has l (names ++ o.result ∷ []) u (left_in u names (o.result ∷ []) k.0) k.1
@@ -238,8 +239,8 @@ module _ (l : Lowered) (known : Known) (graphs : Graphs) (p : LlProgram) (argume
   -- the variables of the block are as they were, where all others than that of the result are
   stand_but : {g ghost : Ghost} {env : List Bound} {vars vars2 : List Value} → Grown g ghost → names_of env ≡ names → Stand s g f env vars → ((n : ℕ) → n < below → (n ≡ o.result → ⊥) → read vars2 n ≡ read vars n) → Stand s ghost f env vars2
   stand_but {g = g} {ghost = ghost} {env = env} {vars = vars} {vars2 = vars2} grown named stand others = record {
-    bound = λ v x h.
-        let old = stand.bound v x h in
+    bound = λ v x h unclashed.
+        let old = stand.bound v x h unclashed in
         subst (λ (y : Value). Holds s.around.layout s.known ghost (s.element f v) y x) (sym (others v (types.under v (types.typed g v (read vars v) x old)) (other v (look_in env v x h)))) (holds_grows grown old);
     blank = λ v a h. void_or_not (type_seen s.around.layout (s.element f v)) (λ t. Blank g t (read vars v) → Blank ghost t (read vars2 v)) (λ o. never (read vars2 v))
         (λ there o. subst (λ (y : Value). Blank ghost (type_seen s.around.layout (s.element f v)) y) (sym (others v (types.under v there) (other v a))) (blank_grows grown o)) (stand.blank v a h);
@@ -282,41 +283,58 @@ module _ (l : Lowered) (known : Known) (graphs : Graphs) (p : LlProgram) (argume
         thrown_by r is.class w2 g2 from (ap class_of (stands.instances is.class r x is.home).object) (catching known.program is.class hands any) refl
         (lands_after s f caught.variable (catching known.program is.class hands any) r env w2 g2 frames from reached.state way reached.lands)
 
-  abbrev block_passes : block.Pass l known graphs p arguments numbers below has types link.block.inputs without.args [] w (arguments_of l None without.args 0 link.block.inputs ([], w))
-  block_passes = block.passes l known graphs p arguments numbers below has types (names ++ o.result ∷ []) without w enough_there graph_is blocks link
-
-  count : length (link_of l None without w).1.body.types ≡ length w.body.types + length block_passes.new
-  count = ap (λ (k : LlLink × Writing). length k.1.body.types) (block.link_is l known graphs p arguments numbers below has types (names ++ o.result ∷ []) without w enough_there graph_is blocks link)
-      ∙ ap (λ (ts : List LlType). length ts) block_passes.added ∙ length-append w.body.types block_passes.new
-
   -- ---- behind the operation
 
-  -- what is left of the pieces, where the operation is done, goes on by the link
-  behind : (left2 : List LlOp) (ends2 : LlExit) → IsPiece conversions left2 ends2 → Does s f (names ++ o.result ∷ []) [] e left2 ends2
-  behind left2 ends2 cut2 frames core g env world at =
-      let of : core.function ≡ cut.number = function_is core.function at.runs in
-      let room = at.room in
-      let block_link = block.link_is l known graphs p arguments numbers below has types (names ++ o.result ∷ []) without w enough_there graph_is blocks link in
-      let block_written : conversions ≡ block_passes.ops = cancel w.body.ops conversions block_passes.ops (sym conversions_are ∙ ap (λ (k : LlLink × Writing). k.1.body.ops) block_link ∙ block_passes.written) in
-      let enters : length w.body.types + length block_passes.new ≤ s.size f = omega (arith, room_for, count) in
-      let m = block_passes.follows [] stop [] core g env world.heap world.left at.stands at.left (omega (arith, room, enters)) at.variables
-      (block.own l known graphs p arguments numbers below has types (names ++ o.result ∷ []) without w enough_there graph_is blocks link at) in
-      let from : State = At conversions stop [] core in
-      let alone : Path p arguments from [] (At [] stop [] m.end) = subst (λ (ops : List LlOp). Path p arguments (At ops stop [] core) [] (At [] stop [] m.end)) (append-nil block_passes.ops ∙ sym block_written) m.way.leads.path in
-      let fits2 = fits_rest (s.size f) written conversions cut.fits in
-      let set2 = typed l (names ++ o.result ∷ []) in
-      let reads2 = reads_from set2 sources_behind in
-      let ready : Ready from = operations_are_ready p arguments quiet needed cut.number cut.graph exc by leaves base (variables_in last.args) set2 conversions core the_setting told.gives enough_needed of reads2.0 (subst (λ (n : ℕ). AllFit p n conversions) (sym room) fits2) base_behind reads2.1
-      (names_set l known graphs p arguments numbers below has types (names ++ o.result ∷ []) at) in
-      let stands : Stands frames from (At left2 ends2 frames core) = Here conversions left2 ends2 core core.block core.at of cut2 in
-      let comes = cut_ways_lead_on p arguments quiet needed cut.number cut.graph exc by leaves frames from (At left2 ends2 frames core) (At [] stop [] m.end) [] the_setting stands ready alone tt in
-      let goes = pieces_go_on p arguments quiet needed cut.number cut.graph exc by leaves frames m.end comes.state the_setting comes.stands (λ l2 end2 text2 path2. ready l2 end2 text2 (path_then alone path2)) in
-      let mid : Core = elsewhere goes.block goes.at m.end in
-      let runs : s.known.graph f ≡ Some mid.function = at.runs ∙ ap Some (sym m.function) in
-      let room_there : length mid.vars ≡ s.size f = m.room ∙ at.room in
-      let jumps : jump p frames mid last ≡ Goes _ = block.jumps l known graphs p arguments numbers below has types (names ++ o.result ∷ []) without w enough_there graph_is blocks link frames env world mid m.ghost m.fine m.stands m.same room_there enters runs in
-      block.goes_on l known graphs p arguments numbers below has types (names ++ o.result ∷ []) without w enough_there graph_is blocks link frames env world mid m.ghost m.fine m.stands m.same room_there enters runs m.grown
-      (way_of (path_then comes.path (path_then goes.comes.path (Go (goes.comes.steps ∙ jumps) (Stay _)))))
+  module _ (link : IsLink s numbers l (names ++ o.result ∷ []) without w) where
+    abbrev block_passes : block.Pass l known graphs p arguments numbers below has types link.block.inputs without.args [] w (arguments_of l None without.args 0 link.block.inputs ([], w))
+    block_passes = block.passes l known graphs p arguments numbers below has types (names ++ o.result ∷ []) without w enough_there graph_is blocks link
+
+    count : length (link_of l None without w).1.body.types ≡ length w.body.types + length block_passes.new
+    count = ap (λ (k : LlLink × Writing). length k.1.body.types) (block.link_is l known graphs p arguments numbers below has types (names ++ o.result ∷ []) without w enough_there graph_is blocks link)
+        ∙ ap (λ (ts : List LlType). length ts) block_passes.added ∙ length-append w.body.types block_passes.new
+
+    -- what is left of the pieces, where the operation is done, goes on by the link
+    behind : (left2 : List LlOp) (ends2 : LlExit) → IsPiece conversions left2 ends2 → Does s f (names ++ o.result ∷ []) [] e left2 ends2
+    behind left2 ends2 cut2 frames core g env world at answers =
+        let of : core.function ≡ cut.number = function_is core.function at.runs in
+        let room = at.room in
+        let block_link = block.link_is l known graphs p arguments numbers below has types (names ++ o.result ∷ []) without w enough_there graph_is blocks link in
+        let block_written : conversions ≡ block_passes.ops = cancel w.body.ops conversions block_passes.ops (sym conversions_are ∙ ap (λ (k : LlLink × Writing). k.1.body.ops) block_link ∙ block_passes.written) in
+        let enters : length w.body.types + length block_passes.new ≤ s.size f = omega (arith, room_for, count) in
+        let m = block_passes.follows [] stop [] core g env world.heap world.left at.stands at.left (omega (arith, room, enters)) at.variables
+        (block.own l known graphs p arguments numbers below has types (names ++ o.result ∷ []) without w enough_there graph_is blocks link at) in
+        let from : State = At conversions stop [] core in
+        let alone : Path p arguments from [] (At [] stop [] m.end) = subst (λ (ops : List LlOp). Path p arguments (At ops stop [] core) [] (At [] stop [] m.end)) (append-nil block_passes.ops ∙ sym block_written) m.way.leads.path in
+        let fits2 = fits_rest (s.size f) written conversions cut.fits in
+        let set2 = typed l (names ++ o.result ∷ []) in
+        let reads2 = reads_from set2 sources_behind in
+        let ready : Ready from = operations_are_ready p arguments quiet needed cut.number cut.graph exc by leaves base (variables_in last.args) set2 conversions core the_setting told.gives enough_needed of reads2.0 (subst (λ (n : ℕ). AllFit p n conversions) (sym room) fits2) base_behind reads2.1
+        (names_set l known graphs p arguments numbers below has types (names ++ o.result ∷ []) at) in
+        let stands : Stands frames from (At left2 ends2 frames core) = Here conversions left2 ends2 core core.block core.at of cut2 in
+        let comes = cut_ways_lead_on p arguments quiet needed cut.number cut.graph exc by leaves frames from (At left2 ends2 frames core) (At [] stop [] m.end) [] the_setting stands ready alone tt in
+        let goes = pieces_go_on p arguments quiet needed cut.number cut.graph exc by leaves frames m.end comes.state the_setting comes.stands (λ l2 end2 text2 path2. ready l2 end2 text2 (path_then alone path2)) in
+        let mid : Core = elsewhere goes.block goes.at m.end in
+        let runs : s.known.graph f ≡ Some mid.function = at.runs ∙ ap Some (sym m.function) in
+        let room_there : length mid.vars ≡ s.size f = m.room ∙ at.room in
+        let jumps : jump p frames mid last ≡ Goes _ = block.jumps l known graphs p arguments numbers below has types (names ++ o.result ∷ []) without w enough_there graph_is blocks link frames env world mid m.ghost m.fine m.stands m.same room_there enters runs in
+        block.goes_on l known graphs p arguments numbers below has types (names ++ o.result ∷ []) without w enough_there graph_is blocks link frames env world mid m.ghost m.fine m.stands m.same room_there enters runs m.grown
+        (way_of (path_then comes.path (path_then goes.comes.path (Go (goes.comes.steps ∙ jumps) (Stay _)))))
+
+  -- what is written for the link only adds variables
+  link_longer : length w.body.types ≤ length (link_of l None without w).1.body.types
+  link_longer = in_each onward
+    where
+      in_each : GoesOn s numbers l names o without w → length w.body.types ≤ length (link_of l None without w).1.body.types
+      in_each (inl link) = (let c = count link in omega (arith, c))
+      in_each (inr gives) = (let it = link_adds l None without w in let c : length (link_of l None without w).1.body.types ≡ length w.body.types + length it.new = ap (λ (ts : List LlType). length ts) it.types ∙ length-append w.body.types it.new in omega (arith, c))
+
+  -- where the operation has given a value, what stands behind it goes on
+  goes_behind : {g2 : Ghost} {x : Value} {v : Meant} → Holds s.around.layout s.known g2 (s.element f o.result) x v → (left2 : List LlOp) (ends2 : LlExit) → IsPiece conversions left2 ends2 → Does s f (names ++ o.result ∷ []) [] e left2 ends2
+  goes_behind {g2 = g2} {x = x} {v = v} held left2 ends2 cut2 = in_each onward
+    where
+      in_each : GoesOn s numbers l names o without w → Does s f (names ++ o.result ∷ []) [] e left2 ends2
+      in_each (inl link) = behind link left2 ends2 cut2
+      in_each (inr gives) = absurd (gives g2 x v held)
 
   -- ---- at the operation
 
@@ -360,14 +378,15 @@ module _ (l : Lowered) (known : Known) (graphs : Graphs) (p : LlProgram) (argume
     named_more : (value : Option Meant) → names_of (env ++ bind o.result value ∷ []) ≡ names ++ o.result ∷ []
     named_more value = names_more env (bind o.result value) ∙ ap (λ ns. ns ++ o.result ∷ []) at.named
 
-    gave : {blocks most : ℕ} (v : Meant) (w2 : World) → Done blocks s.known s.around (place_of s f o.result) s.low s.arguments alone conversions stop [] core g most start world v w2 → Came s Rest f names env o world v w2 g frames here
+    gave : (v : Meant) (w2 : World) → Gave s f o start alone conversions stop [] core g world v w2 → Came s Rest f names env o world v w2 g frames here
     gave v w2 c =
-        let k = comes c.leads.path tt in
+        let k = comes c.way.leads.path tt in
         let it = here_at p arguments quiet needed cut.number cut.graph exc by leaves the_setting frames k.stands conversions c.end refl in
+        let kept = c.keeps in
         record {
           ops = it.left;
           exit = it.ends;
-          rest = behind it.left it.ends it.cut;
+          rest = goes_behind c.holds it.left it.ends it.cut;
           text = c.text;
           end = elsewhere it.block it.at c.end;
           way = subst (λ (u : State). Way s here c.text u) it.is (way_of k.path);
@@ -377,37 +396,33 @@ module _ (l : Lowered) (known : Known) (graphs : Graphs) (p : LlProgram) (argume
           at = record {
             named = named_more (Some v);
             stands = c.stands;
-            left = sym (ap (λ (k : Core). k.steps) c.memory);
-            variables = stand_more s f start types_more o.result v c.grown new_name at.variables c.others c.holds;
-            runs = at.runs ∙ ap Some (sym c.function);
-            room = c.room ∙ at.room;
+            left = c.left;
+            variables = stand_more s f start types_more o.result v c.grown new_name at.variables kept.others c.holds;
+            runs = at.runs ∙ ap Some (sym kept.function_is);
+            room = kept.room ∙ at.room;
           };
         }
 
-    threw : (r : ℕ) (w2 : World) → IsException s g r (s.known.exception r) → Threw s.low s.arguments alone conversions stop [] core (s.known.exception r) start world w2 → (w2.out ≡ world.out) × Thrown s f r w2 g frames env [] e here
-    threw r w2 is t =
-        let memory = t.memory in
-        let k = comes t.leads.path tt in
-        let it = exceptions_are_caught p arguments quiet needed cut.number cut.graph exc by leaves frames (s.known.exception r) t.frame t.end k.state the_setting k.stands in (
-          ap (λ (v : World). v.out) t.same,
-          catches frames core g env world at r w2 g (s.known.exception r) t.frame.vars t.end here is
-              (subst (λ (v : World). Represents s.around.layout s.known g v.heap v.left t.end.blocks t.end.statics) (sym t.same) (subst (λ (c : Core). Represents s.around.layout s.known g world.heap world.left c.blocks c.statics) (sym memory) at.stands))
-              (ap (λ (v : World). v.left) t.same ∙ at.left ∙ sym (ap (λ (c : Core). c.steps) memory)) grown_none (λ n h q. t.others n (omega (arith, h, enough))) t.room
-              (record { block = it.block; at = it.at; comes = record { state = it.comes.state; path = path_then k.path it.comes.path; steps = it.comes.steps } }),
+    threw : (r : ℕ) (w2 : World) → Threw s f o start alone conversions stop [] core g r world w2 → (w2.out ≡ world.out) × Thrown s f r w2 g frames env [] e here
+    threw r w2 t =
+        let k = comes t.way.leads.path tt in
+        let kept = t.keeps in
+        let it = exceptions_are_caught p arguments quiet needed cut.number cut.graph exc by leaves frames t.x t.frame t.end k.state the_setting k.stands in (
+          t.out,
+          thrown_since t.grown (catches frames core g env world at r w2 t.ghost t.x t.frame.vars t.end here t.is t.stands t.left t.grown (λ n h q. kept.others n (omega (arith, h, enough)) q) kept.room
+              (record { block = it.block; at = it.at; comes = record { state = it.comes.state; path = path_then k.path it.comes.path; steps = it.comes.steps } })),
         )
 
-    raised : (r : ℕ) (w2 : World) → Raised s.known.program.classes s.low s.arguments alone conversions stop [] core g r start world w2 → (w2.out ≡ world.out) × Thrown s f r w2 g frames env [] e here
+    raised : (r : ℕ) (w2 : World) → Raised s f o start alone conversions stop [] core g r world w2 → (w2.out ≡ world.out) × Thrown s f r w2 g frames env [] e here
     raised r w2 t =
-        let memory = t.memory in
-        let stands : Represents s.around.layout s.known g world.heap world.left t.end.blocks t.end.statics = subst (λ (c : Core). Represents s.around.layout s.known g world.heap world.left c.blocks c.statics) (sym memory) at.stands in
-        let set : is_unset (read t.end.vars t.variable) ≡ false = found_set core.blocks core.statics (read t.end.vars t.variable) _ (at.stands.instances t.class r (read t.end.vars t.variable) t.home).block_is in
-        let k = comes t.leads.path tt in
-        let it = raises_are_caught p arguments quiet needed cut.number cut.graph exc by leaves frames t.variable conversions t.end k.state the_setting k.stands (ready_at t.leads.path) set in (
-          ap (λ (v : World). v.out) t.same,
-          catches frames core g env world at r w2 g (read t.end.vars t.variable) t.end.vars t.end here (record { class = t.class; home = t.home; above = t.above })
-              (subst (λ (v : World). Represents s.around.layout s.known g v.heap v.left t.end.blocks t.end.statics) (sym t.same) stands)
-              (ap (λ (v : World). v.left) t.same ∙ at.left ∙ sym (ap (λ (c : Core). c.steps) memory)) grown_none (λ n h q. t.others n (omega (arith, h, enough))) t.room
-              (record { block = it.block; at = it.at; comes = record { state = it.comes.state; path = path_then k.path it.comes.path; steps = it.comes.steps } }),
+        let is = t.is in
+        let kept = t.keeps in
+        let set : is_unset (read t.end.vars t.variable) ≡ false = found_set t.end.blocks t.end.statics (read t.end.vars t.variable) _ (t.stands.instances is.class r (read t.end.vars t.variable) is.home).block_is in
+        let k = comes t.way.leads.path tt in
+        let it = raises_are_caught p arguments quiet needed cut.number cut.graph exc by leaves frames t.variable conversions t.end k.state the_setting k.stands (ready_at t.way.leads.path) set in (
+          t.out,
+          thrown_since t.grown (catches frames core g env world at r w2 t.ghost (read t.end.vars t.variable) t.end.vars t.end here t.is t.stands t.left t.grown (λ n h q. kept.others n (omega (arith, h, enough)) q) kept.room
+              (record { block = it.block; at = it.at; comes = record { state = it.comes.state; path = path_then k.path it.comes.path; steps = it.comes.steps } })),
         )
 
     -- ---- ends
@@ -425,34 +440,34 @@ module _ (l : Lowered) (known : Known) (graphs : Graphs) (p : LlProgram) (argume
         on None k = absurd (cc)
         on (Some n) k = other n (cc)
 
-    over_failed : (name : FailName) → FailedAs s.low s.arguments alone name → Over s (Failed name) world here
+    over_failed : (name : FailName) → FailedSo s f o start alone conversions stop [] core g name → Over s (Failed name) world here
     over_failed name d =
-        let k = comes d.leads.path (ends_inside (Failed name) (core_of d.last) (λ n h. absurd (cc)) d.last d.ends) in
-        let it = pieces_end p arguments quiet needed cut.number cut.graph exc by leaves frames (Failed name) (core_of d.last) d.last k.state the_setting k.stands (ready_at d.leads.path) d.ends in
+        let k = comes d.way.leads.path (ends_inside (Failed name) (core_of d.last) (λ n h. absurd (cc)) d.last d.ends) in
+        let it = pieces_end p arguments quiet needed cut.number cut.graph exc by leaves frames (Failed name) (core_of d.last) d.last k.state the_setting k.stands (ready_at d.way.leads.path) d.ends in
         record { last = it.comes.state; way = way_of (path_then k.path it.comes.path); core = it.core; ends = it.comes.steps; memory = tt }
 
-    over_lacked : Lacked s.low s.arguments alone core → Over s Running world here
+    over_lacked : Lacked s f o start alone conversions stop [] core g world → Over s Running world here
     over_lacked d =
-        let k = comes d.leads.path (ends_inside Running (core_of d.last) (λ n h. absurd (cc)) d.last d.ends) in
-        let it = pieces_end p arguments quiet needed cut.number cut.graph exc by leaves frames Running (core_of d.last) d.last k.state the_setting k.stands (ready_at d.leads.path) d.ends in
+        let k = comes d.way.leads.path (ends_inside Running (core_of d.last) (λ n h. absurd (cc)) d.last d.ends) in
+        let it = pieces_end p arguments quiet needed cut.number cut.graph exc by leaves frames Running (core_of d.last) d.last k.state the_setting k.stands (ready_at d.way.leads.path) d.ends in
         record {
           last = it.comes.state;
           way = way_of (path_then k.path it.comes.path);
           core = it.core;
           ends = it.comes.steps;
-          memory = (g, (core.statics, subst (λ bs. Represents s.around.layout s.known g world.heap world.left bs core.statics) (sym (it.blocks ∙ d.blocks)) at.stands));
+          memory = (d.ghost, (d.statics, subst (λ bs. Represents s.around.layout s.known d.ghost world.heap world.left bs d.statics) (sym it.blocks) d.stands));
         }
 
     -- ---- calls
 
-    entered : {blocks most : ℕ} (callee : ℕ) (values : List Meant) (instead : Option Meant) (w2 : World) → EntersBy blocks s.known s.around (place_of s f o.result) s.low s.arguments alone conversions stop [] core g most start world callee values instead w2
+    entered : (callee : ℕ) (values : List Meant) (instead : Option Meant) (w2 : World) → Called s f o start alone conversions stop [] core g world callee values instead w2
         → Entered s Rest f names env o [] e callee values instead world w2 g frames here
     entered callee values instead w2 c =
-        let k = comes c.leads.path tt in
-        let it = calls_are_made p arguments quiet needed cut.number cut.graph exc by leaves frames c.number c.xs c.frame c.end k.state the_setting (told.loud callee c.number c.graph) k.stands in
+        let k = comes c.way.leads.path tt in
+        let it = calls_are_made p arguments quiet needed cut.number cut.graph exc by leaves frames c.number c.xs c.frame c.end k.state the_setting (told.loud callee c.number c.is) k.stands in
         record {
           number = c.number;
-          is = c.graph;
+          is = c.is;
           params = c.params;
           takes = c.takes;
           xs = c.xs;
@@ -463,74 +478,67 @@ module _ (l : Lowered) (known : Known) (graphs : Graphs) (p : LlProgram) (argume
           ghost = c.ghost;
           grown = c.grown;
           stands = c.stands;
-          left = sym (ap (λ (k : Core). k.steps) c.memory);
-          passed = λ function is. record { all = values; are = full_parameters function.defaults values (params_fit callee function c.params is c.takes ∙ sym (all_long c.passed)); hold = c.passed };
+          left = c.left;
+          passed = c.passed;
           waits = record { back = back it.piece it.waits it.caught; throws = throws it.piece it.waits it.caught };
         }
       where
         back : (piece : Frame) → pieces.WaitsSo p arguments quiet needed cut.number cut.graph exc by leaves c.frame piece → pieces.IsCaught exc by piece.ops piece.exit → (later : Core) (g2 : Ghost) (x : Value) (v : Meant) (w3 : World) → Grown c.ghost g2 → Represents s.around.layout s.known g2 w3.heap w3.left later.blocks later.statics → w3.left ≡ later.steps → Holds s.around.layout s.known g2 (slice_get s.around.results callee) x v
             → Came s Rest f names env o w3 (unwrap_or instead v) w3 g2 frames (Returning x (piece ∷ frames) later)
         back piece waits caught_in later g2 x v w3 grown stands left_is holds =
-            let r = c.back later g2 x v grown holds in
-            let memory = r.memory in
+            let r = c.back later g2 x v w3 grown stands left_is holds in
+            let kept = r.keeps in
             let from : State = Returning x (c.frame ∷ []) later in
             let ready_back : Ready from = returns_are_ready p arguments quiet needed cut.number cut.graph exc by leaves base (variables_in last.args) (typed l names) all core the_setting told.gives enough_needed of all_reads fits_here base_in further_in set_here
-            c.number c.xs c.frame c.end later [] x c.leads.path (held_set stands holds) in
-            let k = cut_ways_lead_on p arguments quiet needed cut.number cut.graph exc by leaves frames from (Returning x (piece ∷ frames) later) (At conversions stop [] r.end) [] the_setting (Within (Returning x [] later) c.frame piece waits tt (inr caught_in)) ready_back r.leads.path tt in
+            c.number c.xs c.frame c.end later [] x c.way.leads.path (held_set stands holds) in
+            let k = cut_ways_lead_on p arguments quiet needed cut.number cut.graph exc by leaves frames from (Returning x (piece ∷ frames) later) (At conversions stop [] r.end) [] the_setting (Within (Returning x [] later) c.frame piece waits tt (inr caught_in)) ready_back r.way.leads.path tt in
             let it = here_at p arguments quiet needed cut.number cut.graph exc by leaves the_setting frames k.stands conversions r.end refl in
             record {
               ops = it.left;
               exit = it.ends;
-              rest = behind it.left it.ends it.cut;
+              rest = goes_behind r.holds it.left it.ends it.cut;
               text = [];
               end = elsewhere it.block it.at r.end;
               way = subst (λ (u : State). Way s (Returning x (piece ∷ frames) later) [] u) it.is (way_of k.path);
               out = sym (append-nil w3.out);
-              ghost = g2;
-              grown = grown_none;
+              ghost = r.ghost;
+              grown = r.grown;
               at = record {
                 named = named_more (Some (unwrap_or instead v));
-                stands = subst (λ (k : Core). Represents s.around.layout s.known g2 w3.heap w3.left k.blocks k.statics) (sym memory) stands;
-                left = left_is ∙ sym (ap (λ (k : Core). k.steps) memory);
-                variables = stand_more s f start types_more o.result (unwrap_or instead v) (grown_both c.grown grown) new_name at.variables r.others r.holds;
-                runs = at.runs ∙ ap Some (sym r.function);
-                room = r.room ∙ at.room;
+                stands = r.stands;
+                left = r.left;
+                variables = stand_more s f start types_more o.result (unwrap_or instead v) (grown_both c.grown (grown_both grown r.grown)) new_name at.variables kept.others r.holds;
+                runs = at.runs ∙ ap Some (sym kept.function_is);
+                room = kept.room ∙ at.room;
               };
             }
 
         throws : (piece : Frame) → pieces.WaitsSo p arguments quiet needed cut.number cut.graph exc by leaves c.frame piece → pieces.IsCaught exc by piece.ops piece.exit → (later : Core) (g2 : Ghost) (x : Value) (r : ℕ) (w3 : World) → Grown c.ghost g2 → Represents s.around.layout s.known g2 w3.heap w3.left later.blocks later.statics → w3.left ≡ later.steps → IsException s g2 r x
             → Thrown s f r w3 g2 frames env [] e (Throwing x (piece ∷ frames) later)
         throws piece waits caught_in later g2 x r w3 grown stands left_is is =
-            catches frames core g env world at r w3 g2 x c.frame.vars later (Throwing x (piece ∷ frames) later) is stands left_is (grown_both c.grown grown) (λ n h q. c.waits.others n (omega (arith, h, enough)) q) c.waits.room
+            let kept = c.keeps in
+            catches frames core g env world at r w3 g2 x c.frame.vars later (Throwing x (piece ∷ frames) later) is stands left_is (grown_both c.grown grown) (λ n h q. kept.others n (omega (arith, h, enough)) q) kept.room
             (exceptions_are_caught p arguments quiet needed cut.number cut.graph exc by leaves frames x c.frame later (Throwing x (piece ∷ frames) later) the_setting (Within (Throwing x [] later) c.frame piece waits tt (inr caught_in)))
 
-    follows_so : (answer : Answer) → DoesOrEnters s f o start alone conversions stop [] core g world answer → FollowsSo s Rest f names env o [] e world g frames here answer
-    follows_so (Gives v w2) it = gave v w2 it.follows
-    follows_so (Throws r w2) it = threw r w2 it.there it.follows
-    follows_so (Fails name) it = over_failed name it.follows
-    follows_so Lacks it = over_lacked it.follows
-    follows_so (Enters callee values instead w2) it = entered callee values instead w2 it.follows
+    follows_so : (answer : Answer) → Acts s f o start alone conversions stop [] core g world answer → FollowsSo s Rest f names env o [] e world g frames here answer
+    follows_so (Gives v w2) it = gave v w2 it
+    follows_so (Throws r w2) (inl it) = threw r w2 it
+    follows_so (Throws r w2) (inr it) = raised r w2 it
+    follows_so (Fails name) it = over_failed name it
+    follows_so Lacks it = over_lacked it
+    follows_so (Enters callee values instead w2) it = entered callee values instead w2 it
     follows_so Bad it = tt
 
-    raises_so : (answer : Answer) → Raises s start alone conversions stop [] core g world answer → FollowsSo s Rest f names env o [] e world g frames here answer
-    raises_so (Gives v w2) it = absurd it
-    raises_so (Throws r w2) (inl it) = raised r w2 it
-    raises_so (Throws r w2) (inr it) = threw r w2 it.0 it.1
-    raises_so (Fails name) it = over_failed name it
-    raises_so Lacks it = absurd it
-    raises_so (Enters callee values instead w2) it = absurd it
-    raises_so Bad it = tt
-
     followed : IsGood s.known.program s.made (is_keyed s f o) o.op world vs → FollowsSo s Rest f names env o [] e world g frames here (meant_op s.known.program o.covered o.op vs world)
-    followed good = on (does_it conversions stop [] core g world vs at.stands at.left (let r = at.room in let c = room_there in omega (arith, r, c)) (operands_given s f g env core at.variables o.args vs args) good)
+    followed good = in_each are_read
       where
         room_there : start + new ≤ s.size f
-        room_there = (let c = count in omega (arith, longer, room_for, c))
+        room_there = (let c = link_longer in omega (arith, longer, room_for, c))
 
-        on : DoesOrEnters s f o start alone conversions stop [] core g world (meant_op s.known.program o.covered o.op vs world) ⊎ Raises s start alone conversions stop [] core g world (meant_op s.known.program o.covered o.op vs world) → FollowsSo s Rest f names env o [] e world g frames here (meant_op s.known.program o.covered o.op vs world)
-        on (inl it) = follows_so (meant_op s.known.program o.covered o.op vs world) it
-        on (inr it) = raises_so (meant_op s.known.program o.covered o.op vs world) it
+        in_each : AreRead s f o.args → FollowsSo s Rest f names env o [] e world g frames here (meant_op s.known.program o.covered o.op vs world)
+        in_each (inl free) = follows_so (meant_op s.known.program o.covered o.op vs world) (does_it conversions stop [] core g world vs at.stands at.left (let r = at.room in let c = room_there in omega (arith, r, c)) (operands_given s f g env core at.variables o.args vs free args) good)
+        in_each (inr none) = absurd (none_given s f g env core at.variables o.args vs none args)
 
 pub caught_operations_are_followed : CaughtOperationsAreFollowed
-caught_operations_are_followed l known graphs p arguments numbers quiet below start new names o caught hands any without w written conversions by left ends has types params_fit graph_is blocks told enough longer does_it fresh inside link conversions_are room_for beyond under taken cut frames core g env world vs at args good =
-    followed l known graphs p arguments numbers quiet below start new names o caught hands any without w written conversions by left ends has types params_fit graph_is blocks told enough longer does_it fresh inside link conversions_are room_for beyond under taken cut frames core g env world vs at args good
+caught_operations_are_followed l known graphs p arguments numbers quiet below start new names o caught hands any without w written conversions by left ends has types graph_is blocks told enough longer does_it are_read fresh inside own onward conversions_are room_for beyond under taken cut frames core g env world vs at args good =
+    followed l known graphs p arguments numbers quiet below start new names o caught hands any without w written conversions by left ends has types graph_is blocks told enough longer does_it are_read fresh inside own onward conversions_are room_for beyond under taken cut frames core g env world vs at args good

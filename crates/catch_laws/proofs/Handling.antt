@@ -56,7 +56,7 @@ use Rattle.block_laws.specs.Operations.{HasTypes}
 use Rattle.block_laws.specs.Links.{setting, AllAmong, HasBlocks}
 use Rattle.block_laws.proofs.Passing as block
 use Rattle.block_laws.proofs.Passing.{equal, is_void, no_void, unequal}
-use Rattle.block_laws.proofs.Variables.{stand_kept}
+use Rattle.block_laws.proofs.Variables.{stand_kept, typed_free}
 use Rattle.throw_laws.specs.Pieces.{AllIn, AreSet, elsewhere}
 use Rattle.throw_laws.proofs.Catching.{goes_by}
 use Rattle.catch_laws.specs.Handlers.{AnyIsDone, AreInGraph, HandIsDone, HandlersAreFound, HandsAreDone, HasClasses, IsCaughtAt, IsLanding, IsPlaced, IsTaken, Lands, LandsAt, Reaches, emptied}
@@ -128,7 +128,7 @@ module _ (l : Lowered) (known : Known) (graphs : Graphs) (p : LlProgram) (argume
       inside = typed_in l names u h
 
       by : (o : Option Meant) → look env u ≡ o → is_unset (read core.vars u) ≡ false
-      by (Some x) e = held_set at.stands (at.variables.bound u x e)
+      by (Some x) e = held_set at.stands (at.variables.bound u x e (typed_free l.world.around.layout ((setting l known graphs p arguments).element l.number u) inside.1))
       by None e = block.blank_set l known graphs p arguments numbers below has types at.stands inside.1 (at.variables.blank u (ap (among u) at.named ∙ inside.0) e)
 
 -- ---- the handlers of a block

@@ -42,12 +42,12 @@ use Rattle.object_laws.specs.Known.{Known}
 use Rattle.object_laws.specs.Represents.{Represents}
 use Rattle.object_laws.specs.Values.{Holds}
 use Rattle.object_laws.proofs.Growing.{grown_none, holds_grows}
-use Rattle.run_laws.specs.Points.{Setting, names_of, Stand, Way}
+use Rattle.run_laws.specs.Points.{Setting, is_conflict, names_of, Stand, Way}
 use Rattle.run_laws.specs.Does.{Begins, Jumps}
 use Rattle.run_laws.proofs.Steps.{grown_both, way_then, stays}
 use Rattle.block_laws.specs.Operations.{HasTypes}
 use Rattle.block_laws.specs.Links.{setting, AllAmong, AllUnder, HasBlock, HasBlocks, Converts}
-use Rattle.block_laws.proofs.Variables.{stand_kept, look_new, look_old, among_old, names_more}
+use Rattle.block_laws.proofs.Variables.{stand_kept, typed_free, look_new, look_old, among_old, names_more}
 use Rattle.block_laws.proofs.Passing as block
 use Rattle.block_laws.proofs.Passing.{no_void, is_void, equal, unequal, tail}
 use Rattle.catch_laws.specs.Handlers.{OneCatches, OneIsCaught, AllAreCaught, IsLanding}
@@ -125,14 +125,14 @@ module _ (l : Lowered) (known : Known) (graphs : Graphs) (p : LlProgram) (argume
         follows = λ next e frames core g env r heap left stands same fits stand own.
             let seen : look (with_exception env r) a ≡ Some (Ref r) = ap (look (with_exception env r)) (sym is) ∙ look_new env v (Some (Ref r)) stand.new in
             subst (λ (o : Option Meant). Moved (length w.body.types) next e frames core g heap left (λ ghost vars. Fits ghost (s.element l.number u) o (operand vars (value_as l.world.around.layout (Var exc) (type_seen l.world.around.layout (Some (element.Instance class false))) (type_at l u) w).0)) (At (it.ops ++ next) e frames core)) (sym seen)
-            (block.moved l known graphs p arguments numbers below has types (λ ghost y. Holds l.world.around.layout known ghost (s.element l.number u) y (Ref r)) same
-            (it.follows p numbers known.exception arguments next e frames core g heap left (Ref r) has (c.stood core g heap left stands same) stands same fits inside stand.holds));
+            (block.fine_fits l known graphs p arguments numbers below has types _ (block.moved l known graphs p arguments numbers below has types (λ ghost y. Holds l.world.around.layout known ghost (s.element l.number u) y (Ref r)) same
+            (it.follows p numbers known.exception arguments next e frames core g heap left (Ref r) has (c.stood core g heap left stands same) stands same fits inside stand.holds)));
       }
 
   -- another variable
-  variable_goes : (u a : ℕ) (others : List ℕ) (w : Writing) → a < length w.body.types → (a ≡ v → ⊥) → Converts s numbers (s.element l.number a) (s.element l.number u) (Var a) w → One u (a ∷ others) w (value_as l.world.around.layout (Var a) (type_at l a) (type_at l u) w)
-  variable_goes u a others w inside other c =
-      let it = block.one_converted l known graphs p arguments numbers below has types u a [] w inside c in
+  variable_goes : (u a : ℕ) (others : List ℕ) (w : Writing) → a < length w.body.types → is_conflict (s.element l.number a) ≡ false → (a ≡ v → ⊥) → Converts s numbers (s.element l.number a) (s.element l.number u) (Var a) w → One u (a ∷ others) w (value_as l.world.around.layout (Var a) (type_at l a) (type_at l u) w)
+  variable_goes u a others w inside free other c =
+      let it = block.one_converted l known graphs p arguments numbers below has types u a [] w inside free c in
       record {
         ops = it.ops;
         new = it.new;
@@ -181,16 +181,16 @@ module _ (l : Lowered) (known : Known) (graphs : Graphs) (p : LlProgram) (argume
     };
   }
 
-  -- the first of them has no type, and is not the exception
-  abbrev HasNone : List ℕ → Type 0
-  HasNone [] = Unit {0}
-  HasNone (a ∷ others) = (type_at l a ≡ type.Void) × (a ≡ v → ⊥)
+  -- the first of them has no type, and is not the exception, where the input is in no conflict
+  abbrev HasNone : ℕ → List ℕ → Type 0
+  HasNone u [] = Unit {0}
+  HasNone u (a ∷ others) = is_conflict (s.element l.number u) ≡ false → (is_conflict (s.element l.number a) ≡ false) × (type_at l a ≡ type.Void) × (a ≡ v → ⊥)
 
-  nothing_there : {g : Ghost} {env : List Bound} {r : ℕ} {vars : List Value} (rest : List ℕ) → HasNone rest → Stands g env r vars → (x : Meant) → source (with_exception env r) rest ≡ Some x → ⊥
-  nothing_there [] none stand x h = absurd (cc)
-  nothing_there {g = g} {env = env} {r = r} {vars = vars} (a ∷ others) none stand x h = types.typed g a (read vars a) x (stand.stand.bound a x (sym (look_old env v a (Some (Ref r)) none.1) ∙ h)) none.0
+  nothing_there : {g : Ghost} {env : List Bound} {r : ℕ} {vars : List Value} (u : ℕ) (rest : List ℕ) → HasNone u rest → Stands g env r vars → (x : Meant) → source (with_exception env r) rest ≡ Some x → is_conflict (s.element l.number u) ≡ false → ⊥
+  nothing_there u [] none stand x h free = absurd (cc)
+  nothing_there {g = g} {env = env} {r = r} {vars = vars} u (a ∷ others) none stand x h free = let it = none free in types.typed g a (read vars a) x (stand.stand.bound a x (sym (look_old env v a (Some (Ref r)) it.2) ∙ h) it.0) it.1
 
-  skips : (u : ℕ) (inputs rest : List ℕ) (xs : List COperand) (w : Writing) (result : List COperand × Writing) → type_at l u ≡ type.Void → HasNone rest → Pass inputs (tail rest) xs w result → Pass (u ∷ inputs) rest xs w result
+  skips : (u : ℕ) (inputs rest : List ℕ) (xs : List COperand) (w : Writing) (result : List COperand × Writing) → type_at l u ≡ type.Void → HasNone u rest → Pass inputs (tail rest) xs w result → Pass (u ∷ inputs) rest xs w result
   skips u inputs rest xs w result void none it = record {
     ys = it.ys;
     ops = it.ops;
@@ -201,7 +201,7 @@ module _ (l : Lowered) (known : Known) (graphs : Graphs) (p : LlProgram) (argume
     under = it.under;
     follows = λ next e frames core g env r heap left stands same fits stand own.
         let m = it.follows next e frames core g env r heap left stands same fits stand (block.own_rest l known graphs p arguments numbers below has types rest (names_of (with_exception env r)) own) in
-        record { end = m.end; way = m.way; ghost = m.ghost; grown = m.grown; stands = m.stands; same = m.same; fine = block.Skip u inputs rest it.ys void (nothing_there rest none stand) m.fine; others = m.others; room = m.room; function = m.function };
+        record { end = m.end; way = m.way; ghost = m.ghost; grown = m.grown; stands = m.stands; same = m.same; fine = block.Skip u inputs rest it.ys void (nothing_there u rest none stand) m.fine; others = m.others; room = m.room; function = m.function };
   }
 
   module _ (u : ℕ) (inputs rest : List ℕ) (xs : List COperand) (w : Writing) (one_made : COperand × Writing) (result : List COperand × Writing) (there : type_at l u ≡ type.Void → ⊥) (enough : below ≤ length w.body.types) (inside : exc < length w.body.types)
@@ -254,17 +254,20 @@ module _ (l : Lowered) (known : Known) (graphs : Graphs) (p : LlProgram) (argume
   one_goes u [] w there room inside goes = default_goes u w
   one_goes u (a ∷ others) w there room inside goes = by (v == a) refl goes
     where
-      by : (b : Bool) → (v == a) ≡ b → OneCatches s numbers l caught class b a u w → One u (a ∷ others) w (passed_as l (if b then (Var exc, caught.kind) else (Var a, type_at l a)) (type_at l u) w)
-      by true h c = subst (λ (t : LlType). One u (a ∷ others) w (value_as l.world.around.layout (Var exc) t (type_at l u) w)) kind (exception_goes u a others w room (sym (equal v a h)) c.1)
-      by false h c = variable_goes u a others w inside.0 (unequal v a h) (c.1 there)
+      free : is_conflict (s.element l.number u) ≡ false
+      free = typed_free l.world.around.layout (s.element l.number u) there
 
-  none_of : (u : ℕ) (w : Writing) (rest : List ℕ) → type_at l u ≡ type.Void → OneIsCaught s numbers l caught class (slice_get rest 0) u w → HasNone rest
+      by : (b : Bool) → (v == a) ≡ b → OneCatches s numbers l caught class b a u w → One u (a ∷ others) w (passed_as l (if b then (Var exc, caught.kind) else (Var a, type_at l a)) (type_at l u) w)
+      by true h c = subst (λ (t : LlType). One u (a ∷ others) w (value_as l.world.around.layout (Var exc) t (type_at l u) w)) kind (exception_goes u a others w room (sym (equal v a h)) (c free).1)
+      by false h c = let it = c free in variable_goes u a others w inside.0 it.0 (unequal v a h) (it.2 there)
+
+  none_of : (u : ℕ) (w : Writing) (rest : List ℕ) → type_at l u ≡ type.Void → OneIsCaught s numbers l caught class (slice_get rest 0) u w → HasNone u rest
   none_of u w [] void goes = tt
   none_of u w (a ∷ others) void goes = by (v == a) refl goes
     where
-      by : (b : Bool) → (v == a) ≡ b → OneCatches s numbers l caught class b a u w → HasNone (a ∷ others)
-      by true h c = absurd (c.0 void)
-      by false h c = (c.0 void, unequal v a h)
+      by : (b : Bool) → (v == a) ≡ b → OneCatches s numbers l caught class b a u w → HasNone u (a ∷ others)
+      by true h c = λ free. absurd ((c free).0 void)
+      by false h c = λ free. let it = c free in (it.0, it.1 void, unequal v a h)
 
   longer_one : (u : ℕ) (rest : List ℕ) (w : Writing) (result : COperand × Writing) → One u rest w result → length w.body.types ≤ length result.1.body.types
   longer_one u rest w result it = let e : length result.1.body.types ≡ length w.body.types + length it.new = ap (λ (ts : List LlType). length ts) it.added ∙ length-append w.body.types it.new in omega (arith, e)

@@ -25,10 +25,10 @@ use Rattle.object_laws.specs.Done.{HasLayout}
 use Rattle.object_laws.specs.Known.{Known}
 use Rattle.run_laws.specs.Points.{Setting}
 use Rattle.run_laws.specs.Does.{Does}
-use Rattle.block_laws.specs.Links.{setting, HasBlocks, IsLink}
-use Rattle.block_laws.specs.Operations.{HasParameters, HasTypes, IsOperation}
+use Rattle.block_laws.specs.Links.{setting, AllAmong, HasBlocks}
+use Rattle.block_laws.specs.Operations.{AreRead, HasTypes, IsOperation}
 use Rattle.throw_laws.specs.Ready.{AllFit}
-use Rattle.catch_laws.specs.Caught.{IsTold, ReadsInside}
+use Rattle.catch_laws.specs.Caught.{GoesOn, IsTold, ReadsInside}
 use Rattle.catch_laws.specs.Handlers.{AnyIsDone, HandsAreDone, HasClasses, IsPlaced}
 
 -- the graphs that are told not to raise, by what was found
@@ -39,16 +39,16 @@ quiet_by found g = not (graph_raises found g)
 pub record IsAround (l : Lowered) (known : Known) (graphs : Graphs) (p : LlProgram) (arguments : List (List ℕ)) (below : ℕ) : Type 0 where
   pub layout : HasLayout p l.world.around.layout
   pub types : HasTypes (setting l known graphs p arguments) l.number below
-  pub params : HasParameters (setting l known graphs p arguments)
   pub graph : slice_get graphs.graphs l.number ≡ Some l.graph
   pub blocks : HasBlocks (setting l known graphs p arguments) l
   pub classes : HasClasses l known
 
--- an operation is written so behind what was there, reads what is set, and sets a new variable
+-- an operation is written so behind what was there, reads what is set and in no conflict, and sets a new variable
 pub record IsWrittenSo (s : Setting) (l : Lowered) (names : List ℕ) (o : Op) (front written : List LlOp) (start new : ℕ) (w : Writing) : Type 0 where
   pub ops : w.body.ops ≡ front ++ written
   pub types : start + new ≤ length w.body.types
   pub is : IsOperation s l.number o start new written
+  pub are_read : AreRead s l.number o.args
   pub fresh : among o.result names ≡ false
   pub inside : ReadsInside l names o.result written
 
@@ -63,13 +63,15 @@ module _ (s : Setting) (numbers : Numbers) (l : Lowered) (names : List ℕ) (o :
   abbrev pub the_caught : Caught
   the_caught = caught_in l v hands any (fresh (root_of (laid l.world 0)) passed_on.body)
 
-  -- What is passed on is converted, and, where an operation behind the first so many may raise, also by handlers, whose tests stand.
+  -- What is passed on is converted, by variables of the graph, where it has those that are written, and, where an operation behind the first so many may raise, also by
+  -- handlers, whose tests stand.
   pub record AreWaysDone (least : ℕ) (written : List LlOp) : Type 0 where
     pub new : among v names ≡ false
-    pub link : IsLink s numbers l (names ++ o.result ∷ []) without w
+    pub own : AllAmong without.args (names ++ o.result ∷ [])
+    pub way : GoesOn s numbers l names o without w
     pub conversions : List LlOp
     pub are : passed_on.body.ops ≡ w.body.ops ++ conversions
-    pub fits : AllFit s.low (s.size l.number) (written ++ conversions)
+    pub fits : length w.body.types ≤ s.size l.number → length passed_on.body.types ≤ s.size l.number → AllFit s.low (s.size l.number) (written ++ conversions)
     pub any_done : any_raises w.found least w.body.ops ≡ true → AnyIsDone s numbers l the_caught names any excepting
     pub hands_done : any_raises w.found least w.body.ops ≡ true → HandsAreDone s numbers l the_caught names hands (any_other l the_caught any excepting)
 

@@ -36,7 +36,7 @@ use Rattle.object_laws.specs.Ghost.{Ghost, InstanceOf}
 use Rattle.object_laws.specs.Known.{Known}
 use Rattle.class_laws.specs.Asked.{HasClass}
 use Rattle.class_laws.specs.Classes.{IsOf, IsLaidOut}
-use Rattle.run_laws.specs.Points.{Setting, IsAt}
+use Rattle.run_laws.specs.Points.{Setting, is_conflict, IsAt}
 use Rattle.run_laws.specs.Does.{Begins, Leaves}
 use Rattle.block_laws.specs.Links.{setting, AreDistinct, AllAmong, AllUnder, Converts, HasBlocks}
 use Rattle.block_laws.specs.Operations.{HasTypes}
@@ -45,10 +45,10 @@ use Rattle.throw_laws.specs.Pieces.{AllIn}
 -- ---- links by which exceptions go
 
 module _ (s : Setting) (numbers : Numbers) (l : Lowered) (caught : Caught) (class : ℕ) where
-  -- the exception, as an instance of this class, or another variable goes to an input
+  -- the exception, as an instance of this class, or another variable goes to an input; to one in conflict anything may go
   abbrev pub OneCatches : Bool → ℕ → ℕ → Writing → Type 0
-  OneCatches true a v w = (type_at l v ≢ type.Void) × Converts s numbers (Some (element.Instance class false)) (s.element l.number v) (Var caught.exception) w
-  OneCatches false a v w = (type_at l v ≡ type.Void → type_at l a ≡ type.Void) × (type_at l v ≢ type.Void → Converts s numbers (s.element l.number a) (s.element l.number v) (Var a) w)
+  OneCatches true a v w = is_conflict (s.element l.number v) ≡ false → (type_at l v ≢ type.Void) × Converts s numbers (Some (element.Instance class false)) (s.element l.number v) (Var caught.exception) w
+  OneCatches false a v w = is_conflict (s.element l.number v) ≡ false → (is_conflict (s.element l.number a) ≡ false) × (type_at l v ≡ type.Void → type_at l a ≡ type.Void) × (type_at l v ≢ type.Void → Converts s numbers (s.element l.number a) (s.element l.number v) (Var a) w)
 
   abbrev pub OneIsCaught : Option ℕ → ℕ → Writing → Type 0
   OneIsCaught None v w = Unit {0}

@@ -36,12 +36,12 @@ use Rattle.object_laws.specs.Done.{HasLayout}
 use Rattle.object_laws.specs.Known.{Known as Seen}
 use Rattle.run_laws.specs.Points.{Setting}
 use Rattle.run_laws.specs.Does.{Does}
-use Rattle.block_laws.specs.Operations.{HasParameters, HasTypes}
+use Rattle.block_laws.specs.Operations.{HasTypes}
 use Rattle.block_laws.specs.Links.{setting, HasBlocks}
 use Rattle.throw_laws.specs.Ready.{AllFit}
 use Rattle.catch_laws.specs.Caught.{IsTold}
 use Rattle.catch_laws.specs.Exits.{DoesSo, quiet_by}
-use Rattle.catch_laws.specs.Handlers.{HasClasses, IsPlaced}
+use Rattle.catch_laws.specs.Handlers.{IsPlaced}
 use Rattle.catch_laws.proofs.Exiting.{exits_catch}
 use Rattle.rtyped_runs.proofs.Blocks.{block_written}
 use Rattle.rtyped_runs.specs.Parts.{BlockIsDone}
@@ -68,8 +68,8 @@ module _ (l : Lowered) where
       ∙ ap (λ (c : Bool). ended (typed l b.inputs) (if c then on_raise l v hands any without (length w.writing.body.ops) (work (op_of l o w.writing) w.extra) else before w.extra (goto (link_of l None without (op_of l o w.writing))))) h
 
 module _ (l : Lowered) (seen : Seen) (graphs : Graphs) (p : LlProgram) (arguments : List (List ℕ)) (numbers : Numbers) (first last : Found) (has : HasLayout p l.world.around.layout)
-    (params : HasParameters (setting l seen graphs p arguments)) (types : HasTypes (setting l seen graphs p arguments) l.number (length (variables l.known l.world l.number)))
-    (graph : slice_get graphs.graphs l.number ≡ Some l.graph) (blocks : HasBlocks (setting l seen graphs p arguments) l) (classes : HasClasses l seen)
+    (types : HasTypes (setting l seen graphs p arguments) l.number (length (variables l.known l.world l.number)))
+    (graph : slice_get graphs.graphs l.number ≡ Some l.graph) (blocks : HasBlocks (setting l seen graphs p arguments) l)
     (told : (found : Found) → Grows first found → Grows found last → IsTold (setting l seen graphs p arguments) (quiet_by found)) where
   abbrev pub s : Setting
   s = setting l seen graphs p arguments
@@ -89,7 +89,7 @@ module _ (l : Lowered) (seen : Seen) (graphs : Graphs) (p : LlProgram) (argument
   module _ (b : Block) (w : Work) (early : Grows first w.writing.found) (late : Grows (block_of l b w).1.writing.found last) (enough : below ≤ length w.writing.body.types) where
     plain : BlockIsDone s numbers l first last b → BlockWrittenSo b w
     plain done =
-        let it = block_written l seen graphs p arguments numbers first last has params types graph blocks b w done early late enough in
+        let it = block_written l seen graphs p arguments numbers first last has types graph blocks b w done early late enough in
         let count : length (block_of l b w).1.writing.body.types ≡ length w.writing.body.types + length it.new = ap (λ (ts : List LlType). length ts) it.added ∙ length-append w.writing.body.types it.new in
         record { ops = it.ops; new = it.new; end = it.end; is = it.is; added = it.added; does = λ placed. it.does (let r = placed.room in omega (arith, r, count)) }
 
@@ -130,9 +130,9 @@ module _ (l : Lowered) (seen : Seen) (graphs : Graphs) (p : LlProgram) (argument
 
       does_so : DoesSo s l b.inputs done.o (exit.OnRaise done.v done.hands done.any done.without) w.writing.body.ops behind made
       does_so = exits_catch l seen graphs p arguments numbers below (length w.writing.body.types) (length op_is.does.new) b.inputs done.o done.v done.hands done.any done.without w.writing.body.ops op_is.does.ops behind w.extra
-          (record { layout = has; types = types; params = params; graph = graph; blocks = blocks; classes = classes }) enough
-          (record { ops = op_is.does.written; types = omega (arith, count); is = op_is.does.is; fresh = done.fresh; inside = op_is.inside })
-          (record { new = done.new; link = ways.link; conversions = ways.conversions; are = ways.are; fits = fit_both (s.size l.number) op_is.does.ops ways.conversions op_is.fits ways.fits; any_done = ways.any_done; hands_done = ways.hands_done })
+          (record { layout = has; types = types; graph = graph; blocks = blocks; classes = done.classes }) enough
+          (record { ops = op_is.does.written; types = omega (arith, count); is = op_is.does.is; are_read = op_is.are_read; fresh = done.fresh; inside = op_is.inside })
+          (record { new = done.new; own = ways.own; way = ways.way; conversions = ways.conversions; are = ways.are; fits = λ room passed. fit_both (s.size l.number) op_is.does.ops ways.conversions (op_is.fits room) (ways.fits passed); any_done = ways.any_done; hands_done = ways.hands_done })
 
       catching : BlockWrittenSo b w
       catching = record {

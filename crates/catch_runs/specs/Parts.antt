@@ -19,32 +19,35 @@ use Rattle.rtyper_program.specs.Raises.{catches}
 use Rattle.rtyper_program.specs.Seen.{Lowered}
 use Rattle.growth_laws.specs.Growing.{Grows}
 use Rattle.run_laws.specs.Points.{Setting}
-use Rattle.block_laws.specs.Links.{IsLink}
-use Rattle.block_laws.specs.Operations.{HasTypes}
+use Rattle.block_laws.specs.Links.{AllAmong}
+use Rattle.block_laws.specs.Operations.{AreRead, HasTypes}
 use Rattle.throw_laws.specs.Ready.{AllFit}
-use Rattle.catch_laws.specs.Caught.{ReadsInside}
+use Rattle.catch_laws.specs.Caught.{GoesOn, ReadsInside}
 use Rattle.catch_laws.specs.Exits.{excepting, passed_on, the_caught}
 use Rattle.catch_laws.specs.Handlers.{AnyIsDone, HandsAreDone, HasClasses}
 use Rattle.rtyped_runs.specs.Parts.{BlockIsDone, OpIsWritten, TakesParameters}
 
--- what an operation is written as does what it does, reads what is set, and sets variables of the graph
+-- what an operation is written as does what it does, reads what is set and in no conflict, and sets variables of the graph, where that has those that are written
 pub record OpMayThrow (s : Setting) (l : Lowered) (names : List ℕ) (o : Op) (w : Writing) : Type 0 where
   pub does : OpIsWritten s l o w
+  pub are_read : AreRead s l.number o.args
   pub inside : ReadsInside l names o.result does.ops
-  pub fits : AllFit s.low (s.size l.number) does.ops
+  pub fits : length (op_of l o w).body.types ≤ s.size l.number → AllFit s.low (s.size l.number) does.ops
 
 module _ (s : Setting) (numbers : Numbers) (l : Lowered) (names : List ℕ) (o : Op) (v : ℕ) (hands : List (ℕ × Link)) (any : Option Link) (without : Link) (w : Writing) (e : Extra) (least : ℕ) where
-  -- What is passed on behind the operation is converted, and, where it may raise, also by handlers, whose tests stand.
+  -- What is passed on behind the operation, where that gives anything, is converted, and, where it may raise, also by handlers, whose tests stand.
   pub record WaysAreDone : Type 0 where
-    pub link : IsLink s numbers l (names ++ o.result ∷ []) without w
+    pub own : AllAmong without.args (names ++ o.result ∷ [])
+    pub way : GoesOn s numbers l names o without w
     pub conversions : List LlOp
     pub are : (passed_on s numbers l names o v hands any without w e).body.ops ≡ w.body.ops ++ conversions
-    pub fits : AllFit s.low (s.size l.number) conversions
+    pub fits : length (passed_on s numbers l names o v hands any without w e).body.types ≤ s.size l.number → AllFit s.low (s.size l.number) conversions
     pub any_done : any_raises w.found least w.body.ops ≡ true → AnyIsDone s numbers l (the_caught s numbers l names o v hands any without w e) names any (excepting s numbers l names o v hands any without w e)
     pub hands_done : any_raises w.found least w.body.ops ≡ true → HandsAreDone s numbers l (the_caught s numbers l names o v hands any without w e) names hands (any_other l (the_caught s numbers l names o v hands any without w e) any (excepting s numbers l names o v hands any without w e))
 
--- A block of one operation, whose exit catches: whatever was asked for before, between these two moments of the lowering, its parts are done.
+-- A block of one operation, whose exit catches: classes are laid out, those of exceptions among them, and whatever was asked for before, between these two moments of the lowering, its parts are done.
 pub record BlockCatches (s : Setting) (numbers : Numbers) (l : Lowered) (first last : Found) (b : Block) : Type 0 where
+  pub classes : HasClasses l s.known
   pub o : Op
   pub v : ℕ
   pub hands : List (ℕ × Link)
@@ -66,7 +69,6 @@ BlockIsDoneSo s numbers l first last b = BlockIsDone s numbers l first last b �
 pub record GraphIsDoneSo (s : Setting) (numbers : Numbers) (l : Lowered) (first last : Found) : Type 0 where
   pub function : l.graph.function ≡ l.number
   pub types : HasTypes s l.number (length (variables l.known l.world l.number))
-  pub classes : HasClasses l s.known
   pub blocks : (n : ℕ) (b : Block) → slice_get l.graph.blocks n ≡ Some b → s.reached l.number n ≡ true → BlockIsDoneSo s numbers l first last b
   pub begins : s.reached l.number 0 ≡ true
   pub params : (params : List Element) (b : Block) → slice_get l.world.around.params l.number ≡ Some params → slice_get l.graph.blocks 0 ≡ Some b → TakesParameters l params b

@@ -9,7 +9,7 @@ use Rattle.flow_runs.specs.Runs.{AreGood}
 use Rattle.ll_code.specs.State as low
 use Rattle.rpy_meaning.specs.Meaning.{Run}
 use Rattle.object_laws.specs.Ghost.{Ghost}
-use Rattle.run_laws.specs.Points.{is_keyed}
+use Rattle.run_laws.specs.Points.{is_keyed, truth_known}
 use Rattle.run_laws.specs.Runs.{EndsIf}
 use Rattle.ll_code.specs.declared.program.LlGraph.{LlGraph}
 use Rattle.ll_code.specs.declared.program.LlProgram.{LlProgram}
@@ -24,7 +24,6 @@ use Rattle.object_laws.specs.Known.{Known as Seen}
 use Rattle.program_asks.specs.Standing.{first_in, last_in, numbers_in, world_in}
 use Rattle.rtyped_laws.specs.Programs.{layout_for}
 use Rattle.run_laws.specs.States.{IsLowered, Stands}
-use Rattle.block_laws.specs.Operations.{HasParameters}
 use Rattle.catch_laws.specs.Caught.{IsTold}
 use Rattle.catch_laws.specs.Exits.{quiet_by}
 use Rattle.rtyped_runs.specs.Programs.{KnowsGraphs, setting_of}
@@ -35,7 +34,6 @@ use Rattle.catch_runs.specs.Parts.{GraphIsDoneSo}
 pub record IsDoneSo (known : Known) (world : World) (seen : Seen) (numbers : Numbers) (first last : Found) (graphs : Graphs) (p : LlProgram) (arguments : List (List ℕ)) : Type 0 where
   pub same : graphs.graphs ≡ known.graphs
   pub knows : KnowsGraphs known world seen
-  pub parameters : HasParameters (setting_of known world seen graphs p arguments)
   pub parts : (n : ℕ) (graph : Graph) → slice_get known.graphs n ≡ Some graph → is_reached known.annotation graph.function ≡ true
       → GraphIsDoneSo (setting_of known world seen graphs p arguments) numbers (lowered_graph known world n graph) first last
   pub told : (found : Found) → Grows first found → Grows found last → IsTold (setting_of known world seen graphs p arguments) (quiet_by found)
@@ -54,6 +52,6 @@ CatchingProgramsRunOn = (known : Known) (classes : Tables) (p : LlProgram) (r : 
     → length p.graphs < 2 ^ 64 → length (layout_for known classes).structs < 2 ^ 64
     → IsDoneSo known (world_in known classes (layout_for known classes) p r) seen (numbers_in known classes (layout_for known classes) p r) (first_in known classes (layout_for known classes) p r) (last_in known classes (layout_for known classes) p r) graphs p arguments
     → (g : Ghost) (state : State) (from : low.State) → Stands (setting_of known (world_in known classes (layout_for known classes) p r) seen graphs p arguments) g state from
-    → AreGood seen.program graphs (setting_of known (world_in known classes (layout_for known classes) p r) seen graphs p arguments).made (is_keyed (setting_of known (world_in known classes (layout_for known classes) p r) seen graphs p arguments)) state
+    → AreGood seen.program graphs (setting_of known (world_in known classes (layout_for known classes) p r) seen graphs p arguments).made (is_keyed (setting_of known (world_in known classes (layout_for known classes) p r) seen graphs p arguments)) (truth_known (setting_of known (world_in known classes (layout_for known classes) p r) seen graphs p arguments)) state
     → (k : ℕ) (end : Run) → run seen.program graphs k state ≡ Ended end
     → EndsIf (setting_of known (world_in known classes (layout_for known classes) p r) seen graphs p arguments) end.outcome (world_of state) end.world from

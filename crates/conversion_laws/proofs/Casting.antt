@@ -35,7 +35,7 @@ use Rattle.rtyper_layout.specs.Types.{shape}
 use Rattle.rtyper_data.specs.declared.found.Found.{Found}
 use Rattle.rtyper_data.specs.declared.small.Small.TheVariants as small
 use Rattle.rtyper_data.specs.Finding.{same_type, small_number}
-use Rattle.rtyper_data.specs.Graphs.{fields_at, field_at}
+use Rattle.rtyper_data.specs.Graphs.{fields_at, field_at, shared_fields}
 use Rattle.rtyper_data.specs.Seen.{Writing}
 use Rattle.lower_laws.specs.Values.{IsBelow}
 use Rattle.lower_laws.proofs.Doing.{after}
@@ -57,7 +57,7 @@ use Rattle.conversion_laws.specs.Going.{AllGo, IsTuple}
 use Rattle.conversion_laws.specs.Going as goes
 use Rattle.conversion_laws.proofs.Filling.{AllSet, Filled, comes_back, filled, makes_block, values_of}
 use Rattle.conversion_laws.proofs.Moving.{Moved, all_kept, block_grown, grown_both, has_first, has_second, more, more_moved, operand_kept, sets_one, stays_here, then_moved, with_block}
-use Rattle.conversion_laws.proofs.Rows.{all_ops, first, first_asked, graph_is, item_below, items as cast_operands, items_from, items_long, made_at, new_from, new_long, new_types, next, next_long, ops_from, reads, sets_of, start, the_graph, turn_at}
+use Rattle.conversion_laws.proofs.Rows.{all_ops, first, first_asked, graph_is, item_below, items as cast_operands, items_from, items_long, made_at, new_from, new_long, new_types, next, next_long, ops_from, reads, sets_of, shared_is, start, the_graph, turn_at}
 use Rattle.conversion_laws.proofs.Turned.{Means, Turned, entered_at, tuple_enters}
 use Rattle.conversion_laws.proofs.Turning.{Turn, Casts, cast_asked, operand_of, ops_of}
 use Rattle.conversion_laws.proofs.Valued.{TupleAt, all_grow, tuple_held}
@@ -340,13 +340,13 @@ module _ (layout : Layout) (known : Known) (m n : ℕ) (parts others : List Elem
       let pointer : Value = Ptr (length T.end.blocks) in
       let core3 : Core = with_new T.end in
       let others3 : (u : ℕ) → u < at → read core3.vars u ≡ read T.end.vars u = λ u under. get_or-set_other T.end.vars at u pointer _ (λ same. absurd (omega (arith, under, same))) in
-      let unders : AllUnder at ys = all_under (2 + length (new_types layout m n made)) at (omega arith) ys (items_under layout m (fields_at layout n) 0 (fields_at layout m) (start layout m n made)) in
+      let unders : AllUnder at ys = all_under (2 + length (new_types layout m n made)) at (omega arith) ys (items_under layout m (fields_at layout n) 0 (shared_fields layout m n) (start layout m n made)) in
       let held3 : read core3.vars at ≡ pointer = get_or-set_same T.end.vars at pointer Unset inside in
       block_done set is room many enters T (makes_block (length ys) shaped) held3 (values_kept T.end core3 at others3 ys unders)
       (filled p arguments n at (length ys) 0 [] ys [] leaves (waits ∷ frames) core3 T.end.blocks shaped refl refl held3 (sets_kept T.end core3 at others3 ys unders (items_set T.end.vars ys T.moved.stands T.held)))
 
 module _ (layout : Layout) (known : Known) (k m n : ℕ) (parts others : List Element) (from to : Option Element) (a : IsTuple layout from m parts) (b : IsTuple layout to n others) (same : length (shape layout parts) ≡ length (shape layout others))
-    (o : same_type (type.Ptr m) (type.Ptr n) ≡ false) (ic : is_tuple layout m ≡ true) (jc : is_tuple layout n ≡ true) (each : ItemsMean layout known k m (fields_at layout n) 0 (fields_at layout m) parts others) where
+    (o : same_type (type.Ptr m) (type.Ptr n) ≡ false) (ic : is_tuple layout m ≡ true) (jc : is_tuple layout n ≡ true) (each : ItemsMean layout known k m (fields_at layout n) 0 (shared_fields layout m n) parts others) where
   -- the call reads them
   call_done : (v : Meant) (x : COperand) (w : Writing) (p : LlProgram) (numbers : Numbers) (raised : ℕ → Value) (arguments : List (List ℕ)) (rest : List LlOp) (e : LlExit) (frames : List Frame) (core : Core) (g : Ghost) (heap : Heap) (left : ℕ)
       → HasLayout p layout → Represents layout known g heap left core.blocks core.statics → left ≡ core.steps → length w.body.types + 1 ≤ length core.vars → (it : TupleAt layout known g m parts (operand core.vars x) v)
@@ -365,7 +365,8 @@ module _ (layout : Layout) (known : Known) (k m n : ℕ) (parts others : List El
       let core1 : Core = entered_at p layout m n made f core graph 2 X (Flag false) in
       let types_long : length (new_types layout m n made ++ type.Ptr n ∷ []) ≡ length (new_types layout m n made) + 1 = length-append (new_types layout m n made) (type.Ptr n ∷ []) in
       let filled_long : length (replicate (length (new_types layout m n made ++ type.Ptr n ∷ [])) Unset) ≡ length (new_types layout m n made ++ type.Ptr n ∷ []) = length-replicate (length (new_types layout m n made ++ type.Ptr n ∷ [])) Unset in
-      let zs_long : length zs ≡ length (fields_at layout m) = items_long layout m (fields_at layout n) 0 (fields_at layout m) (start layout m n made) in
+      let shared : shared_fields layout m n ≡ fields_at layout m = shared_is layout m n (ap length a.fields ∙ same ∙ sym (ap length b.fields)) in
+      let zs_long : length zs ≡ length (fields_at layout m) = items_long layout m (fields_at layout n) 0 (shared_fields layout m n) (start layout m n made) ∙ ap length shared in
       let fields_long : length (fields_at layout n) ≡ length zs = ap length b.fields ∙ sym same ∙ sym (ap length a.fields) ∙ sym zs_long in
       items_done layout known m n parts others to b made x w X v it.vs it.high f p arguments rest e frames core g heap left (found_set core.blocks core.statics X block is) refl room (sym fields_long ∙ ap length b.fields ∙ shape_long layout others)
       (has.plain.tuples n jc ∙ ap (λ k. shape_over n k None) fields_long)

@@ -23,7 +23,7 @@ use Rattle.rtyper_layout.specs.Types.{type_of, type_seen, shape, field_type}
 use Rattle.rtyper_data.specs.declared.small.Small.TheVariants as small
 use Rattle.rtyper_data.specs.Converting.{default_constant, default_operand}
 use Rattle.rtyper_data.specs.Finding.{same_type}
-use Rattle.rtyper_data.specs.Graphs.{fields_at, field_at}
+use Rattle.rtyper_data.specs.Graphs.{fields_at, field_at, shared_fields}
 use Rattle.rtyper_data.specs.Seen.{Writing}
 use Rattle.lower_laws.specs.Asked.{Help, Make}
 use Rattle.lower_laws.specs.Values.{IsBelow}
@@ -41,7 +41,7 @@ use Rattle.conversion_laws.specs.Going.{Goes, AllGo, IsTuple, takes_text}
 use Rattle.conversion_laws.specs.Going as goes
 use Rattle.conversion_laws.proofs.Casting.{ItemsMean, all_long, cast_means, next_item, no_items}
 use Rattle.conversion_laws.proofs.Moving.{all_had, more_moved}
-use Rattle.conversion_laws.proofs.Rows.{turn_at}
+use Rattle.conversion_laws.proofs.Rows.{shared_is, turn_at}
 use Rattle.conversion_laws.proofs.Turned.{Lettered, Means, Turned, blank_means, default_means, null_means, same_means, text_means}
 use Rattle.conversion_laws.proofs.Turning.{Turn, Same, Default, Texts, Casts, asks_are, left_by, new_of, operand_of, ops_of, turn, under, value_is}
 use Rattle.conversion_laws.proofs.Valued.{all_levels, byte_held, fields_typed, goes_same, levels, missing_is, never_held, same_struct, some_levels, text_plain, texts_typed}
@@ -134,8 +134,9 @@ module _ {layout : Layout} {known : Known} where
         let r : n2 ≡ n = same_struct n2 n (sym b.typed ∙ ts.1) in
         let a2 = subst (λ m. IsTuple layout from m parts) q a in
         let b2 = subst (λ n. IsTuple layout to n others) r b in
+        let shared : shared_fields layout m n ≡ fields_at layout m = shared_is layout m n (ap length a2.fields ∙ all_long all ∙ sym (ap length b2.fields)) in
         cast_means layout known k m n parts others from to a2 b2 (all_long all) o i j
-        (subst (λ ts. ItemsMean layout known k m (fields_at layout n) 0 ts parts others) (sym a2.fields) (items_mean all k (omega (arith, enough)) m (fields_at layout n) 0 [] b2.fields refl)) v
+        (subst (λ ts. ItemsMean layout known k m (fields_at layout n) 0 ts parts others) (sym (shared ∙ a2.fields)) (items_mean all k (omega (arith, enough)) m (fields_at layout n) 0 [] b2.fields refl)) v
 
     items_mean : {parts others : List Element} (all : AllGo layout known parts others) (k : ℕ) → all_levels all ≤ k → (m : ℕ) (to : List LlType) (i : ℕ) (pre : List LlType) → to ≡ pre ++ shape layout others → i ≡ length pre → ItemsMean layout known k m to i (shape layout parts) parts others
     items_mean goes.End k enough m to i pre h j = no_items layout known k m to i

@@ -35,7 +35,7 @@ use Rattle.rtyper_layout.specs.Types.{type_of, type_seen, shape, field_type}
 use Rattle.rtyper_data.specs.declared.found.Found.{Found}
 use Rattle.rtyper_data.specs.declared.small.Small.TheVariants as small
 use Rattle.rtyper_data.specs.Finding.{small_number}
-use Rattle.rtyper_data.specs.Graphs.{fields_at, field_at}
+use Rattle.rtyper_data.specs.Graphs.{fields_at, field_at, shared_fields}
 use Rattle.rtyper_data.specs.Numbers.{word}
 use Rattle.rtyper_data.specs.Comparing.{zero_word}
 use Rattle.rtyper_data.specs.Seen.{Writing}
@@ -59,6 +59,7 @@ use Rattle.conversion_laws.specs.Going.{IsTuple}
 use Rattle.conversion_laws.proofs.Casting.{read_mid}
 use Rattle.conversion_laws.proofs.Converting.{field_there}
 use Rattle.conversion_laws.proofs.Moving.{all_kept, has_first, has_second}
+use Rattle.conversion_laws.proofs.Rows.{shared_is}
 use Rattle.conversion_laws.proofs.Rounds.{all_at, all_long, all_ops, answer_at, graph_is, last, last_from, last_ops, new_from, new_types, ops_from, round, round_asked, round_long, round_ops, rounds_long, same_at, second, second_long, start, the_graph, word_at, word_long, x_at, y_at}
 use Rattle.conversion_laws.proofs.Telling.{Low, Told, simple_low, told, told_one}
 use Rattle.conversion_laws.proofs.Testing.{Test, Apart, Texts, Tuples, test_of, new_of, operand_of, ops_of, under}
@@ -291,7 +292,7 @@ module _ (layout : Layout) (known : Known) (k m n : ℕ) (those : List LlType) (
 
 -- ---- the graph
 
-module _ (layout : Layout) (known : Known) (k m n : ℕ) (parts others : List Element) (from to : Option Element) (a : IsTuple layout from m parts) (b : IsTuple layout to n others) (each : ItemsMean layout known k m n (fields_at layout n) 0 (fields_at layout m) parts others) where
+module _ (layout : Layout) (known : Known) (k m n : ℕ) (parts others : List Element) (from to : Option Element) (a : IsTuple layout from m parts) (b : IsTuple layout to n others) (each : ItemsMean layout known k m n (fields_at layout n) 0 (shared_fields layout m n) parts others) where
   -- the call of the graph
   tuples_come : (asked_of : Found) (X Y : Value) (p : LlProgram) (numbers : Numbers) (raised : ℕ → Value) (arguments : List (List ℕ)) (core : Core) (g : Ghost) (heap : Heap) (left : ℕ) (u v : Meant) (c : Bool)
       → HasLayout p layout → AllAsked (HasTo p layout numbers raised core (suc k)) (Make (small.Equal m n) ∷ []) asked_of → Represents layout known g heap left core.blocks core.statics
@@ -363,6 +364,14 @@ abbrev mutual
   all_levels End = 0
   all_levels (Next one all) = levels one + all_levels all
 
+-- tuples that are compared have as many items
+all_as_long : {layout : Layout} {parts others : List Element} → AllCompare layout parts others → length (shape layout parts) ≡ length (shape layout others)
+all_as_long End = refl
+all_as_long (Next one all) = ap suc (all_as_long all)
+
+all_shared : {layout : Layout} {from to : Option Element} {m n : ℕ} {parts others : List Element} → IsTuple layout from m parts → IsTuple layout to n others → AllCompare layout parts others → shared_fields layout m n ≡ shape layout parts
+all_shared {layout = layout} {m = m} {n = n} i j all = shared_is layout m n (ap length i.fields ∙ all_as_long all ∙ sym (ap length j.fields)) ∙ i.fields
+
 some_levels : {layout : Layout} {a b : Option Element} (one : Compares layout a b) → 1 ≤ levels one
 some_levels (Simple i j) = omega arith
 some_levels (Items m n parts others a b all) = omega arith
@@ -395,7 +404,7 @@ module _ (layout : Layout) (known : Known) (apart : is_tuple layout 0 ≡ false)
         let asks_are : equal_asks layout s t ≡ Make (small.Equal m n) ∷ [] = ap (λ s. equal_asks layout s t) s_is ∙ ap (equal_asks layout (type.Ptr m)) t_is ∙ tuples_asked layout apart m n i.struct j.struct in
         subst (λ test. Told p arguments (At (ops_of test x y w ++ rest) e frames core) rest e frames core (length w.body.types) (operand_of test w) c) (sym test_is)
         (tuples_told layout known k m n parts others a b i j
-        (subst (λ ss. ItemsMean layout known k m n (fields_at layout n) 0 ss parts others) (sym i.fields) (items_told all k (omega (arith, enough)) m n (fields_at layout n) 0 [] j.fields refl))
+        (subst (λ ss. ItemsMean layout known k m n (fields_at layout n) 0 ss parts others) (sym (all_shared i j all)) (items_told all k (omega (arith, enough)) m n (fields_at layout n) 0 [] j.fields refl))
         x y w p numbers raised arguments rest e frames core g heap left u v c has (subst (λ asks. AllAsked (HasTo p layout numbers raised core (suc k)) asks w.found) asks_are asked) r
         (subst (λ test. length w.body.types + length (new_of test) ≤ length core.vars) test_is room) held_x held_y h)
 
@@ -418,5 +427,5 @@ module _ (layout : Layout) (known : Known) (apart : is_tuple layout 0 ≡ false)
       → (waits : List Frame) → Comes p arguments (Calling (small_number (small.Equal m n) asked_of).0 (X ∷ Y ∷ []) waits core) [] (Flag c) waits core
   tuples_are_told {from = from} {to = to} m n parts others i j all asked_of X Y p numbers raised arguments core g heap left u v c has asked r held_x held_y h waits =
       tuples_come layout known (all_levels all) m n parts others from to i j
-      (subst (λ ss. ItemsMean layout known (all_levels all) m n (fields_at layout n) 0 ss parts others) (sym i.fields) (items_told all (all_levels all) (omega arith) m n (fields_at layout n) 0 [] j.fields refl))
+      (subst (λ ss. ItemsMean layout known (all_levels all) m n (fields_at layout n) 0 ss parts others) (sym (all_shared i j all)) (items_told all (all_levels all) (omega arith) m n (fields_at layout n) 0 [] j.fields refl))
       asked_of X Y p numbers raised arguments core g heap left u v c has (asked, tt) r held_x held_y h waits

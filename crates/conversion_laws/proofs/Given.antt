@@ -42,7 +42,7 @@ constant_set low.Null = refl
 constant_set (low.Static n s) = refl
 constant_set (low.Fun f) = refl
 
-to_constant : (around : Around) (place : Place) (c : Const) (t : LlType) (w : Writing) → (t ≡ type.Void → ⊥) → constant_to around place c t w ≡ set_constant place w.body (constant_of around c t w.found)
+pub to_constant : (around : Around) (place : Place) (c : Const) (t : LlType) (w : Writing) → (t ≡ type.Void → ⊥) → constant_to around place c t w ≡ set_constant place w.body (constant_of around c t w.found)
 to_constant around place c type.Void w there = absurd (there refl)
 to_constant around place c type.Signed w there = refl
 to_constant around place c type.Char w there = refl
@@ -59,7 +59,7 @@ to_text around place bytes type.Fn w there = refl
 to_text around place bytes (type.Ptr n) w there = refl
 
 module _ (known : Known) (around : Around) (o : RowOp) (covers : Covers) (place : Place) (w : Writing) (made : CConst × Found) (v : Meant) (is : lower_op around o place [] w ≡ set_constant place w.body made) (means : (world : World) → meant_op known.program covers o [] world ≡ Gives v world) (it : Made around.layout known place.element made w.found v) where
-  given : IsGiven known around o covers place w
+  pub given : IsGiven known around o covers place w
   given = record {
     ops = op.Set place.variable (held made.0) ∷ [];
     written = ap (λ (w : Writing). w.body.ops) is;

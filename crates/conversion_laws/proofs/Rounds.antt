@@ -17,7 +17,7 @@ use Rattle.rtyper_data.specs.declared.found.Found.{Found}
 use Rattle.rtyper_data.specs.declared.small.Small.TheVariants as small
 use Rattle.rtyper_data.specs.Building.{block_with, graph_with}
 use Rattle.rtyper_data.specs.Comparing.{zero_word, field_of}
-use Rattle.rtyper_data.specs.Graphs.{fields_at, field_at, body_of, and_equal, items_equal, equal_from, equal_items, equality_graph, equality_made}
+use Rattle.rtyper_data.specs.Graphs.{fields_at, field_at, body_of, and_equal, items_equal, equal_from, equal_items, equality_graph, equality_made, shared_fields}
 use Rattle.rtyper_data.specs.Numbers.{word}
 use Rattle.rtyper_data.specs.Seen.{Writing, writing}
 use Rattle.rtyper_data.specs.Smalls.{small_graph}
@@ -142,13 +142,13 @@ module _ (layout : Layout) (m n : ℕ) (made : Found) where
   start = writing made (body_of (type.Ptr m ∷ type.Ptr n ∷ []))
 
   abbrev pub new_types : List LlType
-  new_types = new_from layout m n (fields_at layout n) 0 (fields_at layout m)
+  new_types = new_from layout m n (fields_at layout n) 0 (shared_fields layout m n)
 
   abbrev pub reads : List LlOp
-  reads = ops_from layout m n (fields_at layout n) 0 (fields_at layout m) (word (pos 1)) start
+  reads = ops_from layout m n (fields_at layout n) 0 (shared_fields layout m n) (word (pos 1)) start
 
   abbrev pub last : COperand
-  last = last_from layout m n (fields_at layout n) 0 (fields_at layout m) (word (pos 1)) start
+  last = last_from layout m n (fields_at layout n) 0 (shared_fields layout m n) (word (pos 1)) start
 
   abbrev pub answer_at : ℕ
   answer_at = length (type.Ptr m ∷ type.Ptr n ∷ new_types)
@@ -161,4 +161,4 @@ module _ (layout : Layout) (m n : ℕ) (made : Found) where
 
   pub graph_is : (small_graph layout (small.Equal m n) made).0 ≡ the_graph
   unfolding equal_items equality_graph
-  graph_is = ap (λ (r : COperand × Writing). (equality_made r).0) (rounds_are layout m n (fields_at layout n) 0 (fields_at layout m) (word (pos 1)) start)
+  graph_is = ap (λ (r : COperand × Writing). (equality_made r).0) (rounds_are layout m n (fields_at layout n) 0 (shared_fields layout m n) (word (pos 1)) start)

@@ -1,7 +1,7 @@
 -- What is written for the items of a tuple that is made one of another struct, and the graph that makes it.
 use Rattle.std.proofs.Common.{◌≡◌, ℕ, ◌+◌, List, [], ◌∷◌, ◌++◌, length, refl, sym, ap, ◌∙◌, arith, append_assoc, length-append}
 use Rattle.std.specs.Prelude.{codes}
-use Rattle.std.proofs.lemmas.List.{append-nil}
+use Rattle.std.proofs.lemmas.List.{append-nil, take_all}
 use Rattle.csub_tree.specs.declared.tree.COperand.{COperand}
 use Rattle.csub_tree.specs.declared.tree.COperand.TheVariants.{Var}
 use Rattle.ll_code.specs.declared.program.LlType.{LlType}
@@ -14,7 +14,7 @@ use Rattle.rtyper_data.specs.declared.body.Body.{Body}
 use Rattle.rtyper_data.specs.declared.found.Found.{Found}
 use Rattle.rtyper_data.specs.declared.small.Small.TheVariants as small
 use Rattle.rtyper_data.specs.Building.{graph_with}
-use Rattle.rtyper_data.specs.Graphs.{fields_at, field_at, with_item, cast_from, cast_items, cast_blocks, cast_graph, cast_made, body_of}
+use Rattle.rtyper_data.specs.Graphs.{fields_at, field_at, with_item, cast_from, cast_items, cast_blocks, cast_graph, cast_made, body_of, shared_fields}
 use Rattle.rtyper_data.specs.Seen.{with_op, Writing, writing}
 use Rattle.rtyper_data.specs.Smalls.{small_graph}
 use Rattle.rtyper_data.specs.Tuples.{set_fields}
@@ -98,6 +98,10 @@ module _ (layout : Layout) (m : ℕ) (to : List LlType) where
 
 -- ---- the graph
 
+-- tuples of as many items share all fields
+pub shared_is : (layout : Layout) (m n : ℕ) → length (fields_at layout m) ≡ length (fields_at layout n) → shared_fields layout m n ≡ fields_at layout m
+shared_is layout m n same = take_all (length (fields_at layout n)) (fields_at layout m) (omega (arith, same))
+
 -- the fields from a place on are set
 abbrev pub sets_of : ℕ → ℕ → ℕ → List COperand → List LlOp
 sets_of n a i [] = []
@@ -113,17 +117,17 @@ module _ (layout : Layout) (m n : ℕ) (made : Found) where
   start = writing made (body_of (type.Ptr m ∷ type.Bool ∷ []))
 
   abbrev pub new_types : List LlType
-  new_types = new_from layout m (fields_at layout n) 0 (fields_at layout m)
+  new_types = new_from layout m (fields_at layout n) 0 (shared_fields layout m n)
 
   -- the variable of the tuple
   abbrev pub made_at : ℕ
   made_at = length (type.Ptr m ∷ type.Bool ∷ new_types)
 
   abbrev pub items : List COperand
-  items = items_from layout m (fields_at layout n) 0 (fields_at layout m) start
+  items = items_from layout m (fields_at layout n) 0 (shared_fields layout m n) start
 
   abbrev pub reads : List LlOp
-  reads = ops_from layout m (fields_at layout n) 0 (fields_at layout m) start
+  reads = ops_from layout m (fields_at layout n) 0 (shared_fields layout m n) start
 
   abbrev pub all_ops : List LlOp
   all_ops = (reads ++ op.New made_at n n ∷ []) ++ sets_of n made_at 0 items
@@ -134,5 +138,5 @@ module _ (layout : Layout) (m n : ℕ) (made : Found) where
   pub graph_is : (small_graph layout (small.Cast m n) made).0 ≡ the_graph
   unfolding cast_items cast_graph
   graph_is =
-      ap (λ (r : List COperand × Writing). (cast_made n r).0) (cast_is layout m (fields_at layout n) 0 (fields_at layout m) start)
+      ap (λ (r : List COperand × Writing). (cast_made n r).0) (cast_is layout m (fields_at layout n) 0 (shared_fields layout m n) start)
       ∙ ap (λ body. cast_graph n made_at body) (set_fields_is n made_at 0 items (record { types = (type.Ptr m ∷ type.Bool ∷ new_types) ++ type.Ptr n ∷ []; ops = reads ++ op.New made_at n n ∷ [] }))

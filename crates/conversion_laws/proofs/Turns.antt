@@ -46,6 +46,7 @@ fewer_left less r = record {
   constants = r.constants;
   vtables = r.vtables;
   exceptions = r.exceptions;
+  sites = r.sites;
   lists = λ n i head h struct. list_kept grown_none i head (λ o k. k) (λ x u b k of is. is) n less (r.lists n i head h struct);
   instances = r.instances;
   dicts = r.dicts;

@@ -11,7 +11,7 @@ use Rattle.rtyper_layout.specs.Layout.{is_tuple}
 use Rattle.rtyper_data.specs.declared.found.Found.{Found}
 use Rattle.rtyper_data.specs.declared.small.Small.TheVariants as small
 use Rattle.rtyper_data.specs.Finding.{same_type, small_number}
-use Rattle.rtyper_data.specs.Graphs.{fields_at, field_at}
+use Rattle.rtyper_data.specs.Graphs.{fields_at, field_at, shared_fields}
 use Rattle.rtyper_data.specs.Smalls.{small_graph}
 use Rattle.lower_laws.specs.Asked.{Ask, Help, Make, Has as HasOther}
 use Rattle.object_laws.specs.Done.{AllAsked}
@@ -34,7 +34,7 @@ fields_asks layout to i [] = []
 fields_asks layout to i (t ∷ ts) = asks_for layout t (field_at to i) ++ fields_asks layout to (i + 1) ts
 
 abbrev pub cast_asks : Layout → ℕ → ℕ → List Ask
-cast_asks layout m n = fields_asks layout (fields_at layout n) 0 (fields_at layout m)
+cast_asks layout m n = fields_asks layout (fields_at layout n) 0 (shared_fields layout m n)
 
 -- for whether a value of the one type is equal to one of the other: a byte is made a string, strings are compared, and tuples are
 abbrev pub equal_asks : Layout → LlType → LlType → List Ask
@@ -48,7 +48,7 @@ fields_equal_asks layout those i [] = []
 fields_equal_asks layout those i (s ∷ ss) = equal_asks layout s (field_at those i) ++ fields_equal_asks layout those (i + 1) ss
 
 abbrev pub equality_asks : Layout → ℕ → ℕ → List Ask
-equality_asks layout m n = fields_equal_asks layout (fields_at layout n) 0 (fields_at layout m)
+equality_asks layout m n = fields_equal_asks layout (fields_at layout n) 0 (shared_fields layout m n)
 
 -- ---- that it stands
 

@@ -33,7 +33,7 @@ of_texts world p numbers raised core ask found = texts.Has p world.around.layout
 -- Where a law says of an operation, as it is lowered, that it is done, its operation in a block does what it does.
 abbrev pub OperationsAreWrittenWhile : Standing → Type 0
 OperationsAreWrittenWhile Has = (l : Lowered) (known : Seen) (graphs : Graphs) (p : LlProgram) (arguments : List (List ℕ)) (numbers : Numbers) (blocks : ℕ) (o : Op) (asks : List Ask) (w : Writing)
-    → HasLayout p l.world.around.layout → IsInside l o w → ThrowsObjects (setting l known graphs p arguments) o
+    → HasLayout p l.world.around.layout → IsInside l o w → ThrowsObjects (setting l known graphs p arguments) l o
     → StandsWhile (setting l known graphs p arguments) (Has l.world p numbers known.exception) asks (before o w).found
     → IsDone (Has l.world) blocks known l.world.around o.op o.covered asks (lowered l.world o.op (place_of l o.result) (args_of l o) (before o w)) (place_of l o.result) (args_of l o) (before o w)
     → OpIsWritten (setting l known graphs p arguments) l o w

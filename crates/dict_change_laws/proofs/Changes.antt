@@ -28,6 +28,7 @@ fewer_steps {left = left} {fewer = fewer} less r = record {
   constants = r.constants;
   vtables = r.vtables;
   exceptions = r.exceptions;
+  sites = r.sites;
   lists = λ n i head h struct. list_kept grown_none i head (λ o h. h) (λ x u b h of is. is) n less (r.lists n i head h struct);
   instances = r.instances;
   dicts = r.dicts;

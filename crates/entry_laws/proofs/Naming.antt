@@ -22,7 +22,7 @@ named [] = refl
 named (b ∷ bytes) = value_first (constant.Char b) (map char_cell bytes) ∙ ap (λ xs. Byte b ∷ xs) (named bytes)
 
 pub names_are_written : NamesAreWritten
-names_are_written world program reached meant items keys static are class l c is_laid is = ap (λ bytes. values (map char_cell bytes)) (are class c is) ∙ named c.name
+names_are_written world program reached meant items keys static site are class l c is_laid is = ap (λ bytes. values (map char_cell bytes)) (are class c is) ∙ named c.name
 
 pub exceptions_are_laid : ExceptionsAreLaid
 exceptions_are_laid program annotation raises world known is counted of class l is_laid below =

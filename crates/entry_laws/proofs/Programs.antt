@@ -54,36 +54,36 @@ entries_stand known classes layout p r few =
     (stands_in_pass known classes layout r.needs r.caught r.count r.no_small_more (subst (λ (q : LlProgram). length q.graphs < 2 ^ 64) r.written few))
 
 pub programs_have_entries : ProgramsHaveEntries
-programs_have_entries known classes p r meant items keys static graphs arguments is stands =
+programs_have_entries known classes p r meant items keys static site graphs arguments is stands =
     let world = world_in known classes (layout_for known classes) p r in
-    let of = classes_are_known world known.program known.annotation.reached meant items keys static is.numbered.forest is.bases in
+    let of = classes_are_known world known.program known.annotation.reached meant items keys static site is.numbered.forest is.bases in
     record {
       around = refl;
       graph = stands.entry ∙ ap (λ f. Some (entry_graph world f stands.arguments)) (sym is.entry);
       structs = layouts_are_had_by_programs known classes p r is.structs;
       of = of;
       out = classes_are_laid known classes p r _ is.numbered (λ class name. refl);
-      names = names_are_written world known.program known.annotation.reached meant items keys static is.names;
+      names = names_are_written world known.program known.annotation.reached meant items keys static site is.names;
       top = exceptions_are_laid known.program known.annotation _ world _ (worlds_are_of_programs known classes p r) is.numbered of;
     }
 
 -- ---- whole runs
 
 -- a flow graph that there is has a number
-numbered : (a : Annotation) (n f : ℕ) (gs : List Graph) (g : Graph) → slice_get gs f ≡ Some g → slice_get (numbers_from a n gs) f ≡ Some (unwrap_or (slice_get (numbers_from a n gs) f) 0)
+pub numbered : (a : Annotation) (n f : ℕ) (gs : List Graph) (g : Graph) → slice_get gs f ≡ Some g → slice_get (numbers_from a n gs) f ≡ Some (unwrap_or (slice_get (numbers_from a n gs) f) 0)
 numbered a n f [] g e = absurd (cc)
 numbered a n zero (x ∷ gs) g e = refl
 numbered a n (suc f) (x ∷ gs) g e = numbered a (next_number a n x) f gs g e
 
 pub programs_run : ProgramsRun
-programs_run known classes p r meant items keys static graphs arguments steps is stands calls done list good k end ran =
+programs_run known classes p r meant items keys static site graphs arguments steps is stands calls done list good k end ran =
     let world = world_in known classes (layout_for known classes) p r in
-    let seen = seen_in known classes p r meant items keys static in
+    let seen = seen_in known classes p r meant items keys static site in
     let s = setting_in known classes p r seen graphs arguments in
     let number : seen.graph known.program.entry ≡ Some (number_of world known.program.entry) =
     ap (λ reached. graph_if reached (slice_get world.around.numbers known.program.entry)) calls.reached ∙ numbered known.annotation (length (helpers (layout_for known classes).structs r.needs).graphs) known.program.entry known.graphs calls.graph calls.stands in
     whole_runs_are_followed world s p.entry stands.arguments steps (record {
-      has = programs_have_entries known classes p r meant items keys static graphs arguments is stands;
+      has = programs_have_entries known classes p r meant items keys static site graphs arguments is stands;
       first = refl;
       entry = subst (λ (f : ℕ). seen.graph f ≡ Some (number_of world f)) (sym is.entry) number;
     }) list (programs_are_lowered known classes p r seen graphs arguments is.graphs is.structs done) good k end ran

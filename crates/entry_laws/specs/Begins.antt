@@ -19,7 +19,7 @@ use Rattle.object_laws.specs.Ghost.{Ghost}
 use Rattle.object_laws.specs.Represents.{Represents}
 use Rattle.object_laws.specs.Values.{Holds}
 use Rattle.flow_runs.specs.Runs.{AreGood}
-use Rattle.run_laws.specs.Points.{Setting, is_keyed, Way}
+use Rattle.run_laws.specs.Points.{Setting, is_keyed, truth_known, Way}
 use Rattle.run_laws.specs.Runs.{EndsIf}
 use Rattle.run_laws.specs.States.{IsLowered, Stands}
 use Rattle.entry_laws.specs.Ends.{HasEntry}
@@ -76,5 +76,5 @@ EntryPointsAreCalled = (world : World) (s : Setting) (number arguments steps : �
 -- Where each block does what that of its flow graph does, and the run of the flow graphs ends, the low-level program ends so from its start, if
 -- each operation of the run is as the laws of operations ask.
 abbrev pub WholeRunsAreFollowed : Type 0
-WholeRunsAreFollowed = (world : World) (s : Setting) (number arguments steps : ℕ) → BeginsThere world s number arguments → ArgumentsAreGiven s arguments steps → IsLowered s → AreGood s.known.program s.graphs s.made (is_keyed s) (start s.known.program s.arguments steps)
+WholeRunsAreFollowed = (world : World) (s : Setting) (number arguments steps : ℕ) → BeginsThere world s number arguments → ArgumentsAreGiven s arguments steps → IsLowered s → AreGood s.known.program s.graphs s.made (is_keyed s) (truth_known s) (start s.known.program s.arguments steps)
     → (k : ℕ) (end : Run) → run s.known.program s.graphs k (start s.known.program s.arguments steps) ≡ Ended end → EndsIf s end.outcome (first_world s steps) end.world (machine.start s.low steps)

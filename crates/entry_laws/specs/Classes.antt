@@ -12,6 +12,7 @@ use Rattle.rtyper_class.specs.Vtables.{name_in}
 use Rattle.object_laws.specs.Known.{Known}
 use Rattle.class_laws.specs.Classes.{IsOf}
 use Rattle.layout_laws.specs.Knowing.{known_of}
+use Rattle.object_laws.specs.Ghost.{Home}
 use Rattle.layout_laws.specs.Layouts.{IsWorldOf, IsNumbered}
 use Rattle.entry_laws.specs.Ends.{ExceptionIsLaid, NamesAreKnown}
 
@@ -25,8 +26,8 @@ AreNamed meant classes = (class : ℕ) (c : Class) → slice_get meant class ≡
 
 -- what is known of a vtable by the world of the lowering is the name that is written for it
 abbrev pub NamesAreWritten : Type 0
-NamesAreWritten = (world : World) (program : Resolved) (reached : List Bool) (meant : Program) (items keys : ℕ → Option Element) (static : ℕ → Option Block)
-    → AreNamed meant.classes program.classes → NamesAreKnown world (known_of world program reached meant items keys static)
+NamesAreWritten = (world : World) (program : Resolved) (reached : List Bool) (meant : Program) (items keys : ℕ → Option Element) (static : ℕ → Option Block) (site : ℕ → Option Home)
+    → AreNamed meant.classes program.classes → NamesAreKnown world (known_of world program reached meant items keys static site)
 
 -- those of the meaning of a program have the names that the program says
 abbrev pub ProgramsHaveTheirNames : Type 0

@@ -24,8 +24,9 @@ use Rattle.program_asks.specs.Standing.{Stands, first_in, last_in, numbers_in, w
 use Rattle.rtyped_laws.specs.Programs.{layout_for}
 use Rattle.rtyped_runs.specs.Programs.{IsDone, setting_of}
 use Rattle.flow_runs.specs.Runs.{AreGood}
-use Rattle.run_laws.specs.Points.{is_keyed, Setting}
+use Rattle.run_laws.specs.Points.{is_keyed, truth_known, Setting}
 use Rattle.run_laws.specs.Runs.{EndsIf}
+use Rattle.object_laws.specs.Ghost.{Home}
 use Rattle.object_laws.specs.Known.{Known as Seen}
 use Rattle.entry_laws.specs.Begins.{ArgumentsAreGiven}
 use Rattle.entry_laws.specs.Classes.{AreNamed}
@@ -51,18 +52,18 @@ pub record IsMeant (known : Known) (classes : Tables) (p : LlProgram) (r : IsLai
   pub names : AreNamed meant.classes known.program.classes
   pub entry : meant.entry ≡ known.program.entry
 
--- what the lowering knows of the program, where this is known of its lists and dicts, and these statics stay
-abbrev pub seen_in : (known : Known) (classes : Tables) (p : LlProgram) → IsLaid known classes p → Program → (ℕ → Option Element) → (ℕ → Option Element) → (ℕ → Option Block) → Seen
-seen_in known classes p r meant items keys static = known_of (world_in known classes (layout_for known classes) p r) known.program known.annotation.reached meant items keys static
+-- what the lowering knows of the program, where this is known of its lists and dicts, these statics stay, and those of modules stand there
+abbrev pub seen_in : (known : Known) (classes : Tables) (p : LlProgram) → IsLaid known classes p → Program → (ℕ → Option Element) → (ℕ → Option Element) → (ℕ → Option Block) → (ℕ → Option Home) → Seen
+seen_in known classes p r meant items keys static site = known_of (world_in known classes (layout_for known classes) p r) known.program known.annotation.reached meant items keys static site
 
 abbrev pub setting_in : (known : Known) (classes : Tables) (p : LlProgram) → IsLaid known classes p → Seen → Graphs → List (List ℕ) → Setting
 setting_in known classes p r seen graphs arguments = setting_of known (world_in known classes (layout_for known classes) p r) seen graphs p arguments
 
 -- So what is asked of such a program to call its entry point holds.
 abbrev pub ProgramsHaveEntries : Type 0
-ProgramsHaveEntries = (known : Known) (classes : Tables) (p : LlProgram) (r : IsLaid known classes p) (meant : Program) (items keys : ℕ → Option Element) (static : ℕ → Option Block) (graphs : Graphs) (arguments : List (List ℕ)) → IsMeant known classes p r meant
+ProgramsHaveEntries = (known : Known) (classes : Tables) (p : LlProgram) (r : IsLaid known classes p) (meant : Program) (items keys : ℕ → Option Element) (static : ℕ → Option Block) (site : ℕ → Option Home) (graphs : Graphs) (arguments : List (List ℕ)) → IsMeant known classes p r meant
     → (stands : EntryStands known (world_in known classes (layout_for known classes) p r) (last_in known classes (layout_for known classes) p r) p)
-    → HasEntry (world_in known classes (layout_for known classes) p r) (setting_in known classes p r (seen_in known classes p r meant items keys static) graphs arguments) p.entry stands.arguments
+    → HasEntry (world_in known classes (layout_for known classes) p r) (setting_in known classes p r (seen_in known classes p r meant items keys static site) graphs arguments) p.entry stands.arguments
 
 -- the entry point has a flow graph, and is reached
 pub record CallsEntry (known : Known) : Type 0 where
@@ -73,11 +74,11 @@ pub record CallsEntry (known : Known) : Type 0 where
 -- Where the parts of such a program are done, the list of arguments is made, and each operation of the run is as the laws of operations ask, its
 -- whole run, from its start, ends as that of its flow graphs does, where that ends.
 abbrev pub ProgramsRun : Type 0
-ProgramsRun = (known : Known) (classes : Tables) (p : LlProgram) (r : IsLaid known classes p) (meant : Program) (items keys : ℕ → Option Element) (static : ℕ → Option Block) (graphs : Graphs) (arguments : List (List ℕ)) (steps : ℕ) → IsMeant known classes p r meant
+ProgramsRun = (known : Known) (classes : Tables) (p : LlProgram) (r : IsLaid known classes p) (meant : Program) (items keys : ℕ → Option Element) (static : ℕ → Option Block) (site : ℕ → Option Home) (graphs : Graphs) (arguments : List (List ℕ)) (steps : ℕ) → IsMeant known classes p r meant
     → (stands : EntryStands known (world_in known classes (layout_for known classes) p r) (last_in known classes (layout_for known classes) p r) p)
     → CallsEntry known
-    → IsDone known (world_in known classes (layout_for known classes) p r) (seen_in known classes p r meant items keys static) (numbers_in known classes (layout_for known classes) p r) (first_in known classes (layout_for known classes) p r) (last_in known classes (layout_for known classes) p r) graphs p arguments
-    → ArgumentsAreGiven (setting_in known classes p r (seen_in known classes p r meant items keys static) graphs arguments) stands.arguments steps
-    → AreGood meant graphs (setting_in known classes p r (seen_in known classes p r meant items keys static) graphs arguments).made (is_keyed (setting_in known classes p r (seen_in known classes p r meant items keys static) graphs arguments)) (start meant arguments steps)
+    → IsDone known (world_in known classes (layout_for known classes) p r) (seen_in known classes p r meant items keys static site) (numbers_in known classes (layout_for known classes) p r) (first_in known classes (layout_for known classes) p r) (last_in known classes (layout_for known classes) p r) graphs p arguments
+    → ArgumentsAreGiven (setting_in known classes p r (seen_in known classes p r meant items keys static site) graphs arguments) stands.arguments steps
+    → AreGood meant graphs (setting_in known classes p r (seen_in known classes p r meant items keys static site) graphs arguments).made (is_keyed (setting_in known classes p r (seen_in known classes p r meant items keys static site) graphs arguments)) (truth_known (setting_in known classes p r (seen_in known classes p r meant items keys static site) graphs arguments)) (start meant arguments steps)
     → (k : ℕ) (end : Run) → run meant graphs k (start meant arguments steps) ≡ Ended end
-    → EndsIf (setting_in known classes p r (seen_in known classes p r meant items keys static) graphs arguments) end.outcome (begin meant arguments steps 0).world end.world (machine.start p steps)
+    → EndsIf (setting_in known classes p r (seen_in known classes p r meant items keys static site) graphs arguments) end.outcome (begin meant arguments steps 0).world end.world (machine.start p steps)

@@ -9,6 +9,9 @@ use Rattle.rpy_meaning.specs.Tree.{Program}
 use Rattle.rpy_meaning.specs.World.{World}
 use Rattle.rpy_meaning.specs.declared.row.RowOp.{RowOp}
 use Rattle.rpy_meaning.specs.declared.row.RowOp.TheVariants as row
+use Rattle.flow_graph.specs.declared.graph.Exit.{Exit}
+use Rattle.flow_graph.specs.declared.graph.Exit.TheVariants as exit
+use Rattle.flow_meaning.specs.Machine.{Bound, look, truth_of}
 
 -- ---- keys
 
@@ -78,6 +81,11 @@ IsTold p row.OnlyNone world vs = OfFirst (λ v. v ≡ Nothing) vs
 IsTold p row.FalseNone world vs = OfFirst (λ v. truth_in world v ≡ Some false) vs
 IsTold p (row.Lower c) world vs = OfFirst (IsOfClass p c world) vs
 IsTold p other world vs = Unit {0}
+
+-- the test of a variable of whose truth one thing is known always tells that
+abbrev pub TestIsTold : (ℕ → Option Bool) → Exit → List Bound → World → Type 0
+TestIsTold known (exit.If v there elsewhere) env world = (b : Bool) → known v ≡ Some b → truth_of world (look env v) ≡ Some b
+TestIsTold known other env world = Unit {0}
 
 -- ---- all of it
 

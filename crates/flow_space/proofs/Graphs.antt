@@ -38,6 +38,16 @@ abbrev ways_for : ℕ → ℕ → ℕ → Ways
 ways_for locals end returning =
     record { norm = end; brk = record { to = end; keep = locals }; cont = record { to = end; keep = locals }; ret = record { to = returning; keep = 0 } }
 
+-- a block that is set first stands first
+set_first : (blocks : List Block) (x b : Block) → slice_get (slice_set blocks 0 x) 0 ≡ Some b → x ≡ b
+set_first [] x b h = absurd (cc)
+set_first (y ∷ blocks) x b h = cc
+
+-- the first of some variables
+first_input : (base count v : ℕ) → slice_get (numbered base count 0 false (Go (first 0 0))).inputs 0 ≡ Some v → v ≡ base
+first_input base zero v h = absurd (cc)
+first_input base (suc count) v h = (let q : base + 0 ≡ v = cc in omega (arith, q))
+
 pub graph_stands : (program : Resolved) (function : Function) (number : ℕ) (body : List Stmt) (hands : List Hand) (covers : Covers) (old c1 c2 c3 c4 c5 c6 final : List Block) (head base count returning raising never end begin : ℕ)
     → old ≡ [] → Headed old c1 function.locals head count
     → Part c1 c2 (ShapeAt returning 1 GiveBack) → returning ≡ length c1 → length c2 ≡ length c1 + 1
@@ -46,9 +56,9 @@ pub graph_stands : (program : Resolved) (function : Function) (number : ℕ) (bo
     → Part c4 c5 (MarkedAt end function.locals function.node false (Plain row.None (first_and 1 0 function.locals))) → end ≡ length c4
     → Part c5 c6 (BlockAt (scope_for function.locals hands covers raising) program body begin function.locals (ways_for function.locals end returning))
     → final ≡ slice_set c6 head (numbered base count 0 false (Go (first begin count)))
-    → body ≡ function.body → hands ≡ [] → covers ≡ no_covers → length function.defaults ≤ function.locals → HaveOwnVariables final
+    → body ≡ function.body → hands ≡ [] → covers ≡ no_covers → length function.defaults ≤ function.locals → HaveOwnVariables final → base ≡ 0
     → GraphAt program function (record { function = number; blocks = final })
-graph_stands program function number body hands covers old c1 c2 c3 c4 c5 c6 final head base count returning raising never end begin is_old headed p1 at1 n1 p2 at2 n2 p3 at3 n3 p4 at4 p5 last is_body no_hands nothing few own =
+graph_stands program function number body hands covers old c1 c2 c3 c4 c5 c6 final head base count returning raising never end begin is_old headed p1 at1 n1 p2 at2 n2 p3 at3 n3 p4 at4 p5 last is_body no_hands nothing few own nought =
     let n = function.locals in
     let len1 : length c1 ≡ 1 = omega (arith, ap length headed.grows.1, length-append old (headed.grows.0 ∷ []), ap length is_old) in
     let zero_at : head ≡ 0 = headed.at ∙ ap length is_old in
@@ -87,6 +97,7 @@ graph_stands program function number body hands covers old c1 c2 c3 c4 c5 c6 fin
           (λ a. inr (subst (λ ss. InBlock x g w (block_of program.sites ss)) is_body a)))
           whole.grows.0 (whole.only program));
       own = own;
+      nought = λ b v at v_at. first_input base count v (ap (λ (b : Block). slice_get b.inputs 0) (set_first c6 (numbered base count 0 false (Go (first begin count))) b (ap (λ i. slice_get (slice_set c6 i (numbered base count 0 false (Go (first begin count)))) 0) (sym zero_at) ∙ ap (λ bs. slice_get bs 0) (sym last) ∙ at)) ∙ v_at) ∙ nought;
     }
 
 get_before : {A : Type 0} (a more : List A) (i : ℕ) → i < length a → slice_get (a ++ more) i ≡ slice_get a i
@@ -153,6 +164,7 @@ all_stand program gs len all = record {
   own = λ f graph z.
       let of = only_by program gs f graph program.functions len all z (slice_get program.functions f) refl in
       own_by program gs f graph program.functions all z of.0 of.1;
+  nought = λ f graph z. (let of = only_by program gs f graph program.functions len all z (slice_get program.functions f) refl in (all f of.0 graph of.1 z).nought);
 }
 
 forget_by : (program : Resolved) (gs : Graphs) (f : ℕ) (o : Option Function) → marks.IfFunction (program_of program) gs f (option_map (function_of program.sites) o)

@@ -551,23 +551,30 @@ module _ (sc : code_scope.Scope) where
 
 -- ---- graphs
 
+-- the variables of a graph are counted from 0 on: the first one that its first block takes is 0
+abbrev pub BeginsAtNought : Graph → Type 0
+BeginsAtNought graph = (b : Block) (v : ℕ) → slice_get graph.blocks 0 ≡ Some b → slice_get b.inputs 0 ≡ Some v → v ≡ 0
+
 -- a graph is that of a function of the program, whichever number it has, has no other operations than those of its tree, and has each
--- variable in one block
+-- variable in one block, from 0 on
 pub record GraphAt (program : Resolved) (function : Function) (graph : Graph) : Type 0 where
   pub stands : (gs : Graphs) (f : ℕ) → slice_get gs.graphs f ≡ Some graph → marks.HasFunction (program_of program) gs f (function_of program.sites function)
   pub only : OfBlocks (λ x g w. InFunction x g w (function_of program.sites function)) graph.blocks
   pub own : HaveOwnVariables graph.blocks
+  pub nought : BeginsAtNought graph
 
 -- each graph is that of the function with its number
 abbrev pub GraphsAt : Resolved → List Function → List Graph → Type 0
 GraphsAt program functions graphs = (i : ℕ) (function : Function) (graph : Graph) → slice_get functions i ≡ Some function → slice_get graphs i ≡ Some graph → GraphAt program function graph
 
--- the graphs of a program are those of its functions, with their nodes, have no other operations, and have each variable in one block
+-- the graphs of a program are those of its functions, with their nodes, have no other operations, and have each variable in one block, from
+-- 0 on
 pub record NodesAt (program : Resolved) (gs : Graphs) : Type 0 where
   pub stand : marks.Stand (program_of program) gs (functions_of program)
   pub only : (f : ℕ) (graph : Graph) → slice_get gs.graphs f ≡ Some graph
       → (function : Function) × (slice_get program.functions f ≡ Some function) × OfBlocks (λ x g w. InFunction x g w (function_of program.sites function)) graph.blocks
   pub own : (f : ℕ) (graph : Graph) → slice_get gs.graphs f ≡ Some graph → HaveOwnVariables graph.blocks
+  pub nought : (f : ℕ) (graph : Graph) → slice_get gs.graphs f ≡ Some graph → BeginsAtNought graph
 
 -- without nodes
 abbrev pub FlowAt : Resolved → Graphs → Type 0

@@ -397,6 +397,7 @@ impl Code {
     pub fn put_head(&mut self, alloc: Global, m: usize) -> Result<Head, NoMem>
         ensures grows { IfOk result (λ head. Headed self.old.blocks self.new.blocks m head.number head.m) }
         ensures head { IfOk result (λ head. IsHead self.new.blocks head.number head.base head.m) }
+        ensures base { IfOk result (λ head. head.base ≡ self.old.next) }
     {
         let base = self.next;
         let jump = jump_first(alloc, 0, 0)?;

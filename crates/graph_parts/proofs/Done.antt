@@ -17,7 +17,7 @@ use Rattle.rtyper_program.specs.Seen.{Lowered}
 use Rattle.growth_laws.specs.Growing.{Grows}
 use Rattle.run_laws.specs.Points.{Setting}
 use Rattle.block_laws.specs.Links.{AllUnder}
-use Rattle.block_laws.specs.Operations.{IsUncaught}
+use Rattle.block_laws.specs.Operations.{AreRead, IsUncaught}
 use Rattle.rtyped_runs.specs.Parts.{OpIsWritten, OpsAreDone}
 use Rattle.graph_shapes.specs.Shapes.{OpsRead}
 use Rattle.graph_shapes.proofs.Shaped.{blocks_have_shapes}
@@ -27,18 +27,18 @@ use Rattle.graph_counts.proofs.Counted.{variables_are_there, parameters_are_ther
 use Rattle.graph_parts.specs.Done.{OperationsAreDone, LinksAreDone, ParametersAreTaken, GraphsBegin}
 
 module _ (s : Setting) (l : Lowered) (first last : Found) (names : List ℕ) (e : Exit) where
-  ops_done : (ops : List Op) → length ops ≤ 1 → OpsRead names ops → IsUncaught s l.number names [] e
+  ops_done : (ops : List Op) → length ops ≤ 1 → OpsRead names ops → IsUncaught s l.number names [] e → ((o : Op) → slice_get ops 0 ≡ Some o → AreRead s l.number o.args)
       → ((o : Op) (w : Writing) → slice_get ops 0 ≡ Some o → Grows first w.found → Grows (op_of l o w).found last → length (variables l.known l.world l.number) ≤ length w.body.types → OpIsWritten s l o w)
       → OpsAreDone s l first last names ops e
-  ops_done [] few reads uncaught written = tt
-  ops_done (o ∷ []) few reads uncaught written = (λ w before after le. record { does = written o w refl before after le; fresh = reads.1; uncaught = uncaught }, tt)
-  ops_done (o ∷ x ∷ ops) few reads uncaught written = absurd (omega (arith, few))
+  ops_done [] few reads uncaught free written = tt
+  ops_done (o ∷ []) few reads uncaught free written = (λ w before after le. record { does = written o w refl before after le; are_read = free o refl; fresh = reads.1; uncaught = uncaught }, tt)
+  ops_done (o ∷ x ∷ ops) few reads uncaught free written = absurd (omega (arith, few))
 
 pub operations_are_done : OperationsAreDone
-operations_are_done r s l first last stands n b is catches written =
+operations_are_done r s l first last stands n b is catches free written =
     let shape = blocks_have_shapes r s.graphs stands.nodes l.number l.graph stands.graph n b is in
     let passes = exceptions_pass r s stands.nodes l.number l.graph stands.graph n b is catches in
-    ops_done s l first last b.inputs b.exit b.ops shape.few shape.ops (passes.1 []) written
+    ops_done s l first last b.inputs b.exit b.ops shape.few shape.ops (passes.1 []) free written
 
 under_more : (n k : ℕ) → n ≤ k → (vs : List ℕ) → AllUnder n vs → AllUnder k vs
 under_more n k le [] under = tt
@@ -81,10 +81,10 @@ few_inputs n vs under counted (suc k) e =
 
 pub parameters_are_taken : ParametersAreTaken
 unfolding program_of
-parameters_are_taken p gs t r known world nodes made read f graph is params b has there nought =
+parameters_are_taken p gs t r known world nodes made read f graph is params b has there =
     let begun = functions_begin r gs nodes f graph is in
     let same : begun.2.0 ≡ b = some_same (sym begun.2.1 ∙ there) in
-    let counted = parameters_are_counted r gs nodes f graph is b there nought in
+    let counted = parameters_are_counted r gs nodes f graph is b there in
     let function : slice_get (map (bare.function_of r.sites) r.functions) f ≡ Some (bare.function_of r.sites begun.0) = slice_get-map (bare.function_of r.sites) r.functions f ∙ ap (option_map (bare.function_of r.sites)) begun.1 in
     let defaults : length (bare.function_of r.sites begun.0).defaults ≡ length params = parameters_are_there p gs t r known.annotation made read f (bare.function_of r.sites begun.0) params function has in
     let mapped : length (bare.function_of r.sites begun.0).defaults ≡ length begun.0.defaults = length-map begun.0.defaults (option_map (value_in r.sites)) in

@@ -25,8 +25,8 @@ use Rattle.rtyper_program.specs.Seen.{Known, Lowered}
 use Rattle.growth_laws.specs.Growing.{Grows}
 use Rattle.run_laws.specs.Points.{Setting}
 use Rattle.block_laws.specs.Links.{AllConvert, AllUnder, IsLink}
+use Rattle.block_laws.specs.Operations.{AreRead}
 use Rattle.rtyped_runs.specs.Parts.{OpIsWritten, OpsAreDone}
-use Rattle.graph_shapes.specs.Beginnings.{BeginsAtNought}
 use Rattle.graph_shapes.specs.Shapes.{Joins}
 use Rattle.graph_counts.specs.Counts.{IsReadAt}
 
@@ -35,9 +35,10 @@ pub record Stands (r : Resolved) (s : Setting) (l : Lowered) : Type 0 where
   pub nodes : NodesAt r s.graphs
   pub graph : slice_get s.graphs.graphs l.number ≡ Some l.graph
 
--- Of a block that catches nothing the operations are done where each is written as what it does.
+-- Of a block that catches nothing the operations are done where each is written as what it does, of operands that are in no conflict, or
+-- never have values.
 abbrev pub OperationsAreDone : Type 0
-OperationsAreDone = (r : Resolved) (s : Setting) (l : Lowered) (first last : Found) → Stands r s l → (n : ℕ) (b : Block) → slice_get l.graph.blocks n ≡ Some b → exit_catches l.graph b.exit ≡ false
+OperationsAreDone = (r : Resolved) (s : Setting) (l : Lowered) (first last : Found) → Stands r s l → (n : ℕ) (b : Block) → slice_get l.graph.blocks n ≡ Some b → exit_catches l.graph b.exit ≡ false → ((o : Op) → slice_get b.ops 0 ≡ Some o → AreRead s l.number o.args)
     → ((o : Op) (w : Writing) → slice_get b.ops 0 ≡ Some o → Grows first w.found → Grows (op_of l o w).found last → length (variables l.known l.world l.number) ≤ length w.body.types → OpIsWritten s l o w)
     → OpsAreDone s l first last b.inputs b.ops b.exit
 
@@ -47,7 +48,7 @@ LinksAreDone = (r : Resolved) (s : Setting) (numbers : Numbers) (l : Lowered) �
     → AllUnder (length (variables l.known l.world l.number)) link.args → length (variables l.known l.world l.number) ≤ length w.body.types
     → s.reached l.number link.to ≡ true → AllConvert s numbers l link.args 0 joins.block.inputs ([], w) → IsLink s numbers l names link w
 
--- The first block of a graph whose variables are counted from 0 on has the parameters in its first variables, which are there.
+-- The first block of a graph has the parameters in its first variables, which are there.
 pub record TakesThem (known : Known) (world : World) (f : ℕ) (params : List Element) (b : Block) : Type 0 where
   pub counted : (i v : ℕ) → slice_get b.inputs i ≡ Some v → v ≡ i
   pub enough : length params ≤ length b.inputs
@@ -55,7 +56,7 @@ pub record TakesThem (known : Known) (world : World) (f : ℕ) (params : List El
 
 abbrev pub ParametersAreTaken : Type 0
 ParametersAreTaken = (p : Program) (gs : Graphs) (t : Tables) (r : Resolved) (known : Known) (world : World) → NodesAt r gs → IsMadeOf p r → IsReadAt (plan p gs t).places known.annotation → (f : ℕ) (graph : Graph) → slice_get gs.graphs f ≡ Some graph
-    → (params : List Element) (b : Block) → slice_get known.annotation.params f ≡ Some params → slice_get graph.blocks 0 ≡ Some b → BeginsAtNought b → TakesThem known world f params b
+    → (params : List Element) (b : Block) → slice_get known.annotation.params f ≡ Some params → slice_get graph.blocks 0 ≡ Some b → TakesThem known world f params b
 
 -- and a graph has the number of its function, and a first block
 abbrev pub GraphsBegin : Type 0

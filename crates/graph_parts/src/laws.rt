@@ -12,7 +12,7 @@ pub fn links_are_done()
     ensures { LinksAreDone }
 {}
 
-/// The first block of a graph whose first variable is 0 has the parameters in its first variables.
+/// The first block of a graph has the parameters in its first variables.
 pub fn parameters_are_taken()
     ensures { ParametersAreTaken }
 {}

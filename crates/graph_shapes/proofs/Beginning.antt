@@ -62,6 +62,6 @@ from_nought n (x ∷ vs) from nought i v is =
     omega (arith, here, there, first)
 
 pub parameters_are_counted : ParametersAreCounted
-parameters_are_counted r gs nodes f graph is b there nought i v at =
+parameters_are_counted r gs nodes f graph is b there i v at =
     let shape = good_shaped gs f graph is b (block_good r gs nodes f graph is 0 b there) in
-    from_nought shape.base b.inputs shape.inputs nought i v at
+    from_nought shape.base b.inputs shape.inputs (λ v at. nodes.nought f graph is b v there at) i v at

@@ -23,10 +23,6 @@ abbrev pub FunctionsBegin : Type 0
 FunctionsBegin = (r : Resolved) (gs : Graphs) → NodesAt r gs → (f : ℕ) (graph : Graph) → slice_get gs.graphs f ≡ Some graph
     → (function : Function) × (slice_get r.functions f ≡ Some function) × ((b : Block) × (slice_get graph.blocks 0 ≡ Some b) × Begins function b)
 
--- The variables of a graph are counted from 0 on: its first one is 0.
-abbrev pub BeginsAtNought : Block → Type 0
-BeginsAtNought b = (v : ℕ) → slice_get b.inputs 0 ≡ Some v → v ≡ 0
-
--- Then the inputs of its first block, and so the parameters, are 0, 1, 2 and so on.
+-- The inputs of its first block, and so the parameters, are 0, 1, 2 and so on.
 abbrev pub ParametersAreCounted : Type 0
-ParametersAreCounted = (r : Resolved) (gs : Graphs) → NodesAt r gs → (f : ℕ) (graph : Graph) → slice_get gs.graphs f ≡ Some graph → (b : Block) → slice_get graph.blocks 0 ≡ Some b → BeginsAtNought b → (i v : ℕ) → slice_get b.inputs i ≡ Some v → v ≡ i
+ParametersAreCounted = (r : Resolved) (gs : Graphs) → NodesAt r gs → (f : ℕ) (graph : Graph) → slice_get gs.graphs f ≡ Some graph → (b : Block) → slice_get graph.blocks 0 ≡ Some b → (i v : ℕ) → slice_get b.inputs i ≡ Some v → v ≡ i

@@ -31,7 +31,7 @@ pub fn functions_begin()
     ensures { FunctionsBegin }
 {}
 
-/// Where the first variable of a graph is 0, the inputs of its first block are 0, 1, 2 and so on.
+/// The inputs of the first block of a graph are 0, 1, 2 and so on.
 pub fn parameters_are_counted()
     ensures { ParametersAreCounted }
 {}

@@ -33,7 +33,7 @@ use Rattle.rtyper_data.specs.Finding.{same_type, helper_number, small_number}
 use Rattle.rtyper_data.specs.Converting.{by_small, converted, give, give_called, give_helped, give_made, give_op, give_to, given, helped, land, landed, landing, present, value_as}
 use Rattle.rtyper_data.specs.Comparing.{any_equal, compare, equal, field_equal, field_of, flag, joined, ordered, ordered_by, pointers_equal, texts_equal, texts_less, texts_less_by, within, within_by, within_of, within_text, within_tuple, zero_word}
 use Rattle.rtyper_data.specs.Tuples.{field_read, field_type_of, fields_of, item_by, item_of, parts_from, tuple_made, tuple_of, tuple_to, variable_of}
-use Rattle.rtyper_data.specs.Graphs.{and_equal, body_of, cast, cast_from, cast_items, equal_from, equal_items, equality, failing, failure, field_at, fields_at, item_as, items_equal, raised, raising, present as present_graph}
+use Rattle.rtyper_data.specs.Graphs.{and_equal, body_of, cast, cast_from, cast_items, equal_from, equal_items, equality, failing, failure, field_at, fields_at, item_as, items_equal, raised, raising, present as present_graph, shared_fields}
 use Rattle.rtyper_data.specs.Numbers.{binary_by, binary_of, give_binary, give_unary, int_of_text, plain, range_advance, range_has, rises, tested, to_int, to_int_by, unary_of, word}
 use Rattle.rtyper_data.specs.CheckedGraphs.{blocks_of, checked_graph, checked_neg_graph, of_quotient, of_rest, of_shift, of_sum, overflowing}
 use Rattle.rtyper_data.specs.IntOfText.{int_graph}
@@ -291,7 +291,7 @@ cast_from_grows layout m to i (t ∷ ts) w =
 
 pub cast_items_grows : (layout : Layout) (m n : ℕ) (w : Writing) → Grows w.found (cast_items layout m n w).1.found
 unfolding cast_items
-cast_items_grows layout m n w = cast_from_grows layout m (fields_at layout n) 0 (fields_at layout m) w
+cast_items_grows layout m n w = cast_from_grows layout m (fields_at layout n) 0 (shared_fields layout m n) w
 
 pub cast_grows : (layout : Layout) (m n : ℕ) (found : Found) → Grows found (cast layout m n found).1
 cast_grows layout m n found = cast_items_grows layout m n (writing found (body_of (type.Ptr m ∷ type.Bool ∷ [])))
@@ -304,7 +304,7 @@ equal_from_grows layout m n those i (s ∷ ss) all =
 
 pub equal_items_grows : (layout : Layout) (m n : ℕ) (w : Writing) → Grows w.found (equal_items layout m n w).1.found
 unfolding equal_items
-equal_items_grows layout m n w = equal_from_grows layout m n (fields_at layout n) 0 (fields_at layout m) (word (pos 1), w)
+equal_items_grows layout m n w = equal_from_grows layout m n (fields_at layout n) 0 (shared_fields layout m n) (word (pos 1), w)
 
 pub equality_grows : (layout : Layout) (m n : ℕ) (found : Found) → Grows found (equality layout m n found).1
 equality_grows layout m n found = equal_items_grows layout m n (writing found (body_of (type.Ptr m ∷ type.Ptr n ∷ [])))

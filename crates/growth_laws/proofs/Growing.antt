@@ -10,7 +10,7 @@ use Rattle.growth_laws.specs.Growing.{Grows}
 use Rattle.growth_laws.proofs.Fronts.{itself, longer, one_more, further}
 
 pub same_found : (found : Found) → Grows found found
-same_found found = record { needs = itself found.needs; caught = itself found.caught; together = refl; statics = itself found.statics; smalls = itself found.smalls; first = refl }
+same_found found = record { needs = itself found.needs; caught = itself found.caught; together = refl; statics = itself found.statics; smalls = itself found.smalls; sites = itself found.prebuilt; first = refl }
 
 pub growth_is_one : (a b c : Found) → Grows a b → Grows b c → Grows a c
 growth_is_one a b c g h = record {
@@ -19,6 +19,7 @@ growth_is_one a b c g h = record {
   together = (let i : length b.needs + length a.caught ≡ length a.needs + length b.caught = g.together in let j : length c.needs + length b.caught ≡ length b.needs + length c.caught = h.together in omega (arith, i, j));
   statics = further a.statics b.statics c.statics g.statics h.statics;
   smalls = further a.smalls b.smalls c.smalls g.smalls h.smalls;
+  sites = further a.prebuilt b.prebuilt c.prebuilt g.sites h.sites;
   first = h.first ∙ g.first;
 }
 
@@ -27,7 +28,7 @@ together_more xs ys x y = let i : length (xs ++ x ∷ []) ≡ length xs + 1 = lo
 
 needed_grows : (h : Helper) (c : Covers) (found : Found) (at : Option ℕ) → Grows found (needed h c found at).1
 needed_grows h c found (Some n) = same_found found
-needed_grows h c found None = record { needs = one_more found.needs _; caught = one_more found.caught c; together = together_more found.needs found.caught _ c; statics = itself found.statics; smalls = itself found.smalls; first = refl }
+needed_grows h c found None = record { needs = one_more found.needs _; caught = one_more found.caught c; together = together_more found.needs found.caught _ c; statics = itself found.statics; smalls = itself found.smalls; sites = itself found.prebuilt; first = refl }
 
 pub helpers_grow : (h : Helper) (found : Found) → Grows found (helper_number h found).1
 unfolding helper_number
@@ -35,15 +36,15 @@ helpers_grow h found = needed_grows h (failures_of h found.covered) found (need_
 
 asked_grows : (s : Small) (found : Found) (at : Option ℕ) → Grows found (asked s found at).1
 asked_grows s found (Some n) = same_found found
-asked_grows s found None = record { needs = itself found.needs; caught = itself found.caught; together = refl; statics = itself found.statics; smalls = one_more found.smalls s; first = refl }
+asked_grows s found None = record { needs = itself found.needs; caught = itself found.caught; together = refl; statics = itself found.statics; smalls = one_more found.smalls s; sites = itself found.prebuilt; first = refl }
 
 pub smalls_grow : (s : Small) (found : Found) → Grows found (small_number s found).1
 unfolding small_number
 smalls_grow s found = asked_grows s found (small_from 0 found.smalls s)
 
-placed_grows : (kind : ℕ) (cells : List CCell) (found : Found) (at : Option ℕ) → Grows found (placed kind cells found at).1
+pub placed_grows : (kind : ℕ) (cells : List CCell) (found : Found) (at : Option ℕ) → Grows found (placed kind cells found at).1
 placed_grows kind cells found (Some n) = same_found found
-placed_grows kind cells found None = record { needs = itself found.needs; caught = itself found.caught; together = refl; statics = one_more found.statics _; smalls = itself found.smalls; first = refl }
+placed_grows kind cells found None = record { needs = itself found.needs; caught = itself found.caught; together = refl; statics = one_more found.statics _; smalls = itself found.smalls; sites = itself found.prebuilt; first = refl }
 
 pub statics_grow : (kind : ℕ) (cells : List CCell) (found : Found) → Grows found (static_of kind cells found).1
 unfolding static_of

@@ -13,14 +13,14 @@ use Rattle.rtyper_layout.specs.Dicts.{first, second, stored_key, stored_value}
 use Rattle.rtyper_layout.specs.Layout.{mapping_at}
 use Rattle.rtyper_layout.specs.Types.{word}
 use Rattle.rtyper_data.specs.declared.found.Found.{Found}
-use Rattle.rtyper_data.specs.Finding.{same_type, static_of}
+use Rattle.rtyper_data.specs.Finding.{same_type}
 use Rattle.rtyper_data.specs.Seen.{Around}
 use Rattle.rtyper_op.specs.Constants.{constant_of}
-use Rattle.rtyper_op.specs.Mapped.{array_of, count_cell, dict_cells, entries_from, entry_of, first_array, first_cells, index_of, mapped, mapped_by, prebuilt_by, second_array, second_cells, stored, with_entry}
+use Rattle.rtyper_op.specs.Mapped.{array_of, count_cell, dict_cells, entries_from, entry_of, first_array, first_cells, index_of, mapped, mapped_by, own_static, prebuilt_by, second_array, second_cells, stored, with_entry}
 use Rattle.rtyper_op.specs.Prebuilt.{all_ready, array_cells, contents, contents_if, is_made, item_type, list_of, listed, made, prebuilt, round, rounds, site_by, site_made, sites_from, type_of_site, values_from, with_array}
 use Rattle.growth_laws.specs.Growing.{Grows}
 use Rattle.growth_laws.proofs.Fronts.{itself, one_more}
-use Rattle.growth_laws.proofs.Growing.{same_found, statics_grow}
+use Rattle.growth_laws.proofs.Growing.{same_found, placed_grows}
 use Rattle.growth_laws.proofs.Data.{if_asked, then_grows}
 use Rattle.growth_laws.proofs.Operating.{constant_of_grows}
 
@@ -51,7 +51,7 @@ entries_from_grows around m (p ∷ pairs) done = then_grows (entry_of_grows arou
 
 pub array_of_grows : (k : ℕ) (items : List CCell) (found : Found) → Grows found (array_of k items found).1
 unfolding array_of
-array_of_grows k items found = statics_grow k (count_cell (length items) ∷ cell.Braces items ∷ []) found
+array_of_grows k items found = placed_grows k (count_cell (length items) ∷ cell.Braces items ∷ []) found None
 
 pub first_array_grows : (m : Mapping) (entries : Entries) (found : Found) → Grows found (first_array m entries found).1
 unfolding first_array
@@ -67,7 +67,7 @@ dict_cells_grows m [] found = same_found found
 dict_cells_grows m (e ∷ entries) found = then_grows (first_array_grows m (e ∷ entries) found) (second_array_grows m (e ∷ entries) (first_array m (e ∷ entries) found).1)
 
 pub prebuilt_by_grows : (site k : ℕ) (those : List CCell × Found) → Grows those.1 (prebuilt_by site k those)
-prebuilt_by_grows site k those = record { needs = itself those.1.needs; caught = itself those.1.caught; together = refl; statics = one_more those.1.statics _; smalls = itself those.1.smalls; first = refl }
+prebuilt_by_grows site k those = record { needs = itself those.1.needs; caught = itself those.1.caught; together = refl; statics = one_more those.1.statics _; smalls = itself those.1.smalls; sites = one_more those.1.prebuilt _; first = refl }
 
 pub mapped_by_grows : (around : Around) (site k : ℕ) (pairs : List (Const × Const)) (m : Option Mapping) (found : Found) → Grows found (mapped_by around site k pairs m found)
 mapped_by_grows around site k pairs None found = same_found found
@@ -95,7 +95,7 @@ module _ (around : Around) where
   list_of_grows site list pairs items = prebuilt_by_grows site list (count_cell (length pairs) ∷ cell.Const items.0 ∷ [], items.1)
 
   pub with_array_grows : (site list : ℕ) (pairs : List (Const × Const)) (cells : List CCell × Found) → Grows cells.1 (with_array around site list pairs cells)
-  with_array_grows site list pairs cells = then_grows (statics_grow (word (list + 1)) cells.0 cells.1) (list_of_grows site list pairs (static_of (word (list + 1)) cells.0 cells.1))
+  with_array_grows site list pairs cells = then_grows (placed_grows (word (list + 1)) cells.0 cells.1 None) (list_of_grows site list pairs (own_static (word (list + 1)) cells.0 cells.1))
 
   pub listed_grows : (site list : ℕ) (pairs : List (Const × Const)) (found : Found) → Grows found (listed around site list pairs found)
   unfolding listed

@@ -17,6 +17,7 @@ pub record Grows (before after : Found) : Type 0 where
   pub together : length after.needs + length before.caught ≡ length before.needs + length after.caught
   pub statics : Begins before.statics after.statics
   pub smalls : Begins before.smalls after.smalls
+  pub sites : Begins before.prebuilt after.prebuilt
   pub first : after.first_small ≡ before.first_small
 
 abbrev pub HelpersGrow : Type 0

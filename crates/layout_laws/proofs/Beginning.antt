@@ -126,7 +126,7 @@ module _ (program : Resolved) (annotation : Annotation) (raises : Bool) (world :
   layout = world.around.layout
 
   abbrev known : Known
-  known = known_of world program reached meant items keys static
+  known = known_of world program reached meant items keys static (λ s. None)
 
   abbrev ghost : Ghost
   ghost = first_ghost world p (length others)
@@ -317,6 +317,7 @@ module _ (program : Resolved) (annotation : Annotation) (raises : Bool) (world :
     constants = λ s block h. (let it = statics_are s block h in stays_at s block it.0 it.1);
     vtables = vtable_stays;
     exceptions = λ class l lt h. home_at class lt ∙ ap (λ o. Some (home_for world class o)) h;
+    sites = λ site home h. absurd (no_some h);
     lists = λ n i head h e. absurd (no_list n i head h);
     instances = instance_at;
     dicts = λ n i head m h e. absurd (no_dict n i head h);

@@ -24,7 +24,7 @@ module _ (meant : List Class) (infos : List ClassInfo) (are : AreClasses meant i
   same_below c d = ap (list_any (λ e. e == d)) (same_line (length meant) (Some c) ∙ ap (λ n. line infos n c) are.count)
 
 pub classes_are_known : ClassesAreKnown
-classes_are_known world program reached meant items keys static tree are = record {
+classes_are_known world program reached meant items keys static site tree are = record {
   attribute = λ class name. refl;
   vtable = λ class l h. ap (vtable_in world) h;
   number = λ class. refl;

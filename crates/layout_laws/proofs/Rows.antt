@@ -105,7 +105,7 @@ same_bases (suc (suc c)) = refl
 pub is_known : IsKnown
 is_known = (
   layouts_lay_out_classes program annotation false world known (record { layout = refl; attributes = refl }) numbered (λ class name. refl),
-  classes_are_known world program annotation.reached meant (λ n. None) (λ n. None) (λ s. None) forest (record { count = refl; bases = same_bases }),
+  classes_are_known world program annotation.reached meant (λ n. None) (λ n. None) (λ s. None) (λ s. None) forest (record { count = refl; bases = same_bases }),
 )
 
 -- ---- new instances

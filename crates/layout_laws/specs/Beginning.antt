@@ -64,8 +64,8 @@ pub record AreBuiltin (world : World) : Type 0 where
 abbrev pub AreStatics : World → LlProgram → (ℕ → Option Block) → Type 0
 AreStatics world p static = (s : ℕ) (block : Block) → static s ≡ Some block → (slice_get (statics_of p) s ≡ Some block) × (exception_of world s ≡ None)
 
--- before anything is made, memory represents the builtin exceptions, whatever other objects there are
+-- before anything is made, memory represents the builtin exceptions, whatever other objects there are, of which nothing is known
 abbrev pub MemoryBegins : Type 0
 MemoryBegins = (program : Resolved) (annotation : Annotation) (raises : Bool) (world : World) (reached : List Bool) (p : LlProgram) (meant : Program) (items keys : ℕ → Option Element) (static : ℕ → Option Block) (others : Heap) (left : ℕ)
     → IsWorldOf program annotation raises world → IsNumbered world → length world.around.layout.structs < 2 ^ 64 → HasStatics world program reached p → AreBuiltin world → AreStatics world p static → left < 2 ^ 62
-    → Represents world.around.layout (known_of world program reached meant items keys static) (first_ghost world p (length others)) (exceptions_from 0 builtin_classes ++ others) left [] (statics_of p)
+    → Represents world.around.layout (known_of world program reached meant items keys static (λ s. None)) (first_ghost world p (length others)) (exceptions_from 0 builtin_classes ++ others) left [] (statics_of p)

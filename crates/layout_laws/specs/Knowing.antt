@@ -18,6 +18,7 @@ use Rattle.rtyper_layout.specs.Types.{word}
 use Rattle.rtyper_class.specs.Attributes.{place_in}
 use Rattle.rtyper_class.specs.Seen.{World, laid}
 use Rattle.rtyper_class.specs.Vtables.{method_cells, name_cells, names_of, vtable_at}
+use Rattle.object_laws.specs.Ghost.{Home}
 use Rattle.object_laws.specs.Known.{Known, Vtable}
 use Rattle.class_laws.specs.Classes.{IsOf, standing_of}
 
@@ -41,10 +42,10 @@ abbrev pub graph_if : Option Bool → Option ℕ → Option ℕ
 graph_if (Some true) number = number
 graph_if reached number = None
 
--- The program as its meaning sees it, what is known of the items of lists and of the values and keys of dicts, and the statics that stay,
--- are given.
-abbrev pub known_of : World → Resolved → List Bool → Program → (ℕ → Option Element) → (ℕ → Option Element) → (ℕ → Option Block) → Known
-known_of world program reached meant items keys static = record {
+-- The program as its meaning sees it, what is known of the items of lists and of the values and keys of dicts, the statics that stay, and
+-- where the lists and dicts of modules stand, are given.
+abbrev pub known_of : World → Resolved → List Bool → Program → (ℕ → Option Element) → (ℕ → Option Element) → (ℕ → Option Block) → (ℕ → Option Home) → Known
+known_of world program reached meant items keys static site = record {
   program = meant;
   items = items;
   keys = keys;
@@ -53,6 +54,7 @@ known_of world program reached meant items keys static = record {
   exception = λ class. Static (word (world.first_exception + class));
   graph = λ f. graph_if (slice_get reached f) (slice_get world.around.numbers f);
   static = static;
+  site = site;
 }
 
 -- the classes of the meaning are these: as many, with the same bases
@@ -61,8 +63,8 @@ pub record AreClasses (meant : List Class) (infos : List ClassInfo) : Type 0 whe
   pub bases : (class : ℕ) → base_of (slice_get meant class) ≡ base infos class
 
 abbrev pub ClassesAreKnown : Type 0
-ClassesAreKnown = (world : World) (program : Resolved) (reached : List Bool) (meant : Program) (items keys : ℕ → Option Element) (static : ℕ → Option Block)
-    → IsForest world.classes.classes → AreClasses meant.classes world.classes.classes → IsOf world (known_of world program reached meant items keys static)
+ClassesAreKnown = (world : World) (program : Resolved) (reached : List Bool) (meant : Program) (items keys : ℕ → Option Element) (static : ℕ → Option Block) (site : ℕ → Option Home)
+    → IsForest world.classes.classes → AreClasses meant.classes world.classes.classes → IsOf world (known_of world program reached meant items keys static site)
 
 -- the program that the meaning makes of a program has the classes of that, where each of them has a name
 abbrev pub ProgramsHaveTheirClasses : Type 0

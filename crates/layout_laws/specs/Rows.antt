@@ -78,7 +78,7 @@ abbrev pub meant : Program
 meant = record { functions = []; classes = class None ∷ class (Some 0) ∷ []; sites = []; entry = 0 }
 
 abbrev pub known : Known
-known = known_of world program annotation.reached meant (λ n. None) (λ n. None) (λ s. None)
+known = known_of world program annotation.reached meant (λ n. None) (λ n. None) (λ s. None) (λ s. None)
 
 -- strings, the vtables, the two classes, and the list of the program's arguments with its array
 abbrev pub HasShapes : Type 0
@@ -128,4 +128,4 @@ abbrev pub raised : LlProgram
 raised = record { stage = stage.Raw; structs = raising.around.layout.structs; statics = vtables raising resolved [] ++ exceptions raising; graphs = []; entry = 0 }
 
 abbrev pub ExceptionsBegin : Type 0
-ExceptionsBegin = Represents raising.around.layout (known_of raising resolved [] meant (λ n. None) (λ n. None) (λ s. None)) (first_ghost raising raised 0) (exceptions_from 0 builtin_classes ++ []) 1000 [] (statics_of raised)
+ExceptionsBegin = Represents raising.around.layout (known_of raising resolved [] meant (λ n. None) (λ n. None) (λ s. None) (λ s. None)) (first_ghost raising raised 0) (exceptions_from 0 builtin_classes ++ []) 1000 [] (statics_of raised)

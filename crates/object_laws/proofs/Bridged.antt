@@ -112,6 +112,7 @@ module _ {layout : Layout} {known : Known} {g : Ghost} {heap : Heap} {left fewer
     constants = r.constants;
     vtables = r.vtables;
     exceptions = r.exceptions;
+    sites = r.sites;
     lists = λ n i head h struct. list_kept grown_none i head (λ o k. k) (λ x u b k of is. is) n less (r.lists n i head h struct);
     instances = r.instances;
     dicts = r.dicts;
@@ -128,6 +129,7 @@ module _ {layout : Layout} {known : Known} {g : Ghost} {heap : Heap} {left fewer
     constants = λ s block h. use_grows (block_grown g b) (Static s) _ (r.constants s block h);
     vtables = λ class l h. use_grows (block_grown g b) (known.vtable class).at _ (r.vtables class l h);
     exceptions = r.exceptions;
+    sites = r.sites;
     lists = λ n i head h struct. list_kept (block_grown g b) i head (λ o k. k) (λ x u c k of is. found_more blocks (Some b ∷ []) statics x c is) n less (r.lists n i head h struct);
     instances = λ class i head h. instance_kept (block_grown g b) i head (λ o k. k) (λ x u c k of is. found_more blocks (Some b ∷ []) statics x c is) class (r.instances class i head h);
     dicts = λ n i head m h is. dict_kept (block_grown g b) i head (λ o k. k) (λ x u c k of is. found_more blocks (Some b ∷ []) statics x c is) m (r.dicts n i head m h is);

@@ -6,6 +6,7 @@ use Rattle.std.proofs.lemmas.List.{get_or-set_other, length-set}
 use Rattle.csub_tree.specs.State.{Value, Ptr, Static, Block}
 use Rattle.csub_tree.specs.Statement.{read}
 use Rattle.ll_texts.specs.Texts.{found}
+use Rattle.rpy_meaning.specs.Operations.{object_of}
 use Rattle.rpy_tree.specs.Value.{Value as Meant, Object, Listed, Mapped, Instance, Heap}
 use Rattle.rpy_meaning.specs.Classes.{named}
 use Rattle.rtyper_layout.specs.declared.layout.Layout.{Layout}
@@ -214,6 +215,7 @@ object_changes {layout = layout} {known = known} {g = g} {ghost = ghost} {heap =
   constants = λ s block h. use_grows grown (Static s) _ (r.constants s block h);
   vtables = λ class l h. use_grows grown (known.vtable class).at _ (r.vtables class l h);
   exceptions = λ class l h k. ap (λ hs. slice_get hs class) same ∙ r.exceptions class l h k;
+  sites = λ site home h. ap (λ hs. slice_get hs (object_of known.program.sites site)) same ∙ r.sites site home h;
   lists = λ m j other h struct. list_at m j other (ap (λ hs. slice_get hs j) (sym same) ∙ h) struct (cases_eq j i);
   instances = λ class j other h. instance_at class j other (ap (λ hs. slice_get hs j) (sym same) ∙ h) (cases_eq j i);
   dicts = λ n j other m h is. dict_at n j other m (ap (λ hs. slice_get hs j) (sym same) ∙ h) is (cases_eq j i);

@@ -158,6 +158,7 @@ one_entry = record {
   constants = λ s block h. absurd (cc);
   vtables = λ class l h. absurd (cc);
   exceptions = λ class l h k. absurd (cc);
+  sites = λ site home h. absurd (cc);
   lists = λ n i head h struct. absurd (no_lists n i head h);
   instances = λ class i head h. absurd (no_instances class i head h);
   dicts = the_dicts;

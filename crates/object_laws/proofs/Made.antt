@@ -137,6 +137,7 @@ object_made {layout = layout} {known = known} {g = g} {heap = heap} {left = left
   constants = λ s block h. use_grows grown (Static s) _ (r.constants s block h);
   vtables = λ class l h. use_grows grown (known.vtable class).at _ (r.vtables class l h);
   exceptions = λ class l h k. home_grows grown class _ (r.exceptions class l h k);
+  sites = λ site home h. home_grows grown _ _ (r.sites site home h);
   lists = λ n j head h struct. list_at n j head struct (last_one g.homes home j _ h);
   instances = λ class j head h. instance_at class j head (last_one g.homes home j _ h);
   dicts = λ n j head m h is. dict_at n j head m is (last_one g.homes home j _ h);

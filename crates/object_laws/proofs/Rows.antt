@@ -74,7 +74,7 @@ no_instances class zero head h = absurd (let q : ListOf 1 ≡ InstanceOf class =
 no_instances class (suc i) head h = absurd (cc)
 
 pub two_words : TwoWords
-two_words = record { made = refl; fixed = refl; homes = refl; few = omega arith; stays = none_stays; settled = none_settled; constants = λ s block h. absurd (cc); vtables = λ class l h. absurd (cc); exceptions = λ class l h k. absurd (cc); lists = the_lists; instances = no_instances; dicts = λ n i head m h is. absurd (cc) }
+two_words = record { made = refl; fixed = refl; homes = refl; few = omega arith; stays = none_stays; settled = none_settled; constants = λ s block h. absurd (cc); vtables = λ class l h. absurd (cc); exceptions = λ class l h k. absurd (cc); sites = λ site home h. absurd (cc); lists = the_lists; instances = no_instances; dicts = λ n i head m h is. absurd (cc) }
 
 -- ---- an instance
 
@@ -203,6 +203,7 @@ an_instance = record {
   constants = λ s block h. absurd (cc);
   vtables = the_vtables;
   exceptions = λ class l h k. absurd (no_builtins class l h k);
+  sites = λ site home h. absurd (cc);
   lists = λ n i head h struct. absurd (no_lists n i head h);
   instances = the_instances;
   dicts = λ n i head m h is. absurd (cc);

@@ -3,6 +3,7 @@ use Rattle.std.specs.Prelude.{ℕ, List, ◌∷◌, Option, pos}
 use Rattle.ann_element.specs.declared.element.Element.{Element}
 use Rattle.csub_tree.specs.State.{Value, Word, Block}
 use Rattle.rpy_meaning.specs.Tree.{Program}
+use Rattle.object_laws.specs.Ghost.{Home}
 
 -- where an attribute stands: the struct that declares it, its place there, and what is known of its values
 pub record Standing : Type 0 where
@@ -22,7 +23,7 @@ vtable_block n v = record { kind = n; fields = Word (pos v.number) ∷ v.methods
 
 -- The program; what is known of the items of the lists of a struct, or of the values of its dicts, and of the keys of these; where the
 -- attributes of a class and of its bases stand; the vtable of a class; the one instance of a builtin exception class; the graph of
--- a function, where it has one; and the statics that are known to stay.
+-- a function, where it has one; the statics that are known to stay; and where the list or dict of a module stands that is made at a site.
 pub record Known : Type 0 where
   pub program : Program
   pub items : ℕ → Option Element
@@ -32,3 +33,4 @@ pub record Known : Type 0 where
   pub exception : ℕ → Value
   pub graph : ℕ → Option ℕ
   pub static : ℕ → Option Block
+  pub site : ℕ → Option Home

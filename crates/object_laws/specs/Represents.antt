@@ -11,14 +11,14 @@ use Rattle.ll_held.specs.Held.{is_reference}
 use Rattle.ll_texts.specs.Texts.{found}
 use Rattle.rpy_tree.specs.Value.{Value as Meant, Listed, Instance, Heap}
 use Rattle.rpy_meaning.specs.Classes.{named}
-use Rattle.rpy_meaning.specs.Operations.{builtin_classes}
+use Rattle.rpy_meaning.specs.Operations.{builtin_classes, object_of}
 use Rattle.rtyper_layout.specs.declared.classes.Laid.{Laid}
 use Rattle.rtyper_layout.specs.declared.layout.Layout.{Layout}
 use Rattle.rtyper_layout.specs.Layout.{is_list, is_tuple, mapping_at}
 use Rattle.rtyper_layout.specs.Types.{word, laid_in}
 use Rattle.rtyper_layout.specs.declared.dicts.Mapping.{Mapping}
 use Rattle.object_laws.specs.Dicts.{DictAt}
-use Rattle.object_laws.specs.Ghost.{Ghost, use_of, Stays, Head, Array, Whole, ListOf, InstanceOf, DictOf}
+use Rattle.object_laws.specs.Ghost.{Ghost, use_of, Stays, Head, Array, Whole, ListOf, InstanceOf, DictOf, Home}
 use Rattle.object_laws.specs.Known.{Known, Standing, vtable_block}
 use Rattle.object_laws.specs.Values.{Holds, EachHolds, AreEmpty}
 
@@ -102,8 +102,9 @@ Settled layout g blocks statics = (x : Value) (block : Block) → found blocks s
 
 -- Each object has a home, and each block and static a use. What stays is what it is, as strings and tuples do; what has the home of a list
 -- is one, what has that of an instance is one, and what has that of a dict. Some statics are known to stay. Each class that has structs has
--- its vtable, and the first objects are the instances of the builtin exception classes. The steps that are left are few enough for every
--- cost to be a word. The blocks of two objects are apart, since each is for one of them.
+-- its vtable, and the first objects are the instances of the builtin exception classes, and the lists and dicts of modules, which stand where
+-- they are known to. The steps that are left are few enough for every cost to be a word. The blocks of two objects are apart, since each is for
+-- one of them.
 pub record Represents (layout : Layout) (known : Known) (g : Ghost) (heap : Heap) (left : ℕ) (blocks : List (Option Block)) (statics : List Block) : Type 0 where
   pub made : length g.blocks ≡ length blocks
   pub fixed : length g.statics ≡ length statics
@@ -114,6 +115,7 @@ pub record Represents (layout : Layout) (known : Known) (g : Ghost) (heap : Heap
   pub constants : (s : ℕ) (block : Block) → known.static s ≡ Some block → use_of g (Static s) ≡ Some (Stays block)
   pub vtables : (class : ℕ) (l : Laid) → laid_in layout.classes class ≡ Some l → use_of g (known.vtable class).at ≡ Some (Stays (vtable_block l.vtable (known.vtable class)))
   pub exceptions : (class : ℕ) (l : Laid) → class < builtin_classes → laid_in layout.classes class ≡ Some l → slice_get g.homes class ≡ Some (record { sort = InstanceOf class; head = known.exception class })
+  pub sites : (site : ℕ) (home : Home) → known.site site ≡ Some home → slice_get g.homes (object_of known.program.sites site) ≡ Some home
   pub lists : (n i : ℕ) (head : Value) → slice_get g.homes i ≡ Some (record { sort = ListOf n; head = head }) → is_list layout n ≡ true → ListAt layout known g heap left blocks statics n i head
   pub instances : (class i : ℕ) (head : Value) → slice_get g.homes i ≡ Some (record { sort = InstanceOf class; head = head }) → InstanceAt layout known g heap blocks statics class i head
   pub dicts : (n i : ℕ) (head : Value) (m : Mapping) → slice_get g.homes i ≡ Some (record { sort = DictOf n; head = head }) → mapping_at layout.mappings n ≡ Some m → DictAt layout known g heap blocks statics m i head

@@ -44,7 +44,7 @@ layout = record {
 }
 
 abbrev pub known : Known
-known = record { program = program; items = λ n. Some element.Int; keys = λ n. Some element.Int; attribute = λ class name. None; vtable = λ class. no_vtable; exception = λ class. Null; graph = λ f. None; static = λ s. None }
+known = record { program = program; items = λ n. Some element.Int; keys = λ n. Some element.Int; attribute = λ class name. None; vtable = λ class. no_vtable; exception = λ class. Null; graph = λ f. None; static = λ s. None; site = λ s. None }
 
 abbrev pub heap : Heap
 heap = Listed (MeantWord (pos 7) ∷ MeantWord (negsuc 1) ∷ []) ∷ []

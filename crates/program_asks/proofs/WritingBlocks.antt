@@ -65,7 +65,7 @@ module _ (l : Lowered) where
 -- ---- operations and blocks
 
 covered_grows : (c : Covers) (w : Writing) → Grows w.found (with_covered c w).found
-covered_grows c w = record { needs = itself w.found.needs; caught = itself w.found.caught; together = refl; statics = itself w.found.statics; smalls = itself w.found.smalls; first = refl }
+covered_grows c w = record { needs = itself w.found.needs; caught = itself w.found.caught; together = refl; statics = itself w.found.statics; smalls = itself w.found.smalls; sites = itself w.found.prebuilt; first = refl }
 
 lowered_grows : (world : World) (o : RowOp) (place : Place) (args : List Operand) (w : Writing) → Grows w.found (lowered world o place args w).found
 lowered_grows world o place args w = either w.found (λ (made : Writing). made.found) _ _ _ (lower_dict_op_grows world.around o place args w) (lower_class_op_grows world o place args w)

@@ -9,13 +9,12 @@ use Rattle.flow_graph.specs.declared.graph.Link.{Link}
 use Rattle.rtyper_data.specs.declared.body.Body.{Body}
 use Rattle.rtyper_data.specs.declared.found.Found.{Found}
 use Rattle.rtyper_data.specs.Finding.{same_type}
-use Rattle.rtyper_data.specs.Seen.{Writing, type_of, writing}
+use Rattle.rtyper_data.specs.Seen.{Around, Operand, Writing, type_of, writing}
 use Rattle.rtyper_op.specs.declared.text.Test.{Test}
 use Rattle.rtyper_op.specs.declared.text.Test.TheVariants.{Known, By}
-use Rattle.rtyper_op.specs.Texts.{truth_of}
 use Rattle.rtyper_program.specs.declared.links.Caught.{Caught}
 use Rattle.rtyper_program.specs.Handlers.{Work, any_other, handler, handlers, land, landing, taken, test_of, tested}
-use Rattle.rtyper_program.specs.Links.{arguments, branch, by_flag, by_test, flag_of, give_as, give_back, inputs_at, link_of, passed, read_as, with_argument, with_passed}
+use Rattle.rtyper_program.specs.Links.{arguments, branch, by_flag, by_test, flag_of, give_as, give_back, inputs_at, known_truth, link_of, passed, read_as, known_test, truth_test, with_argument, with_passed}
 use Rattle.rtyper_program.specs.Seen.{Lowered, operand_of, type_at}
 use Rattle.growth_laws.specs.Growing.{Grows}
 use Rattle.growth_laws.proofs.Data.{then_grows, value_as_grows}
@@ -34,11 +33,11 @@ module _ (l : Lowered) where
   passed_grows caught None to w = same_found w.found
   passed_grows caught (Some v) to w = value_as_grows l.world.around.layout (read_as l caught v).0 (read_as l caught v).1 to w
 
-  argument_grows : (caught : Option Caught) (v : Option ℕ) (to : LlType) (made : List COperand × Writing) → Grows made.1.found (with_argument l caught v to made).1.found
+  pub argument_grows : (caught : Option Caught) (v : Option ℕ) (to : LlType) (made : List COperand × Writing) → Grows made.1.found (with_argument l caught v to made).1.found
   argument_grows caught v to made =
       either made.1.found (λ m. m.1.found) (same_type to type.Void) made (with_passed made.0 (passed l caught v to made.1)) (same_found made.1.found) (passed_grows caught v to made.1)
 
-  arguments_grow : (caught : Option Caught) (args : List ℕ) (n : ℕ) (inputs : List ℕ) (made : List COperand × Writing) → Grows made.1.found (arguments l caught args n inputs made).1.found
+  pub arguments_grow : (caught : Option Caught) (args : List ℕ) (n : ℕ) (inputs : List ℕ) (made : List COperand × Writing) → Grows made.1.found (arguments l caught args n inputs made).1.found
   arguments_grow caught args n [] made = same_found made.1.found
   arguments_grow caught args n (v ∷ inputs) made =
       then_grows (argument_grows caught (slice_get args n) (type_at l v) made) (arguments_grow caught args (n + 1) inputs (with_argument l caught (slice_get args n) (type_at l v) made))
@@ -57,10 +56,17 @@ module _ (l : Lowered) where
   test_grows there elsewhere (Known false) w = link_grows None elsewhere w
   test_grows there elsewhere (By x) w = flag_grows there elsewhere w (flag_of x w.body)
 
+  known_grows : (around : Around) (a : Operand) (w : Writing) → Grows w.found (truth_test around a w).1.found
+  known_grows around a w = by (known_truth a.element)
+    where
+      by : (o : Option Bool) → Grows w.found (known_test o around a w).1.found
+      by None = truth_of_grows around a w
+      by (Some b) = same_found w.found
+
   pub branch_grows : (v : ℕ) (there elsewhere : Link) (w : Writing) → Grows w.found (branch l v there elsewhere w).1.found
   unfolding branch
   branch_grows v there elsewhere w =
-      then_grows (truth_of_grows l.world.around (operand_of l v) w) (test_grows there elsewhere (truth_of l.world.around (operand_of l v) w).0 (truth_of l.world.around (operand_of l v) w).1)
+      then_grows (known_grows l.world.around (operand_of l v) w) (test_grows there elsewhere (truth_test l.world.around (operand_of l v) w).0 (truth_test l.world.around (operand_of l v) w).1)
 
   give_as_grows : (v : ℕ) (to : LlType) (w : Writing) → Grows w.found (give_as l v to w).1.found
   give_as_grows v type.Void w = same_found w.found

@@ -43,10 +43,11 @@ module _ (p : Program) (gs : Graphs) (covers : Covers p gs) (stand : StandFor p 
   settled_by n h = record {
     read = h.1.0;
     closed = h.1.1.0;
+    grew = h.1.1.1.1;
     fits = λ classes lt.
-        let grown = h.1.1.1 (basis p gs (tables p) classes lt) in
+        let grown = h.1.1.1.0 (basis p gs (tables p) classes lt) in
         record { cells = grown.cells; marks = grown.marks; table = grown.table; above = grown.above; formed = grown.formed h.1.1.0.free };
-    least = λ classes lt. (h.1.1.1 (basis p gs (tables p) classes lt)).least;
+    least = λ classes lt. (h.1.1.1.0 (basis p gs (tables p) classes lt)).least;
   }
 
   types_by : (n : Annotation) → spec.Annotates p (planned p gs (tables p)) (Ok n) → spec.Types p gs n (tables p) (Ok tt) → spec.HasTypes p gs n

@@ -60,7 +60,7 @@ Types p gs n t (Err e) = (f : TypeFault) × Tells (least_fault p gs n t) (Err f)
 -- ---- annotations
 
 abbrev pub Annotates : Program → Planned → Result Annotation CheckFault → Type 0
-Annotates p q (Ok n) = (s : State) × (settled.IsRead q s n × (settled.IsClosed q s × settled.IsGrown p q s))
+Annotates p q (Ok n) = (s : State) × (settled.IsRead q s n × (settled.IsClosed q s × (settled.IsGrown p q s × settled.Grew q (settled.begin p q) s)))
 Annotates p q (Err (fault.Conflict file line words)) =
     settled.NoneFree p q × ((t : Told) × (IsMet p q.plan (settled.begin p q) t × IsShown p t (fault.Conflict file line words)))
 Annotates p q (Err (fault.Typing file line kind)) = ⊥

@@ -69,6 +69,10 @@ const DROPS: &str =
 const COVERS: &str =
     "def f(n):\n    try:\n        return 10 / n\n    except ZeroDivisionError:\n        print 'zero'\n    finally:\n        print 'fin'\n    return -1\ndef entry_point(argv):\n    print f(len(argv)), f(len(argv) - 1)\n    return 0\n";
 
+// A test that is known and calls that never return, before links that pass on tuples of other lengths.
+const BREAKS: &str =
+    "def fail(n):\n    raise ValueError\ndef f(n):\n    t = (1, 2, 3)\n    while True:\n        n += t[0]\n        if n == 5:\n            u = (1, 2)\n            fail(n)\n            print t == u\n            break\n        if n > 6:\n            t = (4, 5)\n            break\n    return t[1]\ndef entry_point(argv):\n    print f(6)\n    try:\n        print f(4)\n    except ValueError:\n        print 'none'\n    return 0\n";
+
 const LISTS: &str =
     "import os\nL = [1, 2, 3]\nM = [['a', 'bc'], []]\ndef item(l, i):\n    try:\n        return l[i]\n    except IndexError:\n        return -1\ndef entry_point(argv):\n    l = [5, 3]\n    l.append(7)\n    l.insert(0, 1)\n    print len(l), l.pop(), l.pop(0), item(l, -1), item(l, 2)\n    k = l + L\n    k += l\n    k.reverse()\n    for x in k[1:6]:\n        print x\n    del k[0]\n    print len(k), 9 in k, len(k * 2), M[0][1], len(M[1])\n    print '-'.join([w + str(len(w)) for w in 'ab,c,,d'.split(',') if w])\n    for a in argv:\n        print a\n    return len(argv)\n";
 
@@ -143,6 +147,7 @@ fn programs_run(rt: HostRuntime) -> Result<(), Fail> {
         ("a.py", OVERFLOWS, 0, "ovf\n", "returned 1\n"),
         ("--steps 9 a.py", DROPS, 12, "", "steps spent\n"),
         ("a.py", COVERS, 0, "fin\nzero\nfin\n10 -1\n", "returned 0\n"),
+        ("a.py", BREAKS, 0, "5\nnone\n", "returned 0\n"),
         (
             "a.py -- foo",
             LISTS,

@@ -13,7 +13,7 @@ use Rattle.rtyper_layout.specs.Layout.{is_tuple}
 use Rattle.rtyper_data.specs.declared.found.Found.{Found}
 use Rattle.rtyper_data.specs.declared.small.Small.TheVariants as small
 use Rattle.rtyper_data.specs.Finding.{same_type, small_number}
-use Rattle.rtyper_data.specs.Graphs.{fields_at, field_at, cast_items, cast_made, equal_items, equality_made}
+use Rattle.rtyper_data.specs.Graphs.{fields_at, field_at, cast_items, cast_made, equal_items, equality_made, shared_fields}
 use Rattle.rtyper_data.specs.Numbers.{word}
 use Rattle.rtyper_data.specs.Seen.{Writing}
 use Rattle.rtyper_data.specs.Smalls.{small_graph}
@@ -44,7 +44,7 @@ module _ (layout : Layout) where
   cast_found : (m n : ℕ) (made : Found) → (small_graph layout (small.Cast m n) made).1 ≡ all_asked (cast_asks layout m n) made
   unfolding cast_items
   cast_found m n made =
-      ap (λ (r : List COperand × Writing). (cast_made n r).1) (rows.cast_is layout m (fields_at layout n) 0 (fields_at layout m) (rows.start layout m n made)) ∙ fields_found m (fields_at layout n) 0 (fields_at layout m) (rows.start layout m n made)
+      ap (λ (r : List COperand × Writing). (cast_made n r).1) (rows.cast_is layout m (fields_at layout n) 0 (shared_fields layout m n) (rows.start layout m n made)) ∙ fields_found m (fields_at layout n) 0 (shared_fields layout m n) (rows.start layout m n made)
 
   rounds_found : (m n : ℕ) (those : List LlType) (i : ℕ) (ss : List LlType) (all : COperand) (w : Writing) → rounds.found_from layout m n those i ss all w ≡ all_asked (fields_equal_asks layout those i ss) w.found
   rounds_found m n those i [] all w = refl
@@ -55,8 +55,8 @@ module _ (layout : Layout) where
   equality_found : (m n : ℕ) (made : Found) → (small_graph layout (small.Equal m n) made).1 ≡ all_asked (equality_asks layout m n) made
   unfolding equal_items
   equality_found m n made =
-      ap (λ (r : COperand × Writing). (equality_made r).1) (rounds.rounds_are layout m n (fields_at layout n) 0 (fields_at layout m) (word (pos 1)) (rounds.start layout m n made))
-      ∙ rounds_found m n (fields_at layout n) 0 (fields_at layout m) (word (pos 1)) (rounds.start layout m n made)
+      ap (λ (r : COperand × Writing). (equality_made r).1) (rounds.rounds_are layout m n (fields_at layout n) 0 (shared_fields layout m n) (word (pos 1)) (rounds.start layout m n made))
+      ∙ rounds_found m n (fields_at layout n) 0 (shared_fields layout m n) (word (pos 1)) (rounds.start layout m n made)
 
   -- ---- which these are
 
@@ -118,7 +118,7 @@ module _ (p : LlProgram) (known : Known) (world : World) (numbers : Numbers) (fi
       record {
         made = s.made;
         graph = s.graph;
-        parts = all_have last (HasTo p world.around.layout numbers (raised_in world) core k) (λ a found good late. has_to k a found good late) (cast_asks world.around.layout m n) s.made (fields_of world.around.layout (fields_at world.around.layout n) 0 (fields_at world.around.layout m))
+        parts = all_have last (HasTo p world.around.layout numbers (raised_in world) core k) (λ a found good late. has_to k a found good late) (cast_asks world.around.layout m n) s.made (fields_of world.around.layout (fields_at world.around.layout n) 0 (shared_fields world.around.layout m n))
             (subst (λ f. Grows f last) (cast_found world.around.layout m n s.made) s.grows);
       }
   has_to (suc k) (Make (small.Equal m n)) found good late =
@@ -126,7 +126,7 @@ module _ (p : LlProgram) (known : Known) (world : World) (numbers : Numbers) (fi
       record {
         made = s.made;
         graph = s.graph;
-        parts = all_have last (HasTo p world.around.layout numbers (raised_in world) core k) (λ a found good late. has_to k a found good late) (equality_asks world.around.layout m n) s.made (fields_equal_of world.around.layout (fields_at world.around.layout n) 0 (fields_at world.around.layout m))
+        parts = all_have last (HasTo p world.around.layout numbers (raised_in world) core k) (λ a found good late. has_to k a found good late) (equality_asks world.around.layout m n) s.made (fields_equal_of world.around.layout (fields_at world.around.layout n) 0 (shared_fields world.around.layout m n))
             (subst (λ f. Grows f last) (equality_found world.around.layout m n s.made) s.grows);
       }
   has_to (suc k) _ found good late = absurd good

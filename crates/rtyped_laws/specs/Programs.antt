@@ -1,5 +1,5 @@
 -- A program that is made of flow graphs has the structs and the statics of its layout, as the laws of operations take them.
-use Rattle.std.specs.Prelude.{◌≡◌, ◌<◌, ◌^◌, ℕ, [], ◌++◌, length, Option, Some}
+use Rattle.std.specs.Prelude.{◌≡◌, ◌<◌, ◌^◌, ℕ, [], ◌++◌, length, Option, Some, None}
 use Rattle.ann_element.specs.declared.element.Element.{Element}
 use Rattle.csub_tree.specs.State.{Block}
 use Rattle.ll_code.specs.declared.program.LlProgram.{LlProgram}
@@ -61,5 +61,5 @@ abbrev pub MemoryBeginsInPrograms : Type 0
 MemoryBeginsInPrograms = (known : Known) (classes : Tables) (p : LlProgram) (r : IsLaid known classes p) (meant : Program) (items keys : ℕ → Option Element) (static : ℕ → Option Block) (others : Heap) (left : ℕ)
     → IsNumbered (world_in known classes (layout_for known classes) p r) → length (layout_for known classes).structs < 2 ^ 64 → length p.statics < 2 ^ 64
     → AreBuiltin (world_in known classes (layout_for known classes) p r) → AreStatics (world_in known classes (layout_for known classes) p r) p static → left < 2 ^ 62
-    → Represents (layout_for known classes) (known_of (world_in known classes (layout_for known classes) p r) known.program known.annotation.reached meant items keys static)
+    → Represents (layout_for known classes) (known_of (world_in known classes (layout_for known classes) p r) known.program known.annotation.reached meant items keys static (λ s. None))
     (first_ghost (world_in known classes (layout_for known classes) p r) p (length others)) (exceptions_from 0 builtin_classes ++ others) left [] (statics_of p)

@@ -1,5 +1,5 @@
 -- A block whose parts are done.
-use Rattle.std.proofs.Common.{◌≡◌, ◌≤◌, ℕ, ◌+◌, true, false, List, [], ◌∷◌, ◌++◌, length, Some, None, refl, sym, ap, ◌∙◌, subst, arith, append_assoc}
+use Rattle.std.proofs.Common.{◌≡◌, ◌≤◌, ◌⊎◌, inl, inr, ℕ, ◌+◌, true, false, List, [], ◌∷◌, ◌++◌, length, Some, None, refl, sym, ap, ◌∙◌, subst, arith, append_assoc}
 use Rattle.std.specs.Prelude.{slice_get, if◌then◌else◌}
 use Rattle.std.proofs.lemmas.List.{append-nil, length-append}
 use Rattle.ll_code.specs.declared.program.LlType.{LlType}
@@ -17,14 +17,13 @@ use Rattle.flow_graph.specs.declared.graph.Link.{Link}
 use Rattle.flow_graph.specs.declared.graph.Op.{Op}
 use Rattle.rtyper_op.specs.declared.text.Test.{Test}
 use Rattle.rtyper_op.specs.declared.text.Test.TheVariants.{Known as IsKnown, By}
-use Rattle.rtyper_op.specs.Texts.{truth_of}
 use Rattle.rtyper_data.specs.declared.found.Found.{Found}
 use Rattle.rtyper_data.specs.Seen.{Writing}
 use Rattle.rtyper_program.specs.Blocks.{block_of, ended, exit_of, before, op_of, ops_from, ops_of, raise_as}
 use Rattle.rtyper_program.specs.Cuts.{on_raise}
 use Rattle.rtyper_program.specs.Graphs.{variables}
 use Rattle.rtyper_program.specs.Handlers.{Work, work}
-use Rattle.rtyper_program.specs.Links.{branch, by_test, give_as, give_back, goto, link_of, typed}
+use Rattle.rtyper_program.specs.Links.{branch, by_test, give_as, give_back, goto, link_of, truth_test, typed}
 use Rattle.rtyper_program.specs.Raises.{exit_catches}
 use Rattle.rtyper_program.specs.Seen.{Lowered, operand_of, type_at}
 use Rattle.growth_laws.specs.Growing.{Grows}
@@ -36,13 +35,14 @@ use Rattle.object_laws.specs.Done.{HasLayout}
 use Rattle.object_laws.specs.Known.{Known as Seen}
 use Rattle.run_laws.specs.Points.{Setting}
 use Rattle.run_laws.specs.Does.{Does}
-use Rattle.block_laws.specs.Operations.{CatchesNothing, HasParameters, HasTypes}
+use Rattle.block_laws.specs.Operations.{CatchesNothing, HasTypes, NeverGives}
 use Rattle.block_laws.specs.Links.{setting, Ends, HasBlocks}
 use Rattle.block_laws.proofs.Branching.{branches_are_taken}
 use Rattle.block_laws.proofs.Exiting.{exceptions_leave, results_are_given}
 use Rattle.block_laws.proofs.Operating.{operations_are_followed}
 use Rattle.block_laws.proofs.Passing.{links_are_passed}
-use Rattle.rtyped_runs.specs.Parts.{BlockIsDone, ExitIsDone, OpIsDone, OpsAreDone, exit_plain, names_behind}
+use Rattle.rtyped_runs.specs.Parts.{BlockIsDone, ExitIsDone, ExitsAreDone, OpIsDone, OpsAreDone, StopsAt, exit_plain, names_behind}
+use Rattle.block_laws.proofs.Adding.{Adds, branch_adds, give_back_adds, link_adds, same_adds}
 
 -- ---- what is asked for only grows
 
@@ -90,7 +90,7 @@ module _ (l : Lowered) where
     plain_catches : (e : Exit) (w : Writing) → CatchesNothing s (exit_plain l e w).0
     unfolding branch give_back
     plain_catches (exit.Goto link) w = λ x frames core. refl
-    plain_catches (exit.If v there elsewhere) w = test_catches there elsewhere (truth_of l.world.around (operand_of l v) w).0 (truth_of l.world.around (operand_of l v) w).1
+    plain_catches (exit.If v there elsewhere) w = test_catches there elsewhere (truth_test l.world.around (operand_of l v) w).0 (truth_test l.world.around (operand_of l v) w).1
     plain_catches (exit.OnRaise v hands by without) w = λ x frames core. refl
     plain_catches (exit.Return v) w = gives_catch v l.result w
     plain_catches (exit.Raise v) w = raises_catch v (type_at l v)
@@ -98,7 +98,7 @@ module _ (l : Lowered) where
 -- ---- a block
 
 module _ (l : Lowered) (seen : Seen) (graphs : Graphs) (p : LlProgram) (arguments : List (List ℕ)) (numbers : Numbers) (first last : Found) (has : HasLayout p l.world.around.layout)
-    (params : HasParameters (setting l seen graphs p arguments)) (types : HasTypes (setting l seen graphs p arguments) l.number (length (variables l.known l.world l.number))) where
+    (types : HasTypes (setting l seen graphs p arguments) l.number (length (variables l.known l.world l.number))) where
   abbrev pub s : Setting
   s = setting l seen graphs p arguments
 
@@ -114,10 +114,14 @@ module _ (l : Lowered) (seen : Seen) (graphs : Graphs) (p : LlProgram) (argument
     new : List LlType
     written : after.body.ops ≡ w.body.ops ++ all
     added : after.body.types ≡ w.body.types ++ new
-    does : (rest : List LlOp) (ends : LlExit) → length w.body.types + length new ≤ s.size l.number → CatchesNothing s ends → Does s l.number (names_behind names ops) [] e rest ends → Does s l.number names ops e (all ++ rest) ends
+    does : (rest : List LlOp) (ends : LlExit) → length w.body.types + length new ≤ s.size l.number → CatchesNothing s ends → StopsAt s l.number ops ⊎ Does s l.number (names_behind names ops) [] e rest ends → Does s l.number names ops e (all ++ rest) ends
+
+  stays_behind : (names : List ℕ) (e : Exit) (rest : List LlOp) (ends : LlExit) → StopsAt s l.number [] ⊎ Does s l.number names [] e rest ends → Does s l.number names [] e rest ends
+  stays_behind names e rest ends (inl stops) = absurd stops
+  stays_behind names e rest ends (inr does) = does
 
   no_ops : (names : List ℕ) (e : Exit) (w : Writing) → OpsWritten names [] e w w
-  no_ops names e w = record { all = []; new = []; written = sym (append-nil w.body.ops); added = sym (append-nil w.body.types); does = λ rest ends enters catches behind. behind }
+  no_ops names e w = record { all = []; new = []; written = sym (append-nil w.body.ops); added = sym (append-nil w.body.types); does = λ rest ends enters catches behind. stays_behind names e rest ends behind }
 
   one_op : (names : List ℕ) (o : Op) (ops : List Op) (e : Exit) (w after : Writing) → below ≤ length w.body.types → OpIsDone s l names o ops e w → OpsWritten (names ++ o.result ∷ []) ops e (op_of l o w) after → OpsWritten names (o ∷ ops) e w after
   one_op names o ops e w after enough done it =
@@ -130,9 +134,15 @@ module _ (l : Lowered) (seen : Seen) (graphs : Graphs) (p : LlProgram) (argument
         added = it.added ∙ ap (λ (l : List LlType). l ++ it.new) done.does.types ∙ append_assoc w.body.types done.does.new it.new;
         does = λ rest ends enters catches behind.
             subst (λ (l2 : List LlOp). Does s l.number names (o ∷ ops) e l2 ends) (sym (append_assoc done.does.ops it.all rest))
-            (operations_are_followed s l.number names o ops e (length w.body.types) (length done.does.new) done.does.ops (it.all ++ rest) ends (types_more (length w.body.types) enough) params done.does.is (omega (arith, enters, more)) done.fresh done.uncaught catches
-            (it.does rest ends (omega (arith, enters, more, count)) catches behind));
+            (operations_are_followed s l.number names o ops e (length w.body.types) (length done.does.new) done.does.ops (it.all ++ rest) ends (types_more (length w.body.types) enough) done.does.is done.are_read (omega (arith, enters, more)) done.fresh done.uncaught catches
+            (in_turn rest ends (omega (arith, enters, more, count)) catches behind));
       }
+    where
+      in_turn : (rest : List LlOp) (ends : LlExit) → length (op_of l o w).body.types + length it.new ≤ s.size l.number → CatchesNothing s ends → StopsAt s l.number (o ∷ ops) ⊎ Does s l.number (names_behind names (o ∷ ops)) [] e rest ends
+          → NeverGives s l.number o ⊎ Does s l.number (names ++ o.result ∷ []) ops e (it.all ++ rest) ends
+      in_turn rest ends enters catches (inl (inl stops)) = inl stops
+      in_turn rest ends enters catches (inl (inr stops)) = inr (it.does rest ends enters catches (inl stops))
+      in_turn rest ends enters catches (inr does) = inr (it.does rest ends enters catches (inr does))
 
   op_longer : (names : List ℕ) (o : Op) (ops : List Op) (e : Exit) (w : Writing) → OpIsDone s l names o ops e w → length w.body.types ≤ length (op_of l o w).body.types
   op_longer names o ops e w done = (let count : length (op_of l o w).body.types ≡ length w.body.types + length done.does.new = ap (λ (ts : List LlType). length ts) done.does.types ∙ length-append w.body.types done.does.new in omega (arith, count))
@@ -147,7 +157,7 @@ module _ (l : Lowered) (seen : Seen) (graphs : Graphs) (p : LlProgram) (argument
   module _ (graph : slice_get graphs.graphs l.number ≡ Some l.graph) (blocks : HasBlocks s l) where
     exit_ends : (names : List ℕ) (e : Exit) (w : Writing) → below ≤ length w.body.types → ExitIsDone s numbers l names e w → Ends s l names e w (exit_plain l e w)
     exit_ends names (exit.Goto link) w enough it = links_are_passed l seen graphs p arguments numbers below names link w has types enough graph blocks it
-    exit_ends names (exit.If v there elsewhere) w enough it = branches_are_taken l seen graphs p arguments numbers below names v there elsewhere w has types enough graph blocks it.0 it.1
+    exit_ends names (exit.If v there elsewhere) w enough it = branches_are_taken l seen graphs p arguments numbers below names v there elsewhere w has types enough graph blocks it.0 it.1 it.2
     exit_ends names (exit.OnRaise v hands by without) w enough it =
         let link = links_are_passed l seen graphs p arguments numbers below names without w has types enough graph blocks it in
         record { ops = link.ops; new = link.new; written = link.written; types = link.types; does = link.does }
@@ -172,6 +182,22 @@ module _ (l : Lowered) (seen : Seen) (graphs : Graphs) (p : LlProgram) (argument
     unfolding block_of
     block_is b w h = ap (ended (typed l b.inputs)) (exit_is_plain l b.exit (ops_of l b.ops w.writing).0 (work (inner b w) w.extra) h)
 
+    -- what is written for the exit of a block, to which no run may come
+    record Closed (b : Block) (w : Work) : Type 0 where
+      ops : List LlOp
+      new : List LlType
+      written : (exit_plain l b.exit (inner b w)).1.body.ops ≡ (inner b w).body.ops ++ ops
+      added : (exit_plain l b.exit (inner b w)).1.body.types ≡ (inner b w).body.types ++ new
+      does : length (inner b w).body.types + length new ≤ s.size l.number → StopsAt s l.number b.ops ⊎ Does s l.number (names_behind b.inputs b.ops) [] b.exit ops (exit_plain l b.exit (inner b w)).0
+
+    -- whatever the exit is, it only adds
+    exit_adds : (e : Exit) (w : Writing) → Adds w (exit_plain l e w).1
+    exit_adds (exit.Goto link) w = link_adds l None link w
+    exit_adds (exit.If v there elsewhere) w = branch_adds l v there elsewhere w
+    exit_adds (exit.OnRaise v hands by without) w = link_adds l None without w
+    exit_adds (exit.Return v) w = give_back_adds l v w
+    exit_adds (exit.Raise v) w = same_adds w
+
     module _ (b : Block) (w : Work) (done : BlockIsDone s numbers l first last b) (early : Grows first w.writing.found) (late : Grows (block_of l b w).1.writing.found last) (enough : below ≤ length w.writing.body.types) where
       late_exit : Grows (exit_plain l b.exit (inner b w)).1.found last
       late_exit = subst (λ (made : LlBlock × Work). Grows made.1.writing.found last) (block_is b w done.catches) late
@@ -188,8 +214,14 @@ module _ (l : Lowered) (seen : Seen) (graphs : Graphs) (p : LlProgram) (argument
       enough_inner : below ≤ length (inner b w).body.types
       enough_inner = omega (arith, enough, opened_count)
 
-      closed : Ends s l (names_behind b.inputs b.ops) b.exit (inner b w) (exit_plain l b.exit (inner b w))
-      closed = exit_ends (names_behind b.inputs b.ops) b.exit (inner b w) enough_inner (done.exit (inner b w) (then_grows early (ops_grow l b.ops (length w.writing.body.ops, w.writing))) late_exit enough_inner)
+      closed : Closed b w
+      closed = closes done.exit
+        where
+          closes : StopsAt s l.number b.ops ⊎ ExitsAreDone s numbers l first last (names_behind b.inputs b.ops) b.exit → Closed b w
+          closes (inl stops) = let it = exit_adds b.exit (inner b w) in record { ops = it.ops; new = it.new; written = it.written; added = it.types; does = λ enters. inl stops }
+          closes (inr it) =
+              let ends = exit_ends (names_behind b.inputs b.ops) b.exit (inner b w) enough_inner (it (inner b w) (then_grows early (ops_grow l b.ops (length w.writing.body.ops, w.writing))) late_exit enough_inner) in
+              record { ops = ends.ops; new = ends.new; written = ends.written; added = ends.types; does = λ enters. inr (ends.does enters) }
 
       all_count : length (opened.new ++ closed.new) ≡ length opened.new + length closed.new
       all_count = length-append opened.new closed.new
@@ -201,7 +233,7 @@ module _ (l : Lowered) (seen : Seen) (graphs : Graphs) (p : LlProgram) (argument
         end = (exit_plain l b.exit (inner b w)).0;
         is = ap (λ (made : LlBlock × Work). made.0) (block_is b w done.catches)
             ∙ ap (λ (ops : List LlOp). record { inputs = typed l b.inputs; ops = ops; exit = (exit_plain l b.exit (inner b w)).0 }) (closed.written ∙ ap (λ (ops : List LlOp). ops ++ closed.ops) opened.written ∙ append_assoc w.writing.body.ops opened.all closed.ops);
-        added = ap (λ (made : LlBlock × Work). made.1.writing.body.types) (block_is b w done.catches) ∙ closed.types ∙ ap (λ (ts : List LlType). ts ++ closed.new) opened.added ∙ append_assoc w.writing.body.types opened.new closed.new;
+        added = ap (λ (made : LlBlock × Work). made.1.writing.body.types) (block_is b w done.catches) ∙ closed.added ∙ ap (λ (ts : List LlType). ts ++ closed.new) opened.added ∙ append_assoc w.writing.body.types opened.new closed.new;
         reset = ap (λ (made : LlBlock × Work). made.1.writing.body.ops) (block_is b w done.catches);
         does = λ enters. opened.does closed.ops (exit_plain l b.exit (inner b w)).0 (omega (arith, enters, all_count)) (plain_catches l s b.exit (inner b w)) (closed.does (omega (arith, enters, all_count, opened_count)));
       }

@@ -20,7 +20,7 @@ use Rattle.growth_laws.proofs.Fronts.{in_front, last_one, longer}
 use Rattle.growth_laws.proofs.Growing.{same_found}
 use Rattle.object_laws.specs.Done.{HasLayout}
 use Rattle.object_laws.specs.Known.{Known as Seen}
-use Rattle.block_laws.specs.Operations.{HasParameters, HasTypes}
+use Rattle.block_laws.specs.Operations.{HasTypes}
 use Rattle.block_laws.specs.Links.{setting, HasBlocks}
 use Rattle.rtyped_runs.specs.Parts.{BlockIsDone}
 use Rattle.program_asks.proofs.WritingBlocks.{block_at_grows, blocks_grow}
@@ -78,7 +78,7 @@ module _ (l : Lowered) where
 -- ---- the variables of a graph
 
 module _ (l : Lowered) (seen : Seen) (graphs : Graphs) (p : LlProgram) (arguments : List (List ℕ)) (numbers : Numbers) (first last : Found) (has : HasLayout p l.world.around.layout)
-    (params : HasParameters (setting l seen graphs p arguments)) (types : HasTypes (setting l seen graphs p arguments) l.number (length (variables l.known l.world l.number)))
+    (types : HasTypes (setting l seen graphs p arguments) l.number (length (variables l.known l.world l.number)))
     (graph : slice_get graphs.graphs l.number ≡ Some l.graph) (blocks : HasBlocks (setting l seen graphs p arguments) l) where
   abbrev below : ℕ
   below = length (variables l.known l.world l.number)
@@ -99,9 +99,9 @@ module _ (l : Lowered) (seen : Seen) (graphs : Graphs) (p : LlProgram) (argument
 
   -- a block that is reached, as it is written
   pub written_at : (n : ℕ) (b : Block) (w : Work) → Done n b → is_block_reached l.known.annotation l.number n ≡ true → Grows first w.writing.found → Grows (block_at l n b w).1.writing.found last → below ≤ count w
-      → BlockWritten l seen graphs p arguments numbers first last has params types graph blocks b (paid n w)
+      → BlockWritten l seen graphs p arguments numbers first last has types graph blocks b (paid n w)
   written_at n b w done reached early late enough =
-      block_written l seen graphs p arguments numbers first last has params types graph blocks b (paid n w) (done reached) (subst (λ (f : Found). Grows first f) (sym (paid_found n w)) early)
+      block_written l seen graphs p arguments numbers first last has types graph blocks b (paid n w) (done reached) (subst (λ (f : Found). Grows first f) (sym (paid_found n w)) early)
       (subst (λ (c : Bool). Grows (if c then block_of l b (paid n w) else (dead_block, w)).1.writing.found last) reached late) (let k = paid_count n w in omega (arith, k, enough))
 
   longer_at : (n : ℕ) (b : Block) (w : Work) → Done n b → Grows first w.writing.found → Grows (block_at l n b w).1.writing.found last → below ≤ count w → count w ≤ count (block_at l n b w).1

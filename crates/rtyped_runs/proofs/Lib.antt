@@ -1,3 +1,4 @@
+pub mod Acting
 pub mod Blocks
 pub mod Conditions
 pub mod Functions

@@ -28,6 +28,7 @@ use Rattle.object_laws.specs.Values.{Holds, Plain, Alone, Items, Listed, Mapped,
 use Rattle.ll_helpers.specs.Helpers.{helpers}
 use Rattle.program_asks.specs.Standing.{world_in}
 use Rattle.rtyped_laws.specs.Programs.{layout_for}
+use Rattle.run_laws.specs.Points.{is_conflict, of_conflict}
 use Rattle.rtyped_runs.specs.Premises.{VariablesHaveTypes, GraphsAreKnown}
 
 -- ---- types
@@ -54,6 +55,38 @@ module _ (layout : Layout) (known : Known) (g : Ghost) where
       no true q = absurd (cc)
       no false q = absurd (cc)
   is_there seen x v (Missing m a b) e = absurd (let q : may_be_missing kind.Never ≡ true = ap may_be_missing (sym e) ∙ m in cc)
+
+conflict_kind : (e : Element) → of_conflict e ≡ true → kind_of e ≡ kind.Other
+conflict_kind (element.Conflict lists dicts) h = refl
+conflict_kind other h = absurd (cc)
+
+module _ (layout : Layout) (known : Known) (g : Ghost) where
+  -- what is held is in no conflict
+  no_other : (seen : Option Element) (x : Value) (v : Meant) → Holds layout known g seen x v → kind_seen seen ≢ kind.Other
+  no_other seen x v (Plain h s) e = absurd (let q : is_plain kind.Other ≡ true = ap is_plain (sym e) ∙ h in cc)
+  no_other seen x v (Alone k a b) e = absurd (cc)
+  no_other seen x v (Items parts n xs vs s a t u hs) e = absurd (let q : kind_seen (Some (element.Tuple parts)) ≡ kind.Other = ap kind_seen (sym s) ∙ e in cc)
+  no_other seen x v (Listed n i l a t s h) e = absurd (let q : of_list kind.Other ≡ true = ap of_list (sym e) ∙ l in cc)
+  no_other seen x v (Mapped n i m l a t s h) e = absurd (let q : of_dict kind.Other ≡ true = ap of_dict (sym e) ∙ l in cc)
+  no_other seen x v (Made class r c i s a b h) e = no r (ap kind_seen (sym s) ∙ e)
+    where
+      no : (r : Bool) → kind_seen (Some (element.Instance class r)) ≡ kind.Other → ⊥
+      no true q = absurd (cc)
+      no false q = absurd (cc)
+  no_other seen x v (Function functions r f n s a b c d) e = no r (ap kind_seen (sym s) ∙ e)
+    where
+      no : (r : Bool) → kind_seen (Some (element.Func functions r)) ≡ kind.Other → ⊥
+      no true q = absurd (cc)
+      no false q = absurd (cc)
+  no_other seen x v (Missing m a b) e = absurd (let q : may_be_missing kind.Other ≡ true = ap may_be_missing (sym e) ∙ m in cc)
+
+  pub holds_free : (seen : Option Element) (x : Value) (v : Meant) → Holds layout known g seen x v → is_conflict seen ≡ false
+  holds_free None x v held = refl
+  holds_free (Some e) x v held = by (of_conflict e) refl
+    where
+      by : (b : Bool) → of_conflict e ≡ b → b ≡ false
+      by true q = absurd (no_other (Some e) x v held (conflict_kind e q))
+      by false q = refl
 
 simple_typed : (layout : Layout) (seen : Option Element) → is_simple (kind_seen seen) ≡ true → type_seen layout seen ≢ type.Void
 simple_typed layout seen h q = by (kind_seen seen) refl h
@@ -98,13 +131,13 @@ under layout (Some elements) v h = under_of layout elements v h
 
 pub variables_have_types : VariablesHaveTypes
 variables_have_types l same known graphs p arguments laid = record {
-  typed = λ g v x value holds. at v (element_at l.known.annotation l.number v) refl (is_there l.world.around.layout known g (element_at l.known.annotation l.number v) x value holds);
+  typed = λ g v x value holds. at v (element_at l.known.annotation l.number v) refl (holds_free l.world.around.layout known g (element_at l.known.annotation l.number v) x value holds) (is_there l.world.around.layout known g (element_at l.known.annotation l.number v) x value holds);
   under = λ v h. under l.world.around.layout (slice_get l.known.annotation.vars l.number) v h;
 }
   where
-    at : (v : ℕ) (o : Option Element) → element_at l.known.annotation l.number v ≡ o → kind_seen o ≢ kind.Never → type_seen l.world.around.layout o ≢ type.Void
-    at v None e here = absurd (here refl)
-    at v (Some e) is here = laid_typed l.world.around.layout same e (laid v e is) here
+    at : (v : ℕ) (o : Option Element) → element_at l.known.annotation l.number v ≡ o → is_conflict o ≡ false → kind_seen o ≢ kind.Never → type_seen l.world.around.layout o ≢ type.Void
+    at v None e free here = absurd (here refl)
+    at v (Some e) is free here = laid_typed l.world.around.layout same e (laid v e is free) here
 
 -- ---- numbers
 
@@ -124,7 +157,7 @@ numbered a n (graph ∷ graphs) zero number h = (graph, refl)
 numbered a n (graph ∷ graphs) (suc f) number h = numbered a (next_number a n graph) graphs f number h
 
 pub graphs_are_known : GraphsAreKnown
-graphs_are_known known classes p r program meant items keys static own = record {
+graphs_are_known known classes p r program meant items keys static site own = record {
   numbers = λ n graph at reached.
       let is : slice_get known.annotation.reached n ≡ Some true = ap (slice_get known.annotation.reached) (sym (own n graph at)) ∙ reached_so (slice_get known.annotation.reached graph.function) reached in
       ap (λ o. graph_if o (slice_get (world_in known classes (layout_for known classes) p r).around.numbers n)) is;

@@ -93,7 +93,7 @@ module _ (s : Setting) (f : ℕ) (g : Ghost) (vars : List Value) where
   pub takes : (inputs : List ℕ) (params : List Element) (xs : List Value) (all : List Meant) → Is 0 inputs → Knows 0 params → Has 0 xs → ((j v : ℕ) → slice_get inputs j ≡ Some v → slice_get params j ≡ None → type_seen s.around.layout (s.element f v) ≡ type.Void)
       → AllHold s.around.layout s.known g params xs all → Stand s g f (taken inputs all) vars
   takes inputs params xs all is knows has others held = record {
-    bound = λ v x h. bound 0 inputs is knows has held v x h;
+    bound = λ v x h free. bound 0 inputs is knows has held v x h;
     blank = λ v a h. subst (λ t. Blank g t (read vars v)) (sym (without inputs others held v (ap (among v) (sym (taken_named inputs all)) ∙ a) h)) (never (read vars v));
   }
 

@@ -142,11 +142,11 @@ module _ (known : Known) (classes : Tables) (p : LlProgram) (r : IsLaid known cl
           inputs = ap (λ (c : Bool). (if c then block_of l b (paid m st.w) else (dead_block, st.w)).0.inputs) reached_block ∙ block_inputs l b (paid m st.w);
         }
 
-    well : (m : ℕ) (b : Block) → slice_get graph.blocks m ≡ Some b → StandsWell l seen graphs p arguments (numbers_in known classes (layout_for known classes) p r) (first_in known classes (layout_for known classes) p r) (last_in known classes (layout_for known classes) p r) has done.parameters parts.types flow_graph has_blocks m b start result
+    well : (m : ℕ) (b : Block) → slice_get graph.blocks m ≡ Some b → StandsWell l seen graphs p arguments (numbers_in known classes (layout_for known classes) p r) (first_in known classes (layout_for known classes) p r) (last_in known classes (layout_for known classes) p r) has parts.types flow_graph has_blocks m b start result
     well m b h =
         let z : 0 + m ≡ m = omega arith in
-        subst (λ (k : ℕ). StandsWell l seen graphs p arguments (numbers_in known classes (layout_for known classes) p r) (first_in known classes (layout_for known classes) p r) (last_in known classes (layout_for known classes) p r) has done.parameters parts.types flow_graph has_blocks k b start result) z
-        (stand_well l seen graphs p arguments (numbers_in known classes (layout_for known classes) p r) (first_in known classes (layout_for known classes) p r) (last_in known classes (layout_for known classes) p r) has done.parameters parts.types flow_graph has_blocks
+        subst (λ (k : ℕ). StandsWell l seen graphs p arguments (numbers_in known classes (layout_for known classes) p r) (first_in known classes (layout_for known classes) p r) (last_in known classes (layout_for known classes) p r) has parts.types flow_graph has_blocks k b start result) z
+        (stand_well l seen graphs p arguments (numbers_in known classes (layout_for known classes) p r) (first_in known classes (layout_for known classes) p r) (last_in known classes (layout_for known classes) p r) has parts.types flow_graph has_blocks
         0 graph.blocks start m b refl refl (λ j c k reached_block. parts.blocks j c k (ap (is_block_reached known.annotation n) (let z : j ≡ 0 + j = omega arith in z) ∙ reached_block)) it.early late (omega arith) h)
 
     module _ (m : ℕ) (b : Block) (h : slice_get graph.blocks m ≡ Some b) (reached_block : is_block_reached known.annotation n m ≡ true) where
@@ -154,13 +154,13 @@ module _ (known : Known) (classes : Tables) (p : LlProgram) (r : IsLaid known cl
       w = (well m b h).stands.w
 
       abbrev Written : Type 0
-      Written = BlockWritten l seen graphs p arguments (numbers_in known classes (layout_for known classes) p r) (first_in known classes (layout_for known classes) p r) (last_in known classes (layout_for known classes) p r) has done.parameters parts.types flow_graph has_blocks b (paid m w)
+      Written = BlockWritten l seen graphs p arguments (numbers_in known classes (layout_for known classes) p r) (first_in known classes (layout_for known classes) p r) (last_in known classes (layout_for known classes) p r) has parts.types flow_graph has_blocks b (paid m w)
 
       at_is : block_at l m b w ≡ block_of l b (paid m w)
       at_is = ap (λ (c : Bool). if c then block_of l b (paid m w) else (dead_block, w)) reached_block
 
       written : Written
-      written = written_at l seen graphs p arguments (numbers_in known classes (layout_for known classes) p r) (first_in known classes (layout_for known classes) p r) (last_in known classes (layout_for known classes) p r) has done.parameters parts.types flow_graph has_blocks
+      written = written_at l seen graphs p arguments (numbers_in known classes (layout_for known classes) p r) (first_in known classes (layout_for known classes) p r) (last_in known classes (layout_for known classes) p r) has parts.types flow_graph has_blocks
           m b w (λ reached_here. parts.blocks m b h reached_here) reached_block (then_grows it.early (well m b h).stands.early) (then_grows (well m b h).stands.late late) (well m b h).enough
 
       room : length (paid m w).writing.body.types + length written.new ≤ s.size n
@@ -204,7 +204,7 @@ module _ (known : Known) (classes : Tables) (p : LlProgram) (r : IsLaid known cl
       taking : TakesParameters l params first_block
       taking = parts.params params first_block of_params first_is
 
-      abbrev first_written : BlockWritten l seen graphs p arguments (numbers_in known classes (layout_for known classes) p r) (first_in known classes (layout_for known classes) p r) (last_in known classes (layout_for known classes) p r) has done.parameters parts.types flow_graph has_blocks first_block (paid 0 (w 0 first_block first_is parts.begins))
+      abbrev first_written : BlockWritten l seen graphs p arguments (numbers_in known classes (layout_for known classes) p r) (first_in known classes (layout_for known classes) p r) (last_in known classes (layout_for known classes) p r) has parts.types flow_graph has_blocks first_block (paid 0 (w 0 first_block first_is parts.begins))
       first_written = written 0 first_block first_is parts.begins
 
       all_typed : {g : Ghost} (ps : List Element) (xs : List Value) (all : List Meant) (i : ℕ) → ((j : ℕ) (e : Element) → slice_get ps j ≡ Some e → s.element n (i + j) ≡ Some e) → AllHold world.around.layout seen g ps xs all → (j : ℕ) (e : Element) → slice_get ps j ≡ Some e → same_type (type_of world.around.layout e) type.Void ≡ false

@@ -1,5 +1,6 @@
 -- What the laws of operations say is what is asked of the operations of a block.
-use Rattle.std.specs.Prelude.{◌≡◌, ◌<◌, ℕ, List, ◌∷◌, [], length, map, Some, true}
+use Rattle.std.specs.Prelude.{◌≡◌, ◌<◌, ℕ, List, ◌∷◌, [], length, map, slice_get, Some, true}
+use Rattle.ann_element.specs.declared.element.Element.{Element}
 use Rattle.csub_tree.specs.State.{Value, Core}
 use Rattle.ll_code.specs.declared.program.LlProgram.{LlProgram}
 use Rattle.ll_build.specs.declared.needs.Numbers.{Numbers}
@@ -8,6 +9,7 @@ use Rattle.flow_graph.specs.declared.graph.Op.{Op}
 use Rattle.rpy_tree.specs.Value.{Value as Meant, Heap}
 use Rattle.rpy_meaning.specs.Classes.{is_below}
 use Rattle.rpy_meaning.specs.Operations.{op, builtin_classes}
+use Rattle.rpy_meaning.specs.Tree.{Function}
 use Rattle.rpy_meaning.specs.World.{World as MeantWorld, Throws}
 use Rattle.rpy_meaning.specs.declared.row.RowOp.TheVariants as row
 use Rattle.rtyper_layout.specs.declared.classes.Laid.{Laid}
@@ -49,6 +51,10 @@ use Rattle.run_laws.specs.Points.{Setting, IsException, is_keyed}
 use Rattle.block_laws.specs.Links.{setting}
 use Rattle.rtyped_runs.specs.Parts.{OpIsWritten}
 
+-- functions have as many parameters as there are elements for them
+abbrev pub HasParameters : Setting → Type 0
+HasParameters s = (f : ℕ) (function : Function) (params : List Element) → slice_get s.known.program.functions f ≡ Some function → slice_get s.around.params f ≡ Some params → length function.defaults ≡ length params
+
 abbrev pub args_of : Lowered → Op → List Operand
 args_of l o = map (operand_of l) o.args
 
@@ -60,9 +66,9 @@ pub record IsInside (l : Lowered) (o : Op) (w : Writing) : Type 0 where
   pub result : o.result < length w.body.types
   pub operands : AllBelow (length w.body.types) (args_of l o)
 
--- the exceptions that it throws are objects: instances of builtin classes, which are there from the start
-abbrev pub ThrowsObjects : Setting → Op → Type 0
-ThrowsObjects s o = (g : Ghost) (core : Core) (w w' : MeantWorld) (vs : List Meant) (r : ℕ) → Represents s.around.layout s.known g w.heap w.left core.blocks core.statics → op s.known.program o.covered o.op vs w ≡ Throws r w' → IsException s g r (s.known.exception r)
+-- the exceptions that it throws, of operands that are held, are objects: instances of builtin classes, which are there from the start
+abbrev pub ThrowsObjects : Setting → Lowered → Op → Type 0
+ThrowsObjects s l o = (g : Ghost) (core : Core) (w w' : MeantWorld) (vs : List Meant) (r : ℕ) → Represents s.around.layout s.known g w.heap w.left core.blocks core.statics → Given s.known s.around g core (args_of l o) vs → op s.known.program o.covered o.op vs w ≡ Throws r w' → IsException s g r (s.known.exception r)
 
 -- what is asked for stands, over all memory that represents a heap, with as many steps left
 abbrev pub StandsSo : Setting → (Core → Ask → Found → Type 0) → List Ask → Found → Type 0
@@ -100,7 +106,7 @@ AreAlways s l o Good = (g : Ghost) (core : Core) (w : MeantWorld) (vs : List Mea
 -- Where a law says of an operation, as it is lowered, that it is done, its operation in a block does what it does.
 abbrev pub DoneOperationsAreWritten : Standing → Type 0
 DoneOperationsAreWritten Has = (l : Lowered) (known : Seen) (graphs : Graphs) (p : LlProgram) (arguments : List (List ℕ)) (numbers : Numbers) (blocks : ℕ) (o : Op) (asks : List Ask) (w : Writing)
-    → HasLayout p l.world.around.layout → IsInside l o w → ThrowsObjects (setting l known graphs p arguments) o
+    → HasLayout p l.world.around.layout → IsInside l o w → ThrowsObjects (setting l known graphs p arguments) l o
     → StandsSo (setting l known graphs p arguments) (Has l.world p numbers known.exception) asks (before o w).found
     → IsDone (Has l.world) blocks known l.world.around o.op o.covered asks (lowered l.world o.op (place_of l o.result) (args_of l o) (before o w)) (place_of l o.result) (args_of l o) (before o w)
     → OpIsWritten (setting l known graphs p arguments) l o w
@@ -108,7 +114,7 @@ DoneOperationsAreWritten Has = (l : Lowered) (known : Seen) (graphs : Graphs) (p
 -- The same where the law speaks of worlds and values that are so for a mapping, and they always are.
 abbrev pub KeyedOperationsAreWritten : Standing → (Mapping → MeantWorld → List Meant → Type 0) → Type 0
 KeyedOperationsAreWritten Has Good = (m : Mapping) (l : Lowered) (known : Seen) (graphs : Graphs) (p : LlProgram) (arguments : List (List ℕ)) (numbers : Numbers) (blocks : ℕ) (o : Op) (asks : List Ask) (w : Writing)
-    → HasLayout p l.world.around.layout → IsInside l o w → ThrowsObjects (setting l known graphs p arguments) o → AreAlways (setting l known graphs p arguments) l o (Good m)
+    → HasLayout p l.world.around.layout → IsInside l o w → ThrowsObjects (setting l known graphs p arguments) l o → AreAlways (setting l known graphs p arguments) l o (Good m)
     → StandsSo (setting l known graphs p arguments) (Has l.world p numbers known.exception) asks (before o w).found
     → IsDoneWhere (Good m) (Has l.world) blocks known l.world.around o.op o.covered asks (lowered l.world o.op (place_of l o.result) (args_of l o) (before o w)) (place_of l o.result) (args_of l o) (before o w)
     → OpIsWritten (setting l known graphs p arguments) l o w
@@ -116,7 +122,7 @@ KeyedOperationsAreWritten Has Good = (m : Mapping) (l : Lowered) (known : Seen) 
 -- The same where the law speaks of such worlds and values for a narrowing.
 abbrev pub ToldOperationsAreWritten : Standing → (MeantWorld → List Meant → Type 0) → Type 0
 ToldOperationsAreWritten Has Good = (l : Lowered) (known : Seen) (graphs : Graphs) (p : LlProgram) (arguments : List (List ℕ)) (numbers : Numbers) (blocks : ℕ) (o : Op) (asks : List Ask) (w : Writing)
-    → HasLayout p l.world.around.layout → IsInside l o w → ThrowsObjects (setting l known graphs p arguments) o → AreAlways (setting l known graphs p arguments) l o Good
+    → HasLayout p l.world.around.layout → IsInside l o w → ThrowsObjects (setting l known graphs p arguments) l o → AreAlways (setting l known graphs p arguments) l o Good
     → StandsSo (setting l known graphs p arguments) (Has l.world p numbers known.exception) asks (before o w).found
     → IsDoneWhere Good (Has l.world) blocks known l.world.around o.op o.covered asks (lowered l.world o.op (place_of l o.result) (args_of l o) (before o w)) (place_of l o.result) (args_of l o) (before o w)
     → OpIsWritten (setting l known graphs p arguments) l o w
@@ -124,7 +130,7 @@ ToldOperationsAreWritten Has Good = (l : Lowered) (known : Seen) (graphs : Graph
 -- And for one to a class, of which the instance is.
 abbrev pub ClassedOperationsAreWritten : Type 0
 ClassedOperationsAreWritten = (d : ℕ) (l : Lowered) (known : Seen) (graphs : Graphs) (p : LlProgram) (arguments : List (List ℕ)) (numbers : Numbers) (blocks : ℕ) (o : Op) (asks : List Ask) (w : Writing)
-    → HasLayout p l.world.around.layout → IsInside l o w → ThrowsObjects (setting l known graphs p arguments) o → AreAlways (setting l known graphs p arguments) l o (AreOfClass known d)
+    → HasLayout p l.world.around.layout → IsInside l o w → ThrowsObjects (setting l known graphs p arguments) l o → AreAlways (setting l known graphs p arguments) l o (AreOfClass known d)
     → StandsSo (setting l known graphs p arguments) (of_classes l.world p numbers known.exception) asks (before o w).found
     → IsDoneWhere (AreOfClass known d) (of_classes l.world) blocks known l.world.around o.op o.covered asks (lowered l.world o.op (place_of l o.result) (args_of l o) (before o w)) (place_of l o.result) (args_of l o) (before o w)
     → OpIsWritten (setting l known graphs p arguments) l o w
@@ -132,7 +138,7 @@ ClassedOperationsAreWritten = (d : ℕ) (l : Lowered) (known : Seen) (graphs : G
 -- The same of an operation that copies items of lists.
 abbrev pub CopiedOperationsAreWritten : Type 0
 CopiedOperationsAreWritten = (l : Lowered) (known : Seen) (graphs : Graphs) (p : LlProgram) (arguments : List (List ℕ)) (numbers : Numbers) (most : MeantWorld → List Meant → ℕ) (o : Op) (asks : List Ask) (w : Writing)
-    → HasLayout p l.world.around.layout → IsInside l o w → ThrowsObjects (setting l known graphs p arguments) o
+    → HasLayout p l.world.around.layout → IsInside l o w → ThrowsObjects (setting l known graphs p arguments) l o
     → StandsSo (setting l known graphs p arguments) (of_lists l.world p numbers known.exception) asks (before o w).found
     → lowered l.world o.op (place_of l o.result) (args_of l o) (before o w) ≡ lower_list_op l.world.around o.op (place_of l o.result) (args_of l o) (before o w)
     → IsDoneWithin most known l.world.around o.op o.covered asks (place_of l o.result) (args_of l o) (before o w)
@@ -141,7 +147,7 @@ CopiedOperationsAreWritten = (l : Lowered) (known : Seen) (graphs : Graphs) (p :
 -- The same of one that lists the pairs of a dict.
 abbrev pub ListedOperationsAreWritten : Type 0
 ListedOperationsAreWritten = (l : Lowered) (known : Seen) (graphs : Graphs) (p : LlProgram) (arguments : List (List ℕ)) (numbers : Numbers) (o : Op) (asks : List Ask) (w : Writing)
-    → HasLayout p l.world.around.layout → IsInside l o w → ThrowsObjects (setting l known graphs p arguments) o
+    → HasLayout p l.world.around.layout → IsInside l o w → ThrowsObjects (setting l known graphs p arguments) l o
     → StandsSo (setting l known graphs p arguments) (of_lookups l.world p numbers known.exception) asks (before o w).found
     → lowered l.world o.op (place_of l o.result) (args_of l o) (before o w) ≡ lower_dict_op l.world.around o.op (place_of l o.result) (args_of l o) (before o w)
     → IsListedInPairs known l.world.around o.op o.covered asks (place_of l o.result) (args_of l o) (before o w)
@@ -150,7 +156,7 @@ ListedOperationsAreWritten = (l : Lowered) (known : Seen) (graphs : Graphs) (p :
 -- The same of one that gives a constant, where the strings and tuples among the statics that were asked for stay.
 abbrev pub GivenOperationsAreWritten : Type 0
 GivenOperationsAreWritten = (l : Lowered) (known : Seen) (graphs : Graphs) (p : LlProgram) (arguments : List (List ℕ)) (o : Op) (w : Writing)
-    → HasLayout p l.world.around.layout → o.args ≡ [] → o.result < length w.body.types → ThrowsObjects (setting l known graphs p arguments) o
+    → HasLayout p l.world.around.layout → o.args ≡ [] → o.result < length w.body.types → ThrowsObjects (setting l known graphs p arguments) l o
     → AreKept p l.world.around.layout known (lower_op l.world.around o.op (place_of l o.result) [] (before o w)).found
     → lowered l.world o.op (place_of l o.result) [] (before o w) ≡ lower_op l.world.around o.op (place_of l o.result) [] (before o w)
     → IsGiven known l.world.around o.op o.covered (place_of l o.result) (before o w)
@@ -159,7 +165,7 @@ GivenOperationsAreWritten = (l : Lowered) (known : Seen) (graphs : Graphs) (p : 
 -- The same of an operation that may call a function.
 abbrev pub EnteredOperationsAreWritten : Type 0
 EnteredOperationsAreWritten = (l : Lowered) (known : Seen) (graphs : Graphs) (p : LlProgram) (arguments : List (List ℕ)) (numbers : Numbers) (blocks : ℕ) (o : Op) (asks : List Ask) (w : Writing)
-    → HasLayout p l.world.around.layout → IsInside l o w → ThrowsObjects (setting l known graphs p arguments) o
+    → HasLayout p l.world.around.layout → IsInside l o w → HasParameters (setting l known graphs p arguments) → ThrowsObjects (setting l known graphs p arguments) l o
     → StandsSo (setting l known graphs p arguments) (classes.Has l.world p numbers known.exception) asks (before o w).found
     → lowered l.world o.op (place_of l o.result) (args_of l o) (before o w) ≡ lower_class_op l.world o.op (place_of l o.result) (args_of l o) (before o w)
     → IsEntered blocks l.world known o.op o.covered asks (place_of l o.result) (args_of l o) (before o w)
@@ -168,7 +174,7 @@ EnteredOperationsAreWritten = (l : Lowered) (known : Seen) (graphs : Graphs) (p 
 -- The same of a method of which but one function can be meant.
 abbrev pub MethodsAreWritten : Type 0
 MethodsAreWritten = (name : List ℕ) (f : ℕ) (l : Lowered) (known : Seen) (graphs : Graphs) (p : LlProgram) (arguments : List (List ℕ)) (numbers : Numbers) (blocks : ℕ) (o : Op) (asks : List Ask) (w : Writing)
-    → HasLayout p l.world.around.layout → IsInside l o w → ThrowsObjects (setting l known graphs p arguments) o → AreAlways (setting l known graphs p arguments) l o (HasMethod known name f)
+    → HasLayout p l.world.around.layout → IsInside l o w → HasParameters (setting l known graphs p arguments) → ThrowsObjects (setting l known graphs p arguments) l o → AreAlways (setting l known graphs p arguments) l o (HasMethod known name f)
     → StandsSo (setting l known graphs p arguments) (classes.Has l.world p numbers known.exception) asks (before o w).found
     → lowered l.world o.op (place_of l o.result) (args_of l o) (before o w) ≡ lower_class_op l.world o.op (place_of l o.result) (args_of l o) (before o w)
     → IsEnteredWhere (λ p. HasMethod known name f) blocks l.world known o.op o.covered asks (place_of l o.result) (args_of l o) (before o w)
@@ -177,7 +183,7 @@ MethodsAreWritten = (name : List ℕ) (f : ℕ) (l : Lowered) (known : Seen) (gr
 -- And of one that is looked up in the vtable of the instance.
 abbrev pub MethodsAreWrittenByVtables : Type 0
 MethodsAreWrittenByVtables = (name : List ℕ) (like slot : ℕ) (a : Operand) (args : List Operand) (place : Place) (l : Lowered) (known : Seen) (graphs : Graphs) (p : LlProgram) (arguments : List (List ℕ)) (numbers : Numbers) (blocks : ℕ) (o : Op) (asks : List Ask) (w : Writing)
-    → HasLayout p l.world.around.layout → IsInside l o w → ThrowsObjects (setting l known graphs p arguments) o → AreAlways (setting l known graphs p arguments) l o (HasMethods l.world known name like slot a args place p)
+    → HasLayout p l.world.around.layout → IsInside l o w → HasParameters (setting l known graphs p arguments) → ThrowsObjects (setting l known graphs p arguments) l o → AreAlways (setting l known graphs p arguments) l o (HasMethods l.world known name like slot a args place p)
     → StandsSo (setting l known graphs p arguments) (classes.Has l.world p numbers known.exception) asks (before o w).found
     → lowered l.world o.op (place_of l o.result) (args_of l o) (before o w) ≡ lower_class_op l.world o.op (place_of l o.result) (args_of l o) (before o w)
     → IsEnteredWhere (HasMethods l.world known name like slot a args place) blocks l.world known o.op o.covered asks (place_of l o.result) (args_of l o) (before o w)

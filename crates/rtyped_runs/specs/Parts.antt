@@ -1,5 +1,5 @@
 -- When the parts of a program that is lowered are done: its operations, and what its exits pass on, give back, raise and ask.
-use Rattle.std.specs.Prelude.{◌≡◌, ◌≤◌, ℕ, true, false, List, [], ◌∷◌, ◌++◌, length, slice_get, Some, None}
+use Rattle.std.specs.Prelude.{◌≡◌, ◌≤◌, ◌⊎◌, ℕ, true, false, List, [], ◌∷◌, ◌++◌, length, slice_get, Some, None}
 use Rattle.ann_element.specs.declared.element.Element.{Element}
 use Rattle.ann_element.specs.declared.element.Element.TheVariants as element
 use Rattle.ll_code.specs.declared.program.LlType.{LlType}
@@ -12,17 +12,16 @@ use Rattle.flow_graph.specs.declared.graph.Block.{Block}
 use Rattle.flow_graph.specs.declared.graph.Exit.{Exit}
 use Rattle.flow_graph.specs.declared.graph.Exit.TheVariants as exit
 use Rattle.flow_graph.specs.declared.graph.Op.{Op}
-use Rattle.rtyper_op.specs.Texts.{truth_of}
 use Rattle.rtyper_data.specs.declared.found.Found.{Found}
 use Rattle.rtyper_data.specs.Seen.{Writing}
 use Rattle.rtyper_program.specs.Blocks.{op_of, raise_as}
 use Rattle.rtyper_program.specs.Graphs.{variables}
-use Rattle.rtyper_program.specs.Links.{branch, give_back, goto, link_of}
+use Rattle.rtyper_program.specs.Links.{branch, give_back, goto, link_of, truth_test}
 use Rattle.rtyper_program.specs.Raises.{exit_catches}
 use Rattle.rtyper_program.specs.Seen.{Lowered, operand_of, type_at, element_at}
 use Rattle.growth_laws.specs.Growing.{Grows}
-use Rattle.run_laws.specs.Points.{Setting}
-use Rattle.block_laws.specs.Operations.{HasTypes, IsOperation, IsUncaught}
+use Rattle.run_laws.specs.Points.{Setting, is_conflict}
+use Rattle.block_laws.specs.Operations.{AreRead, HasTypes, IsOperation, IsUncaught, NeverGives}
 use Rattle.block_laws.specs.Links.{IsLink}
 use Rattle.block_laws.specs.Exits.{AreExceptions, AreWays, IsGiven, IsTested}
 
@@ -36,9 +35,10 @@ pub record OpIsWritten (s : Setting) (l : Lowered) (o : Op) (w : Writing) : Type
   pub types : (op_of l o w).body.types ≡ w.body.types ++ new
   pub is : IsOperation s l.number o (length w.body.types) (length new) ops
 
--- its result goes to a variable that is new, and what it throws leaves the graph
+-- its operands are in no conflict, or one never has a value; its result goes to a variable that is new, and what it throws leaves the graph
 pub record OpIsDone (s : Setting) (l : Lowered) (names : List ℕ) (o : Op) (behind : List Op) (e : Exit) (w : Writing) : Type 0 where
   pub does : OpIsWritten s l o w
+  pub are_read : AreRead s l.number o.args
   pub fresh : among o.result names ≡ false
   pub uncaught : IsUncaught s l.number names behind e
 
@@ -66,8 +66,8 @@ exit_plain l (exit.Raise v) w = (raise_as v (type_at l v), w)
 -- what an exit passes on, gives back, raises and asks is done
 abbrev pub ExitIsDone : Setting → Numbers → Lowered → List ℕ → Exit → Writing → Type 0
 ExitIsDone s numbers l names (exit.Goto link) w = IsLink s numbers l names link w
-ExitIsDone s numbers l names (exit.If v there elsewhere) w = IsTested s l v w (truth_of l.world.around (operand_of l v) w).0 (truth_of l.world.around (operand_of l v) w).1
-    × AreWays s numbers l names v there elsewhere (truth_of l.world.around (operand_of l v) w).0 (truth_of l.world.around (operand_of l v) w).1
+ExitIsDone s numbers l names (exit.If v there elsewhere) w = (is_conflict (s.element l.number v) ≡ false) × IsTested s l v w (truth_test l.world.around (operand_of l v) w).0 (truth_test l.world.around (operand_of l v) w).1
+    × AreWays s numbers l names v there elsewhere (truth_test l.world.around (operand_of l v) w).0 (truth_test l.world.around (operand_of l v) w).1
 ExitIsDone s numbers l names (exit.OnRaise v hands by without) w = IsLink s numbers l names without w
 ExitIsDone s numbers l names (exit.Return v) w = IsGiven s numbers l v w
 ExitIsDone s numbers l names (exit.Raise v) w = IsThrown s l v
@@ -82,11 +82,16 @@ abbrev pub names_behind : List ℕ → List Op → List ℕ
 names_behind names [] = names
 names_behind names (o ∷ ops) = names_behind (names ++ o.result ∷ []) ops
 
--- of a block that catches nothing
+-- one of the operations never gives a value
+abbrev pub StopsAt : Setting → ℕ → List Op → Type 0
+StopsAt s f [] = ⊥
+StopsAt s f (o ∷ ops) = NeverGives s f o ⊎ StopsAt s f ops
+
+-- Of a block that catches nothing: behind an operation that never gives a value nothing is asked of the exit.
 pub record BlockIsDone (s : Setting) (numbers : Numbers) (l : Lowered) (first last : Found) (b : Block) : Type 0 where
   pub ops : OpsAreDone s l first last b.inputs b.ops b.exit
   pub catches : exit_catches l.graph b.exit ≡ false
-  pub exit : ExitsAreDone s numbers l first last (names_behind b.inputs b.ops) b.exit
+  pub exit : StopsAt s l.number b.ops ⊎ ExitsAreDone s numbers l first last (names_behind b.inputs b.ops) b.exit
 
 -- The first block has the parameters in the first variables, each known as its parameter is; of the other locals nothing is known.
 pub record TakesParameters (l : Lowered) (params : List Element) (b : Block) : Type 0 where

@@ -19,11 +19,10 @@ use Rattle.rpy_meaning.specs.Meaning.{Run}
 use Rattle.program_asks.specs.Standing.{first_in, last_in, numbers_in, world_in}
 use Rattle.rtyped_laws.specs.Programs.{layout_for}
 use Rattle.flow_runs.specs.Runs.{AreGood}
-use Rattle.run_laws.specs.Points.{Setting, is_keyed}
+use Rattle.run_laws.specs.Points.{Setting, is_keyed, truth_known}
 use Rattle.run_laws.specs.States.{IsLowered, Stands}
 use Rattle.run_laws.specs.Runs.{EndsIf}
 use Rattle.block_laws.specs.Links.{types_in, graph_in}
-use Rattle.block_laws.specs.Operations.{HasParameters}
 use Rattle.rtyped_runs.specs.Parts.{GraphIsDone}
 
 -- in which the graphs of a program are lowered
@@ -49,7 +48,6 @@ pub record KnowsGraphs (known : Known) (world : World) (seen : Seen) : Type 0 wh
 pub record IsDone (known : Known) (world : World) (seen : Seen) (numbers : Numbers) (first last : Found) (graphs : Graphs) (p : LlProgram) (arguments : List (List ℕ)) : Type 0 where
   pub same : graphs.graphs ≡ known.graphs
   pub knows : KnowsGraphs known world seen
-  pub parameters : HasParameters (setting_of known world seen graphs p arguments)
   pub parts : (n : ℕ) (graph : Graph) → slice_get known.graphs n ≡ Some graph → is_reached known.annotation graph.function ≡ true
       → GraphIsDone (setting_of known world seen graphs p arguments) numbers (lowered_graph known world n graph) first last
 
@@ -67,6 +65,6 @@ ProgramsRunOn = (known : Known) (classes : Tables) (p : LlProgram) (r : IsLaid k
     → length p.graphs < 2 ^ 64 → length (layout_for known classes).structs < 2 ^ 64
     → IsDone known (world_in known classes (layout_for known classes) p r) seen (numbers_in known classes (layout_for known classes) p r) (first_in known classes (layout_for known classes) p r) (last_in known classes (layout_for known classes) p r) graphs p arguments
     → (g : Ghost) (state : State) (from : low.State) → Stands (setting_of known (world_in known classes (layout_for known classes) p r) seen graphs p arguments) g state from
-    → AreGood seen.program graphs (setting_of known (world_in known classes (layout_for known classes) p r) seen graphs p arguments).made (is_keyed (setting_of known (world_in known classes (layout_for known classes) p r) seen graphs p arguments)) state
+    → AreGood seen.program graphs (setting_of known (world_in known classes (layout_for known classes) p r) seen graphs p arguments).made (is_keyed (setting_of known (world_in known classes (layout_for known classes) p r) seen graphs p arguments)) (truth_known (setting_of known (world_in known classes (layout_for known classes) p r) seen graphs p arguments)) state
     → (k : ℕ) (end : Run) → run seen.program graphs k state ≡ Ended end
     → EndsIf (setting_of known (world_in known classes (layout_for known classes) p r) seen graphs p arguments) end.outcome (world_of state) end.world from

@@ -1,5 +1,5 @@
 -- The small graphs that ask nothing of classes.
-use Rattle.std.specs.Prelude.{ℕ, ◌+◌, Bool, true, false, if◌then◌else◌, List, [], ◌∷◌, slice_get, unwrap_or, Some, None, pos, codes}
+use Rattle.std.specs.Prelude.{ℕ, ◌+◌, Bool, true, false, if◌then◌else◌, List, [], ◌∷◌, length, take, slice_get, unwrap_or, Some, None, pos, codes}
 use Rattle.csub_tree.specs.declared.tree.CBinary.TheVariants as binary
 use Rattle.csub_tree.specs.declared.tree.CUnary.TheVariants as unary
 use Rattle.csub_tree.specs.declared.tree.COperand.{COperand}
@@ -74,6 +74,11 @@ present t raises found = of_block
 
 -- ---- casts
 
+-- Of the fields of the one struct those at whose places the other has one too. A tuple is only ever taken as one of as many items; what is written
+-- for others, which no run comes to, is well formed all the same.
+abbrev pub shared_fields : Layout → ℕ → ℕ → List LlType
+shared_fields layout m n = take (length (fields_at layout n)) (fields_at layout m)
+
 -- one item after another, as one of the other shape
 abbrev pub with_item : COperand × Writing → (Writing → List COperand × Writing) → List COperand × Writing
 with_item made rest = (made.0 ∷ (rest made.1).0, (rest made.1).1)
@@ -86,7 +91,7 @@ cast_from layout m to i [] w = ([], w)
 cast_from layout m to i (t ∷ ts) w = with_item (item_as layout t (field_at to i) w.found (field_of m 0 i t w.body)) (λ next. cast_from layout m to (i + 1) ts next)
 
 unfoldable pub cast_items : Layout → ℕ → ℕ → Writing → List COperand × Writing
-cast_items layout m n w = cast_from layout m (fields_at layout n) 0 (fields_at layout m) w
+cast_items layout m n w = cast_from layout m (fields_at layout n) 0 (shared_fields layout m n) w
 
 -- the first block asks whether there is a tuple: a local that is not bound yet has none
 abbrev pub cast_blocks : ℕ → List LlOp → List LlBlock
@@ -129,7 +134,7 @@ equal_from layout m n those i [] all = all
 equal_from layout m n those i (s ∷ ss) all = equal_from layout m n those (i + 1) ss (and_equal all.0 (items_equal layout n i (field_at those i) all.1.found s (field_of m 0 i s all.1.body)))
 
 unfoldable pub equal_items : Layout → ℕ → ℕ → Writing → COperand × Writing
-equal_items layout m n w = equal_from layout m n (fields_at layout n) 0 (fields_at layout m) (word (pos 1), w)
+equal_items layout m n w = equal_from layout m n (fields_at layout n) 0 (shared_fields layout m n) (word (pos 1), w)
 
 unfoldable pub equality_graph : COperand × Body → LlGraph
 equality_graph answer = graph_with (codes "tuple_equal") (0 ∷ 1 ∷ []) type.Bool answer.1.types (block_with (0 ∷ 1 ∷ []) answer.1.ops (exit.Return (Some answer.0)) ∷ [])

@@ -195,6 +195,14 @@ fn field_at(fields: &[LlType], i: usize) -> LlType
     }
 }
 
+// Of the fields of the one struct those at whose places the other has one too.
+fn shared_fields<'a>(layout: &'a Layout, m: u64, n: u64) -> &'a [LlType]
+    ensures { result.now ≡ spec.shared_fields layout.now m n }
+{
+    let fields = layout.fields(m);
+    &fields[..fields.len().min(layout.fields(n).len())]
+}
+
 // The items of the tuple that is variable 0, as those of the other shape.
 #[tactic(auto, unfolding(crate::specs::Graphs::cast_items))]
 fn cast_items(
@@ -207,7 +215,7 @@ fn cast_items(
 ) -> Result<Seq<COperand>, NoMem>
     ensures { IfOk result (λ items. Gives (spec.cast_items layout.now m n (writing found.old body.old)) items found.new body.new) }
 {
-    let from = layout.fields(m);
+    let from = shared_fields(layout, m, n);
     let to = layout.fields(n);
     let mut items = Seq::new(alloc);
     let mut i: usize = 0;
@@ -289,7 +297,7 @@ fn equal_items(
 ) -> Result<COperand, NoMem>
     ensures { IfOk result (λ all. Gives (spec.equal_items layout.now m n (writing found.old body.old)) all found.new body.new) }
 {
-    let these = layout.fields(m);
+    let these = shared_fields(layout, m, n);
     let those = layout.fields(n);
     let mut all = COperand::Const(CConst::Word(1));
     let mut i: usize = 0;

@@ -19,7 +19,7 @@ use Rattle.rtyper_layout.specs.Types.{word}
 use Rattle.rtyper_data.specs.declared.found.Found.{Found}
 use Rattle.rtyper_op.specs.declared.mapped.Entry.{Entry}
 use Rattle.rtyper_op.specs.Constants.{constant_of}
-use Rattle.rtyper_data.specs.Finding.{same_constant, same_type, static_of}
+use Rattle.rtyper_data.specs.Finding.{same_constant, same_type, placed}
 use Rattle.rtyper_data.specs.Seen.{Around}
 
 -- ---- hashes
@@ -172,9 +172,13 @@ index_cells entries = map word_cell (index_of entries)
 abbrev pub count_cell : ℕ → CCell
 count_cell count = word_cell (pos count)
 
+-- a static of one list or dict alone
+abbrev pub own_static : ℕ → List CCell → Found → CConst × Found
+own_static kind cells found = placed kind cells found None
+
 -- an array with its length
 unfoldable pub array_of : ℕ → List CCell → Found → CConst × Found
-array_of kind items found = static_of kind (count_cell (length items) ∷ cell.Braces items ∷ []) found
+array_of kind items found = own_static kind (count_cell (length items) ∷ cell.Braces items ∷ []) found
 
 abbrev pub first_cells : Mapping → List Entry → List CCell
 first_cells m entries = if keys_last m then value_cells entries else key_cells entries

@@ -15,8 +15,8 @@ use Rattle.rpy_tree.specs.declared.program.Site.{Site}
 use Rattle.rtyper_layout.specs.Types.{word, type_of}
 use Rattle.rtyper_data.specs.declared.found.Found.{Found}
 use Rattle.rtyper_op.specs.Constants.{constant_of, with_first}
-use Rattle.rtyper_data.specs.Finding.{static_of, prebuilt_at}
-use Rattle.rtyper_op.specs.Mapped.{count_cell, mapped, prebuilt_by}
+use Rattle.rtyper_data.specs.Finding.{prebuilt_at}
+use Rattle.rtyper_op.specs.Mapped.{count_cell, mapped, own_static, prebuilt_by}
 use Rattle.rtyper_data.specs.Seen.{Around}
 
 -- ---- what is made
@@ -72,7 +72,7 @@ module _ (around : Around) where
   list_of site list pairs items = prebuilt_by site list (count_cell (length pairs) ∷ cell.Const items.0 ∷ [], items.1)
 
   abbrev pub with_array : ℕ → ℕ → List (Const × Const) → List CCell × Found → Found
-  with_array site list pairs cells = list_of site list pairs (static_of (word (list + 1)) cells.0 cells.1)
+  with_array site list pairs cells = list_of site list pairs (own_static (word (list + 1)) cells.0 cells.1)
 
   -- two lists with the same items are two lists
   unfoldable pub listed : ℕ → ℕ → List (Const × Const) → Found → Found

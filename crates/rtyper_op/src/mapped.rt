@@ -10,7 +10,7 @@ use ll_code::LlType;
 use rpy_base::word::{shr, wrap_mul};
 use rpy_base::{NoMem, Seq};
 use rpy_tree::{Const, SiteId};
-use rtyper_data::{Around, Found, static_of};
+use rtyper_data::{Around, Found};
 use rtyper_layout::{Layout, Mapping};
 use std::alloc::Global;
 
@@ -338,7 +338,16 @@ fn array_of(alloc: Global, kind: u64, items: Seq<CCell>, found: &mut Found) -> R
     let mut cells = Seq::new(alloc);
     cells.push(length_of(items.len())?)?;
     cells.push(CCell::Braces(items))?;
-    static_of(kind, cells, found)
+    own_static(kind, cells, found)
+}
+
+// A static of one list or dict alone: no other has it, even where its cells are the same.
+pub fn own_static(kind: u64, cells: Seq<CCell>, found: &mut Found) -> Result<CConst, NoMem>
+    ensures { IfOk result (λ made. Asks (spec.own_static kind cells found.old) made found.new) }
+{
+    let place = found.statics.len() as u64;
+    found.statics.push(CStatic { kind, cells })?;
+    Ok(CConst::Static(kind, place))
 }
 
 #[tactic(auto, unfolding(crate::specs::Mapped::first_array))]

@@ -6,13 +6,13 @@ ghost use Rattle.rtyper_op.specs.Prebuilt as spec;
 ghost use Rattle.rtyper_data.specs.Seen.{the_around, Asks};
 
 use crate::constant::constant_of;
-use crate::mapped::push_mapped;
+use crate::mapped::{own_static, push_mapped};
 use ann_element::Element;
 use csub_tree::{CCell, CConst, CStatic};
 use ll_code::LlType;
 use rpy_base::{NoMem, Seq};
 use rpy_tree::{Const, SiteId};
-use rtyper_data::{Around, Found, static_of, static_of_site};
+use rtyper_data::{Around, Found, static_of_site};
 use rtyper_layout::repr;
 use std::alloc::Global;
 
@@ -109,7 +109,7 @@ fn push_list(
     let array = list.saturating_add(1);
     let item = item_type(around, array);
     let cells = array_cells(alloc, around, pairs, item, found)?;
-    let items = static_of(array, cells, found)?;
+    let items = own_static(array, cells, found)?;
     let mut cells = Seq::new(alloc);
     cells.push(CCell::Const(length_of(pairs)?))?;
     cells.push(CCell::Const(items))?;

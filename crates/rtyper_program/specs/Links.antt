@@ -1,5 +1,7 @@
 -- What links pass on, and the exits of a block that raise nothing.
-use Rattle.std.specs.Prelude.{ℕ, ◌+◌, ◌==◌, true, false, if◌then◌else◌, List, [], ◌∷◌, ◌++◌, slice_get, Option, Some, None}
+use Rattle.std.specs.Prelude.{ℕ, ◌+◌, ◌==◌, Bool, true, false, if◌then◌else◌, List, [], ◌∷◌, ◌++◌, slice_get, Option, Some, None}
+use Rattle.ann_element.specs.declared.element.Element.{Element}
+use Rattle.ann_element.specs.declared.element.Element.TheVariants as element
 use Rattle.csub_tree.specs.declared.tree.COperand.{COperand}
 use Rattle.csub_tree.specs.declared.tree.COperand.TheVariants.{Var, Const}
 use Rattle.ll_code.specs.declared.program.LlType.{LlType}
@@ -14,7 +16,7 @@ use Rattle.rtyper_data.specs.declared.body.Body.{Body}
 use Rattle.rtyper_data.specs.Building.{link_to}
 use Rattle.rtyper_data.specs.Converting.{default_operand, given, value_as}
 use Rattle.rtyper_data.specs.Finding.{same_type}
-use Rattle.rtyper_data.specs.Seen.{Writing, writing, with_op, fresh}
+use Rattle.rtyper_data.specs.Seen.{Around, Operand, Writing, writing, with_op, fresh}
 use Rattle.rtyper_op.specs.declared.text.Test.{Test}
 use Rattle.rtyper_op.specs.declared.text.Test.TheVariants.{Known, By}
 use Rattle.rtyper_op.specs.Texts.{truth_of}
@@ -90,12 +92,26 @@ by_test l there elsewhere (Known true) w = goto (link_of l None there w)
 by_test l there elsewhere (Known false) w = goto (link_of l None elsewhere w)
 by_test l there elsewhere (By x) w = by_flag l there elsewhere w (flag_of x w.body)
 
+-- a truth value that is known always
+abbrev pub known_truth : Option Element → Option Bool
+known_truth (Some element.KnownTrue) = Some true
+known_truth (Some element.KnownFalse) = Some false
+known_truth other = None
+
+abbrev pub known_test : Option Bool → Around → Operand → Writing → Test × Writing
+known_test (Some b) around a w = (Known b, w)
+known_test None around a w = truth_of around a w
+
+-- what is known always is not tested: the other way need not have what its block wants
+abbrev pub truth_test : Around → Operand → Writing → Test × Writing
+truth_test around a w = known_test (known_truth a.element) around a w
+
 abbrev pub by_truth : Lowered → Link → Link → Test × Writing → LlExit × Writing
 by_truth l there elsewhere test = by_test l there elsewhere test.0 test.1
 
 -- by the truth of a variable
 unfoldable pub branch : Lowered → ℕ → Link → Link → Writing → LlExit × Writing
-branch l v there elsewhere w = by_truth l there elsewhere (truth_of l.world.around (operand_of l v) w)
+branch l v there elsewhere w = by_truth l there elsewhere (truth_test l.world.around (operand_of l v) w)
 
 abbrev pub returned : COperand × Writing → LlExit × Writing
 returned x = (exit.Return (Some x.0), x.1)

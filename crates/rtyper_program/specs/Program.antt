@@ -162,11 +162,12 @@ pub record IsPassed (made : ℕ → LlProgram × Found) (program : LlProgram) (f
 
 -- ---- programs
 
--- what a pass wrote that asked for no helper that was not given, and for no small graph that it did not write
+-- what a pass wrote that asked for no helper that was not given, each with what of its failures it raises, and for no small graph that it did not write
 pub record IsSettled (known : Known) (classes : Tables) (layout : Layout) (program : LlProgram) : Type 0 where
   pub needs : List Need
   pub caught : List Covers
   pub count : ℕ
+  pub paired : length caught ≡ length needs
   pub written : program ≡ (pass known classes layout needs caught count).0
   pub no_helper_more : length (pass known classes layout needs caught count).1.needs ≡ length needs
   pub no_small_more : slice_get (pass known classes layout needs caught count).1.smalls count ≡ None

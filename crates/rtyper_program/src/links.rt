@@ -1,11 +1,13 @@
 // What links pass on, and the exits of a block that raise nothing.
 ghost use Rattle.std.specs.Prelude.{◌≡◌, [], IfOk, OnOk, slice_get};
-ghost use Rattle.rtyper_data.specs.Seen.{the_operand, the_place, writing, Gives, Writes};
+ghost use Rattle.std.specs.Option.{option_copied};
+ghost use Rattle.rtyper_data.specs.Seen.{the_around, the_operand, the_place, writing, Gives, Writes};
 ghost use Rattle.rtyper_program.specs.Links as spec;
 ghost use Rattle.rtyper_program.specs.Seen as seen;
 ghost use Rattle.rtyper_program.specs.Seen.{the_lowered};
 
 use crate::known::{Known, element_at, is_block_reached};
+use ann_element::Element;
 use csub_tree::COperand;
 use flow_graph::{Graph, Link, VarId};
 use ll_code::{LlExit, LlLink, LlOp, LlType};
@@ -227,6 +229,33 @@ fn by_test(
     }
 }
 
+// A truth value that is known always.
+fn known_truth(element: Option<&Element>) -> Option<bool>
+    ensures { result ≡ spec.known_truth (option_copied element.entry) }
+{
+    match element {
+        Some(Element::KnownTrue) => Some(true),
+        Some(Element::KnownFalse) => Some(false),
+        _ => None,
+    }
+}
+
+// What is known always is not tested: the other way need not have what its block wants.
+fn truth_test(
+    alloc: Global,
+    around: Around<'_>,
+    a: Operand<'_>,
+    found: &mut Found,
+    body: &mut Body,
+) -> Result<Test, NoMem>
+    ensures { IfOk result (λ t. Gives (spec.truth_test (the_around around.entry) (the_operand a.entry) (writing found.old body.old)) t found.new body.new) }
+{
+    match known_truth(a.element) {
+        Some(b) => Ok(Test::Known(b)),
+        None => truth_of(alloc, around, a, found, body),
+    }
+}
+
 /// By the truth of a variable.
 #[tactic(auto, unfolding(crate::specs::Links::branch))]
 pub fn branch(
@@ -241,7 +270,7 @@ pub fn branch(
     ensures { IfOk result (λ exit. Gives (spec.branch (the_lowered lowered.entry) v there.now elsewhere.now (writing found.old body.old)) exit found.new body.new) }
 {
     let operand = operand_of(lowered, v);
-    let test = truth_of(alloc, lowered.around, operand, found, body)?;
+    let test = truth_test(alloc, lowered.around, operand, found, body)?;
     by_test(alloc, lowered, there, elsewhere, test, found, body)
 }
 

@@ -341,6 +341,7 @@ fn settled(
     let mut asked = found_in(alloc, known, classes, layout)?;
     for _ in 0..usize::MAX {
         let given = asked.needs.len();
+        let is_paired = asked.caught.len() == given;
         let Passed { program, found, .. } = pass(
             alloc,
             known,
@@ -349,7 +350,7 @@ fn settled(
             asked.needs,
             asked.caught,
         )?;
-        if found.needs.len() == given {
+        if is_paired && found.needs.len() == given {
             return Ok(program);
         }
         asked = found;

@@ -39,7 +39,7 @@ use Rattle.object_laws.specs.Known.{Known}
 use Rattle.rpy_tree.specs.Value.{Heap}
 use Rattle.rtyper_layout.specs.declared.layout.Layout.{Layout}
 use Rattle.run_laws.specs.Points.{Stand}
-use Rattle.run_laws.specs.Points.{Setting, is_keyed, names_of, IsAt, Way, IsException}
+use Rattle.run_laws.specs.Points.{Setting, is_keyed, truth_known, names_of, IsAt, Way, IsException}
 use Rattle.run_laws.specs.Does.{Does, Over, Passed, Entered, Thrown, Handled, Left, Again, Begins, Leaves, Came, Follows, Jumps, Exits}
 use Rattle.run_laws.specs.States.{IsLowered, BeginsAs, OverIf, Wait, Entry, Call, Stands, Calls, Goes, Gives, Throws, Raises}
 use Rattle.run_laws.specs.Runs.{Ends, EndsIf}
@@ -70,6 +70,7 @@ fewer_steps less r = record {
   constants = r.constants;
   vtables = r.vtables;
   exceptions = r.exceptions;
+  sites = r.sites;
   lists = λ n i head h struct. list_kept grown_none i head (λ o k. k) (λ x u b k of is. is) n less (r.lists n i head h struct);
   instances = r.instances;
   dicts = r.dicts;
@@ -330,11 +331,11 @@ module _ (s : Setting) where
 
     -- ---- each step
 
-    pub steps_are_followed : (g : Ghost) (state : State) (from : low.State) → Stands s g state from → AreGood s.known.program s.graphs s.made (is_keyed s) state → Followed (world_of state) from (step s.known.program s.graphs state)
+    pub steps_are_followed : (g : Ghost) (state : State) (from : low.State) → Stands s g state from → AreGood s.known.program s.graphs s.made (is_keyed s) (truth_known s) state → Followed (world_of state) from (step s.known.program s.graphs state)
     steps_are_followed g state from (Calls f number params args instead calls w xs frames core is takes pass memory left waits) good =
         entering f number params args g xs frames core w calls instead is takes pass memory left waits (slice_get s.known.program.functions f) refl
-    steps_are_followed g state from (Goes f names [] e env instead calls w written ends frames core does at waits) good = leaves f names env w g frames calls instead waits (low.At written ends frames core) e (does frames core g env w at)
-    steps_are_followed g state from (Goes f names (o ∷ ops) e env instead calls w written ends frames core does at waits) good = operated f names env w g frames calls instead waits o ops e written ends core at does (λ vs. good f o ops e env instead calls w vs Here) (values_of env o.args) refl
+    steps_are_followed g state from (Goes f names [] e env instead calls w written ends frames core does at waits) good = leaves f names env w g frames calls instead waits (low.At written ends frames core) e (does frames core g env w at (good.tests f e env instead calls w Here))
+    steps_are_followed g state from (Goes f names (o ∷ ops) e env instead calls w written ends frames core does at waits) good = operated f names env w g frames calls instead waits o ops e written ends core at does (λ vs. good.operations f o ops e env instead calls w vs Here) (values_of env o.args) refl
     steps_are_followed g state from (Gives f v instead calls w x frames core holds memory left waits) good = gives_to g f v instead calls w x frames core holds memory left waits
     steps_are_followed g state from (Throws f r instead calls w x frames core is memory left waits) good = throws_to g f r instead calls w x frames core is memory left waits
     steps_are_followed g state from (Raises f v r env instead calls w x frames core has is memory left waits) good =

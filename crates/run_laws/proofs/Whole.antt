@@ -11,7 +11,7 @@ use Rattle.flow_meaning.specs.Roots.{roots}
 use Rattle.rpy_base.specs.declared.outcome.Outcome.TheVariants.{Running}
 use Rattle.flow_runs.specs.Runs.{AreGood, Then}
 use Rattle.object_laws.specs.Ghost.{Ghost}
-use Rattle.run_laws.specs.Points.{Setting, is_keyed, Way}
+use Rattle.run_laws.specs.Points.{Setting, is_keyed, truth_known, Way}
 use Rattle.run_laws.specs.States.{IsLowered, Stands}
 use Rattle.run_laws.specs.Runs.{Ends, EndsIf, RunsAreFollowed}
 use Rattle.run_laws.proofs.Steps.{Followed, steps_are_followed, way_then}
@@ -31,13 +31,16 @@ module _ (s : Setting) where
   behind_if before mid w (Some outcome) way out it = behind way out it
 
   module _ (lowered : IsLowered s) where
-    runs : (k : ℕ) (g : Ghost) (state : State) (from : low.State) → Stands s g state from → AreGood s.known.program s.graphs s.made (is_keyed s) state → (end : Run) → run s.known.program s.graphs k state ≡ HasEnded end → EndsIf s end.outcome (world_of state) end.world from
+    runs : (k : ℕ) (g : Ghost) (state : State) (from : low.State) → Stands s g state from → AreGood s.known.program s.graphs s.made (is_keyed s) (truth_known s) state → (end : Run) → run s.known.program s.graphs k state ≡ HasEnded end → EndsIf s end.outcome (world_of state) end.world from
     unfolding run
     runs zero g state from stands good end e = absurd (cc)
     runs (suc k) g state from stands good end e = by (λ h t there stood more last is. runs k h t there stood more last is) (step s.known.program s.graphs state) refl (steps_are_followed s lowered g state from stands good) e
       where
-        by : ((h : Ghost) (t : State) (there : low.State) → Stands s h t there → AreGood s.known.program s.graphs s.made (is_keyed s) t → (last : Run) → run s.known.program s.graphs k t ≡ HasEnded last → EndsIf s last.outcome (world_of t) last.world there) → (next : Next) → step s.known.program s.graphs state ≡ next → Followed s (world_of state) from next → follow (run s.known.program s.graphs k) state next ≡ HasEnded end → EndsIf s end.outcome (world_of state) end.world from
-        by go (Onto to) is moved h = behind_if (world_of state) (world_of to) end.world end.outcome moved.way moved.out (go moved.ghost to moved.state moved.stands (λ f o ops exit env instead frames w vs more. good f o ops exit env instead frames w vs (Then is more)) end h)
+        by : ((h : Ghost) (t : State) (there : low.State) → Stands s h t there → AreGood s.known.program s.graphs s.made (is_keyed s) (truth_known s) t → (last : Run) → run s.known.program s.graphs k t ≡ HasEnded last → EndsIf s last.outcome (world_of t) last.world there) → (next : Next) → step s.known.program s.graphs state ≡ next → Followed s (world_of state) from next → follow (run s.known.program s.graphs k) state next ≡ HasEnded end → EndsIf s end.outcome (world_of state) end.world from
+        by go (Onto to) is moved h = behind_if (world_of state) (world_of to) end.world end.outcome moved.way moved.out (go moved.ghost to moved.state moved.stands (record {
+          operations = λ f o ops exit env instead frames w vs more. good.operations f o ops exit env instead frames w vs (Then is more);
+          tests = λ f exit env instead frames w more. good.tests f exit env instead frames w (Then is more);
+        }) end h)
         by go (Ended outcome w) is it h = let same : end ≡ record { outcome = outcome; held = []; world = w } = cc in subst (λ (r : Run). EndsIf s r.outcome (world_of state) r.world from) (sym same) it
         by go (Stops w) is it h = let same : end ≡ record { outcome = Some Running; held = roots state; world = w } = cc in subst (λ (r : Run). EndsIf s r.outcome (world_of state) r.world from) (sym same) it
         by go Strays is it h = let same : end ≡ record { outcome = None; held = []; world = no_world } = cc in subst (λ (r : Run). EndsIf s r.outcome (world_of state) r.world from) (sym same) tt

@@ -20,12 +20,12 @@ use Rattle.flow_graph.specs.declared.graph.Exit.TheVariants as exit
 use Rattle.flow_graph.specs.declared.graph.Link.{Link}
 use Rattle.flow_graph.specs.declared.graph.Op.{Op}
 use Rattle.flow_meaning.specs.Machine as flow
-use Rattle.flow_runs.specs.Good.{IsGood}
+use Rattle.flow_runs.specs.Good.{IsGood, TestIsTold}
 use Rattle.flow_meaning.specs.Machine.{Bound, Goes, look, bind, passed, block_in, values_of, truth_of}
 use Rattle.object_laws.specs.Ghost.{Ghost, Grown}
 use Rattle.object_laws.specs.Represents.{Represents}
 use Rattle.object_laws.specs.Values.{Holds, AllHold}
-use Rattle.run_laws.specs.Points.{Setting, is_keyed, IsAt, Way, BlockAt, IsException}
+use Rattle.run_laws.specs.Points.{Setting, is_keyed, truth_known, IsAt, Way, BlockAt, IsException}
 
 module _ (s : Setting) where
   -- ---- what comes next
@@ -161,8 +161,9 @@ module _ (s : Setting) where
   -- ---- what is left of a block
 
   -- These low-level operations and this exit do what these operations and this exit of a flow graph do, behind those that have set these variables,
-  -- over all memory that represents the heap, whatever waits, where each operation is as the laws of operations ask.
+  -- over all memory that represents the heap, whatever waits, where each operation is as the laws of operations ask, and the test tells what is known of
+  -- it.
   abbrev pub Does : ℕ → List ℕ → List Op → Exit → List LlOp → LlExit → Type 0
-  Does f names [] e low exit = (frames : List Frame) (core : Core) (g : Ghost) (env : List Bound) (w : World) → IsAt s g f names env w core → Exits f e env w g frames (At low exit frames core)
+  Does f names [] e low exit = (frames : List Frame) (core : Core) (g : Ghost) (env : List Bound) (w : World) → IsAt s g f names env w core → TestIsTold (truth_known s f) e env w → Exits f e env w g frames (At low exit frames core)
   Does f names (o ∷ ops) e low exit = (frames : List Frame) (core : Core) (g : Ghost) (env : List Bound) (w : World) (vs : List Meant) → IsAt s g f names env w core → values_of env o.args ≡ Some vs → IsGood s.known.program s.made (is_keyed s f o) o.op w vs
       → Follows (Does f (names ++ o.result ∷ []) ops e) f names env o ops e w g frames (At low exit frames core) (op s.known.program o.covered o.op vs w)

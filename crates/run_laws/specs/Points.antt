@@ -1,6 +1,7 @@
 -- What is known of flow graphs and of the low-level program that is made of them, and how the variables of the one stand in the other.
 use Rattle.std.specs.Prelude.{◌≡◌, ◌≢◌, ℕ, Bool, true, false, List, [], ◌∷◌, length, map, slice_get, Option, Some, None}
 use Rattle.ann_element.specs.declared.element.Element.{Element}
+use Rattle.ann_element.specs.declared.element.Element.TheVariants as element
 use Rattle.csub_tree.specs.State.{Value, Core}
 use Rattle.csub_tree.specs.Statement.{read}
 use Rattle.ll_code.specs.State.{State}
@@ -21,6 +22,7 @@ use Rattle.rtyper_layout.specs.Kinds.{kind_seen}
 use Rattle.flow_meaning.specs.Machine.{Bound, look, block_in}
 use Rattle.rtyper_data.specs.Seen.{Around}
 use Rattle.rtyper_layout.specs.Types.{type_seen}
+use Rattle.rtyper_program.specs.Links.{known_truth}
 use Rattle.object_laws.specs.Ghost.{Ghost, InstanceOf}
 use Rattle.object_laws.specs.Known.{Known}
 use Rattle.object_laws.specs.Represents.{Represents}
@@ -47,6 +49,15 @@ pub record Setting : Type 0 where
 abbrev pub names_of : List Bound → List ℕ
 names_of env = map (λ (b : Bound). b.variable) env
 
+-- what is known is a conflict
+abbrev pub of_conflict : Element → Bool
+of_conflict (element.Conflict lists dicts) = true
+of_conflict other = false
+
+abbrev pub is_conflict : Option Element → Bool
+is_conflict None = false
+is_conflict (Some e) = of_conflict e
+
 -- ---- operations on dicts
 
 -- the operand in the place of a list or dict
@@ -65,10 +76,15 @@ module _ (s : Setting) where
   abbrev pub is_keyed : ℕ → Op → Bool
   is_keyed f o = is_dict_at f (container_of o.op o.args)
 
+  -- the truth of a variable, where it is always the same
+  abbrev pub truth_known : ℕ → ℕ → Option Bool
+  truth_known f v = known_truth (s.element f v)
+
 module _ (s : Setting) where
-  -- a variable that is bound has what stands for its value, by what is known of it, and one that is not bound has what stands for nothing
+  -- A variable that is bound has what stands for its value, by what is known of it, and one that is not bound has what stands for nothing. Of one in
+  -- conflict, which nothing reads, nothing is asked.
   pub record Stand (g : Ghost) (f : ℕ) (env : List Bound) (vars : List Value) : Type 0 where
-    pub bound : (v : ℕ) (x : Meant) → look env v ≡ Some x → Holds s.around.layout s.known g (s.element f v) (read vars v) x
+    pub bound : (v : ℕ) (x : Meant) → look env v ≡ Some x → is_conflict (s.element f v) ≡ false → Holds s.around.layout s.known g (s.element f v) (read vars v) x
     pub blank : (v : ℕ) → among v (names_of env) ≡ true → look env v ≡ None → Blank g (type_seen s.around.layout (s.element f v)) (read vars v)
 
   -- a run stands in the graph of a function, in a block of which these variables have been set so, and memory represents the heap

@@ -8,7 +8,7 @@ use Rattle.flow_meaning.specs.Machine.{State, world_of}
 use Rattle.flow_meaning.specs.Meaning.{Ended, run}
 use Rattle.flow_runs.specs.Runs.{AreGood}
 use Rattle.object_laws.specs.Ghost.{Ghost}
-use Rattle.run_laws.specs.Points.{Setting, is_keyed, Way}
+use Rattle.run_laws.specs.Points.{Setting, is_keyed, truth_known, Way}
 use Rattle.run_laws.specs.Does.{Over}
 use Rattle.run_laws.specs.States.{IsLowered, Stands}
 
@@ -27,5 +27,5 @@ EndsIf s (Some outcome) before w from = Ends s outcome before w from
 -- Of a program each block of which does what that of its flow graph does: where the flow graphs end from a state on, the low-level program ends
 -- so from where it stands, if each operation that it comes to is as the laws of operations ask.
 abbrev pub RunsAreFollowed : Type 0
-RunsAreFollowed = (s : Setting) → IsLowered s → (g : Ghost) (state : State) (from : low.State) → Stands s g state from → AreGood s.known.program s.graphs s.made (is_keyed s) state
+RunsAreFollowed = (s : Setting) → IsLowered s → (g : Ghost) (state : State) (from : low.State) → Stands s g state from → AreGood s.known.program s.graphs s.made (is_keyed s) (truth_known s) state
     → (k : ℕ) (end : Run) → run s.known.program s.graphs k state ≡ Ended end → EndsIf s end.outcome (world_of state) end.world from

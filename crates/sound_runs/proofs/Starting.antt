@@ -11,6 +11,7 @@ use Rattle.rpy_meaning.specs.Operations.{builtin_classes, object_of, constant}
 use Rattle.rpy_meaning.specs.Meaning.{exceptions_from, prebuilt}
 use Rattle.flow_graph.specs.declared.graph.Graphs.{Graphs}
 use Rattle.flow_meaning.specs.Meaning.{start}
+use Rattle.flow_runs.specs.Good.{HasWholeKeys}
 use Rattle.ann_element.specs.Sites.{leader}
 use Rattle.ann_lattice.specs.Shape.{Shape, Any, Str, Lst}
 use Rattle.ann_lattice.specs.Kind.{misfit, given}
@@ -192,37 +193,40 @@ module _ (p : Whole) (a : Assignment) (q : Program) (gs : Graphs) (settled : IsS
   contents_are s false pairs h m = items_are s false pairs h m
   contents_are s true pairs h m = pairs_are s pairs h m
 
-  unread : (s : ℕ) (object : Object) → ObjectIs p a all_sorts (sort_by false s object) object
+  unread : (s : ℕ) (dict : Bool) (pairs : List (Const × Const)) → HasWholeKeys (Some (begin.contents q.sites dict pairs))
+      → ObjectIs p a all_sorts (sort_by false s (begin.contents q.sites dict pairs)) (begin.contents q.sites dict pairs)
   unfolding sort_by
-  unread s object = tt
+  unread s false pairs h = tt
+  unread s true pairs h = h
 
-  object_by : (b : Bool) (s : ℕ) (dict : Bool) (pairs : List (Const × Const)) → AllThere q.sites pairs → Met (when b (from_each (pair_needs p a s dict) pairs))
+  object_by : (b : Bool) (s : ℕ) (dict : Bool) (pairs : List (Const × Const)) → HasWholeKeys (Some (begin.contents q.sites dict pairs)) → AllThere q.sites pairs → Met (when b (from_each (pair_needs p a s dict) pairs))
       → ObjectIs p a all_sorts (sort_by b s (begin.contents q.sites dict pairs)) (begin.contents q.sites dict pairs)
-  object_by true s dict pairs h m = contents_are s dict pairs h m
-  object_by false s dict pairs h m = unread s (begin.contents q.sites dict pairs)
+  object_by true s dict pairs keys h m = contents_are s dict pairs h m
+  object_by false s dict pairs keys h m = unread s dict pairs keys
 
-  object_is : (s : ℕ) (site : Site) → slice_get p.sites s ≡ Some site → (pairs : List (Const × Const)) → site.prebuilt ≡ Some pairs → ContentsThere q.sites site.prebuilt
-      → ObjectIs p a all_sorts (sort_by (mark a (p.places.loaded s)) s (begin.contents q.sites site.dict pairs)) (begin.contents q.sites site.dict pairs)
-  object_is s site e pairs f h =
+  object_is : (s : ℕ) (site : Site) → slice_get p.sites s ≡ Some site → (pairs : List (Const × Const)) → site.prebuilt ≡ Some pairs → HasWholeKeys (Some (begin.contents q.sites site.dict pairs))
+      → ContentsThere q.sites site.prebuilt → ObjectIs p a all_sorts (sort_by (mark a (p.places.loaded s)) s (begin.contents q.sites site.dict pairs)) (begin.contents q.sites site.dict pairs)
+  object_is s site e pairs f whole h =
       let m = site_met p a settled.met s site e in
       let keys = tie p a (p.places.key s) (p.places.key (leader a.same s)) in
       let ms = split (tie p a (p.places.item s) (p.places.item (leader a.same s))) (keys ++ when (mark a (p.places.loaded s)) (contents p a s site.dict site.prebuilt)) m in
       let ns = (split keys (when (mark a (p.places.loaded s)) (contents p a s site.dict site.prebuilt)) ms.1).1 in
-      object_by (mark a (p.places.loaded s)) s site.dict pairs (subst (λ o. ContentsThere q.sites o) f h) (subst (λ o. Met (when (mark a (p.places.loaded s)) (contents p a s site.dict o))) f ns)
+      object_by (mark a (p.places.loaded s)) s site.dict pairs whole (subst (λ o. ContentsThere q.sites o) f h) (subst (λ o. Met (when (mark a (p.places.loaded s)) (contents p a s site.dict o))) f ns)
 
   -- an object of a site, where it has one
   SiteIs : ℕ → Option Object → Type 0
   SiteIs s None = Unit {0}
   SiteIs s (Some object) = ObjectIs p a all_sorts (sort_by (mark a (p.places.loaded s)) s object) object
 
-  made_by : (s : ℕ) (site : Site) → slice_get p.sites s ≡ Some site → (o : Option (List (Const × Const))) → site.prebuilt ≡ o → ContentsThere q.sites site.prebuilt → SiteIs s (option_map (begin.contents q.sites site.dict) o)
+  made_by : (s : ℕ) (site : Site) → slice_get p.sites s ≡ Some site → (o : Option (List (Const × Const))) → site.prebuilt ≡ o → HasWholeKeys (option_map (begin.contents q.sites site.dict) o)
+      → ContentsThere q.sites site.prebuilt → SiteIs s (option_map (begin.contents q.sites site.dict) o)
   unfolding SiteIs
-  made_by s site e None f h = tt
-  made_by s site e (Some pairs) f h = object_is s site e pairs f h
+  made_by s site e None f whole h = tt
+  made_by s site e (Some pairs) f whole h = object_is s site e pairs f whole h
 
-  site_is : (s : ℕ) (o : Option Site) → slice_get p.sites s ≡ o → (object : Option Object) → SiteAt q.sites o (Some object) → SiteIs s object
-  site_is s None e object h = absurd h
-  site_is s (Some site) e object h = subst (λ o. SiteIs s o) (sym h.0) (made_by s site e site.prebuilt refl h.1)
+  site_is : (s : ℕ) (o : Option Site) → slice_get p.sites s ≡ o → (object : Option Object) → HasWholeKeys object → SiteAt q.sites o (Some object) → SiteIs s object
+  site_is s None e object whole h = absurd h
+  site_is s (Some site) e object whole h = subst (λ o. SiteIs s o) (sym h.0) (made_by s site e site.prebuilt refl (subst HasWholeKeys h.0 whole) h.1)
 
   sites_from : (s : ℕ) (sites : List (Option Object)) (rest : List Sort) (heap : Heap) → ((k : ℕ) (o : Option Object) → slice_get sites k ≡ Some o → SiteIs (k + s) o) → ObjectsAre p a all_sorts rest heap
       → ObjectsAre p a all_sorts (site_sorts s sites ++ rest) (filter_map (λ object. object) sites ++ heap)
@@ -252,7 +256,7 @@ module _ (p : Whole) (a : Assignment) (q : Program) (gs : Graphs) (settled : IsS
     objects =
         subst (λ heap. ObjectsAre p a all_sorts all_sorts heap) (sym (append_assoc (exceptions_from 0 builtin_classes) (filter_map (λ object. object) q.sites) (Listed (map Text args) ∷ [])))
         (instances_are 0 builtin_classes (site_sorts 0 q.sites ++ ListOf 0 ∷ []) (filter_map (λ object. object) q.sites ++ Listed (map Text args) ∷ []) refl
-        (sites_from 0 q.sites (ListOf 0 ∷ []) (Listed (map Text args) ∷ []) (λ k o e. let f : k + 0 ≡ k = omega arith in subst (λ x. SiteIs x o) (sym f) (site_is k (slice_get p.sites k) refl o (subst (λ r. SiteAt q.sites (slice_get p.sites k) r) e (begins.sites k))))
+        (sites_from 0 q.sites (ListOf 0 ∷ []) (Listed (map Text args) ∷ []) (λ k o e. let f : k + 0 ≡ k = omega arith in subst (λ x. SiteIs x o) (sym f) (site_is k (slice_get p.sites k) refl o (begins.keys k o e) (subst (λ r. SiteAt q.sites (slice_get p.sites k) r) e (begins.sites k))))
         (arguments_are args (entry p a settled.met).0.0, tt)));
     builtin = λ class lt. before (instances_from 0 builtin_classes) (site_sorts 0 q.sites ++ ListOf 0 ∷ []) class (InstanceOf class) (let f : 0 + class ≡ class = omega arith in instance_at 0 builtin_classes class lt ∙ ap (λ x. Some (InstanceOf x)) f);
     prebuilt = prebuilt_is;

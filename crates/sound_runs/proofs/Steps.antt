@@ -268,7 +268,7 @@ module _ (p : Whole) (a : Assignment) (q : Program) (gs : Graphs) (settled : IsS
   all_clear [] z h f = refl
   all_clear (e ∷ es) z h f = clear_by e (is_clash e) (some_clash es) refl (λ i. above_clash p.tables.classes a.same e z h.0 i f) (all_clear es z h.1 f)
 
-  fits_of : (sorts : List Sort) (g : ℕ) (o : Op) (vs : List Value) (world : World) → IsTyped p a q.sites sorts world.heap → AreOf p a sorts (map (value p a g) o.args) vs → is_clash (value p a g o.result) ≡ false
+  pub fits_of : (sorts : List Sort) (g : ℕ) (o : Op) (vs : List Value) (world : World) → IsTyped p a q.sites sorts world.heap → AreOf p a sorts (map (value p a g) o.args) vs → is_clash (value p a g o.result) ≡ false
       → Met (op_needs p a g o) → Fits p a g o.op o.node (map (value p a g) o.args) (value p a g o.result)
   fits_of sorts g o vs world typed are free m =
       let xs = map (value p a g) o.args in

@@ -7,6 +7,7 @@ use Rattle.rpy_meaning.specs.Tree.{Program}
 use Rattle.rpy_meaning.specs.Operations.{constant}
 use Rattle.flow_graph.specs.declared.graph.Graphs.{Graphs}
 use Rattle.flow_meaning.specs.Meaning.{run, start}
+use Rattle.flow_runs.specs.Good.{HasWholeKeys}
 use Rattle.ann_lattice.specs.Assign.{Assignment}
 use Rattle.ann_rules.specs.Program.{Whole}
 use Rattle.ann_rules.specs.Asks.{defaults}
@@ -35,9 +36,10 @@ SiteAt sites (Some site) (Some o) = (o ≡ option_map (contents sites site.dict)
 SiteAt sites None (Some o) = ⊥
 SiteAt sites (Some site) None = ⊥
 
--- the sites are those of the program, and the entry point takes one argument
+-- the sites are those of the program, the keys of the dicts of modules have no part that is `None`, and the entry point takes one argument
 pub record Begins (p : Whole) (q : Program) : Type 0 where
   pub sites : (s : ℕ) → SiteAt q.sites (slice_get p.sites s) (slice_get q.sites s)
+  pub keys : (s : ℕ) (object : Option Object) → slice_get q.sites s ≡ Some object → HasWholeKeys object
   pub takes : length (defaults p p.entry) ≡ 1
 
 -- the first state of a run is sound

@@ -70,7 +70,7 @@ module _ (p : Whole) (a : Assignment) (sorts later : List Sort) (keeps : Keeps s
   object_grows (ListOf s) (Listed vs) h = all_grow (items_of p a s) vs h
   object_grows (DictOf s) (Mapped pairs) h = pairs_grow (keys_of p a s) (items_of p a s) pairs h
   object_grows (InstanceOf c) (Instance d attributes) h = (h.0, (h.1.0, held_grow c attributes h.1.1))
-  object_grows Unread object h = tt
+  object_grows Unread object h = h
   object_grows (ListOf s) (Mapped pairs) h = h
   object_grows (ListOf s) (Instance d attributes) h = h
   object_grows (DictOf s) (Listed vs) h = h

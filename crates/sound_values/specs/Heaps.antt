@@ -3,12 +3,19 @@ use Rattle.std.specs.Prelude.{◌≡◌, ◌<◌, ℕ, true, List, [], ◌∷◌
 use Rattle.rpy_tree.specs.Value.{Value, Object, Listed, Mapped, Instance, Heap}
 use Rattle.rpy_meaning.specs.Classes.{named}
 use Rattle.rpy_meaning.specs.Operations.{builtin_classes, object_of}
+use Rattle.flow_runs.specs.Good.{KeysAreWhole}
 use Rattle.class_desc.specs.Tables.{home}
 use Rattle.ann_lattice.specs.Shape.{Shape}
 use Rattle.ann_lattice.specs.Assign.{Assignment, at, mark}
 use Rattle.ann_rules.specs.Program.{Whole}
 use Rattle.ann_rules.specs.Asks.{items_of, keys_of}
 use Rattle.sound_values.specs.Values.{Sort, ListOf, DictOf, InstanceOf, Unread, Is, Are}
+
+-- what nothing reads is a list, or a dict whose keys have no part that is `None`
+abbrev pub IsUnread : Object → Type 0
+IsUnread (Listed vs) = Unit {0}
+IsUnread (Mapped pairs) = KeysAreWhole pairs
+IsUnread (Instance class attributes) = ⊥
 
 module _ (p : Whole) (a : Assignment) where
   abbrev pub IsOf : List Sort → Shape → Value → Type 0
@@ -42,7 +49,7 @@ module _ (p : Whole) (a : Assignment) where
   ObjectIs sorts (ListOf s) (Listed vs) = AllOf sorts (items_of p a s) vs
   ObjectIs sorts (DictOf s) (Mapped pairs) = PairsOf sorts (keys_of p a s) (items_of p a s) pairs
   ObjectIs sorts (InstanceOf c) (Instance d attributes) = (d ≡ c) × (HasInstances c × AllHeld sorts c attributes)
-  ObjectIs sorts Unread object = Unit {0}
+  ObjectIs sorts Unread object = IsUnread object
   ObjectIs sorts sort object = ⊥
 
   -- each object is of its sort

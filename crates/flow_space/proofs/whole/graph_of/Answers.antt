@@ -1,4 +1,4 @@
-use Rattle.std.proofs.Common.{arith}
+use Rattle.std.proofs.Common.{◌∙◌, arith}
 use Rattle.flow_space.proofs.Graphs.{graph_stands}
 use Rattle.flow_space.proofs.Parts.{part_then, kept}
 use Rattle.flow_space.proofs.whole.graph_of.Goals as goal
@@ -19,4 +19,4 @@ returns-clause-stands c =
     c.in_ok-end.ensures.put c.in_ok-end.ensures.at
     c.in_ok-begin.ensures c.in_ok-aim.ensures c.as_slice.ensures c.new.ensures c.no_covers.ensures
     (omega (arith, c.len.ensures, c.if-locals-len.false))
-    c.aim.new.self.own
+    c.aim.new.self.own (c.in_ok-head.ensures.base ∙ c.new-code.ensures.next)
