@@ -1,0 +1,16 @@
+pub mod Arrays
+pub mod Beginning
+pub mod Building
+pub mod Entries
+pub mod Given
+pub mod Hashes
+pub mod Homes
+pub mod Index
+pub mod Keys
+pub mod Listing
+pub mod Making
+pub mod Mapping
+pub mod Programs
+pub mod Rounds
+pub mod Serving
+pub mod Typed
