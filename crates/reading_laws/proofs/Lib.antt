@@ -1,0 +1,16 @@
+pub mod Steps
+pub mod Values
+pub mod Comparisons
+pub mod Writers
+pub mod Texts
+pub mod Calls
+pub mod Operating
+pub mod Listed
+pub mod Lists
+pub mod Instances
+pub mod Classes
+pub mod Dicts
+pub mod Graphs
+pub mod Passing
+pub mod Results
+pub mod Standing

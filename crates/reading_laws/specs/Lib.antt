@@ -1,0 +1,5 @@
+pub mod Operations
+pub mod Results
+pub mod Standing
+pub mod Suits
+pub mod Tidy
