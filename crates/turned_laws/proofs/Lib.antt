@@ -1,0 +1,10 @@
+pub mod Constants
+pub mod Leaving
+pub mod Lists
+pub mod Operating
+pub mod Relation
+pub mod Setting
+pub mod Slots
+pub mod Stuttering
+pub mod Turning
+pub mod Within
