@@ -1,0 +1,4 @@
+pub mod Keys
+pub mod Heaps
+pub mod Running
+pub mod Beginning

@@ -1,0 +1,4 @@
+pub mod Cells
+pub mod Elements
+pub mod Standing
+pub mod Spotted

@@ -1,0 +1,4 @@
+pub mod Whole
+pub mod Never
+pub mod Told
+pub mod Texts
