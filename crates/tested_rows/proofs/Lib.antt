@@ -1,0 +1,3 @@
+mod Calls
+mod Telling
+pub mod Tests

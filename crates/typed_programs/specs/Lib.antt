@@ -1,0 +1,4 @@
+pub mod Made
+pub mod Operations
+pub mod Parts
+pub mod Seeing
