@@ -1,0 +1,11 @@
+pub mod Common
+pub mod Failing
+pub mod Fitting
+pub mod Making
+pub mod One
+pub mod Raising
+pub mod Reading
+pub mod Shapes
+pub mod Standing
+pub mod Storing
+pub mod Telling

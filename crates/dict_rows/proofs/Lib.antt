@@ -1,0 +1,9 @@
+pub mod Dicts
+pub mod Standing
+pub mod Writing
+pub mod Lengths
+pub mod Finding
+pub mod Looking
+pub mod Changing
+pub mod Storing
+pub mod Getting

@@ -1,0 +1,5 @@
+use Rattle.dict_rows.proofs.Lengths.{lengths_are_written}
+use Rattle.dict_rows.proofs.laws.lengths_are_written.Goals as goal
+
+pub returns : goal.returns
+returns c = lengths_are_written

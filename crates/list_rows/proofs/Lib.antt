@@ -1,0 +1,15 @@
+pub mod Shapes
+pub mod Fitting
+pub mod Operands
+pub mod Throwing
+pub mod Lowering
+pub mod Lists
+pub mod Receivers
+pub mod Writing
+pub mod Values
+pub mod Lengths
+pub mod Indexed
+pub mod Walks
+pub mod Methods
+pub mod Sums
+pub mod Slices
