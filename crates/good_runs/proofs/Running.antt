@@ -106,7 +106,7 @@ flag_told p a sorts world (shape.Fun fs n) x b k h = absurd (cc)
 flag_told p a sorts world (shape.Clash o d) x b k h = absurd (cc)
 
 test_told : (p : Whole) (a : Assignment) (q : meaning.Program) (sorts : List Sort) (f : ℕ) (e : Exit) (env : List Bound) (instead : Option Value) (frames : List Frame) (world : World) → Stands p a q sorts (At f [] e env instead frames world) → good.TestIsTold (truth_known p a f) e env world
-test_told p a q sorts f (exit.If v one two) env instead frames world h b known =
+test_told p a q sorts f (exit.If v one two) env instead frames world h = λ b known.
     let r = h.1.1 in
     let it = read_is p a q sorts f env v r.vars r.rest.0.0 in
     ap (truth_at world) it.there ∙ flag_told p a sorts world (value p a f v) it.bound b known it.is
